@@ -1,0 +1,2 @@
+// The control channel: reply classes, command lines, host-port lists (document 01, "Control lines").
+pub mod reply;

@@ -1,0 +1,6 @@
+pub mod Answers
+pub mod Fields
+mod Placed
+pub mod RoundTrips
+pub mod Tables
+pub mod ProvedSets

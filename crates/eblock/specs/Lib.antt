@@ -1,0 +1,5 @@
+pub mod Descriptor
+pub mod Header
+pub mod Table
+pub mod RoundTrip
+pub mod ProvedSet

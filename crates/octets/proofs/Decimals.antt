@@ -1,0 +1,266 @@
+-- The laws of decimal text: how many digits a number has, and that reading and writing undo each other.
+use Prim.Native.Nat.{ℕ, zero, suc, _+_, _*_, _/_, _%_, _^_, _≤_, _<_}
+use mathlib.Core.Path.{_≡_, refl, sym, ap, _∙_}
+use mathlib.Core.Bool.{Bool, true, false, _&&_, not, and-eq-true-iff, and-assoc, and-false, and-true, false≢true}
+use mathlib.Core.Logic.{_⊎_, inl, inr}
+use mathlib.Core.List.{List, [], _∷_, _++_, map, map-append}
+use native.Mathlib.Omega.{arith}
+use native.Mathlib.Numerals.{add-one}
+use native.Mathlib.Nat.{pow-suc, one-le-pow, le-refl, mod-eq-of-lt}
+use native.Mathlib.Decide.{decLt}
+use borrow.Author.Tests.{lt-ltb, le-ltb, le-leb, lt-leb, leb-true, ne-eqb, eqb-false, not-true}
+use lib.Dec.{leb, ltb, eqb}
+use lib.ListN.{length, getD, take, drop, length-map, take-append-drop}
+use lib.Seq.{take-suc, drop-cons}
+use Rattle.octets.specs.Digits.{Below, fromBig, toBig, toLittle}
+use Rattle.octets.specs.Decimal.{isDigit, digitsOnly, digitRun, numberOf, widthBy, width, inDigits, decimal, plain, readOf, digitValue, digitByte}
+use Rattle.octets.specs.declared.decimal.Number.the-variants.{Value, Nothing}
+use Rattle.octets.proofs.Digits.{fromBig-snoc, fromBig-grows, fromBig-lt, fromBig-first, toBig-suc, below-toBig, big-reads-back, big-writes-back}
+
+-- ---- how many digits
+
+widthBy-small : (k n : ℕ) → n < 10 → widthBy k n ≡ 1
+unfolding widthBy
+widthBy-small zero n h = refl
+widthBy-small (suc k) n h = rw (lt-ltb n 10 h)
+
+widthBy-step : (k n : ℕ) → 10 ≤ n → widthBy (suc k) n ≡ suc (widthBy k (n / 10))
+unfolding widthBy
+widthBy-step k n h = rw (le-ltb n 10 h)
+
+-- any bound that is deep enough gives the same
+widthBy-enough : (k j n : ℕ) → n ≤ k → n ≤ j → widthBy k n ≡ widthBy j n
+widthBy-enough zero j n hk hj = widthBy-small zero n (omega arith) ∙ sym (widthBy-small j n (omega arith))
+widthBy-enough (suc k) zero n hk hj = widthBy-small (suc k) n (omega arith) ∙ sym (widthBy-small zero n (omega arith))
+widthBy-enough (suc k) (suc j) n hk hj = go (decLt n 10) (widthBy-enough k j (n / 10))
+  where
+    go : Dec (n < 10) → (n / 10 ≤ k → n / 10 ≤ j → widthBy k (n / 10) ≡ widthBy j (n / 10)) → widthBy (suc k) n ≡ widthBy (suc j) n
+    go (yes h) ih = widthBy-small (suc k) n h ∙ sym (widthBy-small (suc j) n h)
+    go (no h) ih = widthBy-step k n (omega arith) ∙ ap suc (ih (omega arith) (omega arith)) ∙ sym (widthBy-step j n (omega arith))
+
+pub width-small : (n : ℕ) → n < 10 → width n ≡ 1
+unfolding width
+width-small n h = widthBy-small n n h
+
+pub width-step : (n : ℕ) → 10 ≤ n → width n ≡ suc (width (n / 10))
+unfolding width
+width-step zero h = absurd (omega arith)
+width-step (suc n) h = widthBy-step n (suc n) h ∙ ap suc (widthBy-enough n (suc n / 10) (suc n / 10) (omega arith) (omega arith))
+
+-- the number of digits is the one with 10 ^ (w - 1) ≤ n < 10 ^ w, one digit standing for every n below 10
+pub width-is : (w n : ℕ) → n < 10 ^ suc w → (w ≡ 0) ⊎ (10 ^ w ≤ n) → width n ≡ suc w
+width-is zero n h g = width-small n h
+width-is (suc w) n h (inl e) = absurd (omega arith)
+width-is (suc w) n h (inr g) =
+    let p : 10 ^ suc (suc w) ≡ 10 ^ suc w * 10 = pow-suc 10 (suc w) in
+    let q : 10 ^ suc w ≡ 10 ^ w * 10 = pow-suc 10 w in
+    let one : 1 ≤ 10 ^ w = one-le-pow w 10 (omega arith) in
+    width-step n (omega arith) ∙ ap suc (width-is w (n / 10) (omega arith) (inr (omega arith)))
+
+pub width-fits : (n : ℕ) → n < 10 ^ width n
+width-fits n = by-depth n n (le-refl n)
+  where
+    by-depth : (k n : ℕ) → n ≤ k → n < 10 ^ width n
+    by-depth zero n h = rw (width-small n (omega arith)) (omega arith)
+    by-depth (suc k) n h = go (decLt n 10) (by-depth k (n / 10))
+      where
+        go : Dec (n < 10) → (n / 10 ≤ k → n / 10 < 10 ^ width (n / 10)) → n < 10 ^ width n
+        go (yes l) ih = rw (width-small n l) l
+        go (no l) ih = rw (width-step n (omega arith), pow-suc 10 (width (n / 10))) (omega (arith, ih (omega arith)))
+
+-- ---- one digit more
+
+pub inDigits-suc : (w n : ℕ) → inDigits (suc w) n ≡ inDigits w (n / 10) ++ (digitByte (n % 10) ∷ [])
+unfolding inDigits
+inDigits-suc w n = rw (toBig-suc 10 w n) (map-append digitByte (toBig 10 w (n / 10)) (n % 10 ∷ []))
+
+pub decimal-small : (n : ℕ) → n < 10 → decimal n ≡ digitByte n ∷ []
+unfolding decimal inDigits toBig toLittle
+decimal-small n h = rw (width-small n h, mod-eq-of-lt h)
+
+pub decimal-step : (n : ℕ) → 10 ≤ n → decimal n ≡ decimal (n / 10) ++ (digitByte (n % 10) ∷ [])
+unfolding decimal
+decimal-step n h = rw (width-step n h) (inDigits-suc (width (n / 10)) n)
+
+pub numberOf-more : (text : List ℕ) (i : ℕ) → i < length text → numberOf (take (i + 1) text) ≡ numberOf (take i text) * 10 + digitValue (getD text i 0)
+unfolding numberOf
+numberOf-more text i h =
+    rw (add-one i, take-suc text i 0, map-append digitValue (take i text) (getD text i 0 ∷ []))
+    (fromBig-snoc 10 (digitValue (getD text i 0)) (map digitValue (take i text)))
+
+-- ---- a text of digits
+
+pub digitsOnly-append : (xs ys : List ℕ) → digitsOnly (xs ++ ys) ≡ (digitsOnly xs && digitsOnly ys)
+unfolding digitsOnly
+digitsOnly-append [] ys = refl
+digitsOnly-append (x ∷ xs) ys = rw (digitsOnly-append xs ys) (sym (and-assoc (isDigit x) (digitsOnly xs) (digitsOnly ys)))
+
+pub digit-is : (b : ℕ) → 48 ≤ b → b ≤ 57 → isDigit b ≡ true
+digit-is b h g = rw (le-leb 48 b h, le-leb b 57 g)
+
+pub digit-bounds : (b : ℕ) → isDigit b ≡ true → (48 ≤ b) × (b ≤ 57)
+digit-bounds b h =
+    let p = and-eq-true-iff (leb 48 b) (leb b 57) .0 h in
+    (leb-true 48 b (p .0), leb-true b 57 (p .1))
+
+-- a byte that is none spoils the text
+pub digitsOnly-not : (text : List ℕ) (i : ℕ) → i < length text → isDigit (getD text i 0) ≡ false → digitsOnly text ≡ false
+unfolding digitsOnly
+digitsOnly-not [] i h e = absurd (omega arith)
+digitsOnly-not (b ∷ bs) zero h e = rw e
+digitsOnly-not (b ∷ bs) (suc i) h e = rw (digitsOnly-not bs i (omega arith) e) (and-false (isDigit b))
+
+digit-byte : (d : ℕ) → d < 10 → isDigit (digitByte d) ≡ true
+digit-byte d h = digit-is (digitByte d) (omega arith) (omega arith)
+
+digits-bytes : (ds : List ℕ) → Below 10 ds → digitsOnly (map digitByte ds) ≡ true
+unfolding digitsOnly
+digits-bytes [] h = refl
+digits-bytes (d ∷ ds) h = rw (digit-byte d (h .0), digits-bytes ds (h .1))
+
+pub digitsOnly-inDigits : (w n : ℕ) → digitsOnly (inDigits w n) ≡ true
+unfolding inDigits
+digitsOnly-inDigits w n = digits-bytes (toBig 10 w n) (below-toBig 10 w n (omega arith))
+
+values-below : (text : List ℕ) → digitsOnly text ≡ true → Below 10 (map digitValue text)
+unfolding digitsOnly
+values-below [] h = tt
+values-below (b ∷ bs) h =
+    let p = and-eq-true-iff (isDigit b) (digitsOnly bs) .0 h in
+    (omega (arith, digit-bounds b (p .0)), values-below bs (p .1))
+
+-- ---- reading a text from its front
+
+pub digitRun-stops : (text : List ℕ) (i : ℕ) → i < length text → isDigit (getD text i 0) ≡ false → digitRun (drop i text) ≡ 0
+unfolding digitRun
+digitRun-stops text i h e = rw (drop-cons text i 0, e)
+
+pub digitRun-goes : (text : List ℕ) (i : ℕ) → i < length text → isDigit (getD text i 0) ≡ true → digitRun (drop i text) ≡ suc (digitRun (drop (i + 1) text))
+unfolding digitRun
+digitRun-goes text i h e = rw (drop-cons text i 0, e, add-one i)
+
+pub digitsOnly-more : (text : List ℕ) (i : ℕ) → i < length text → isDigit (getD text i 0) ≡ true → digitsOnly (take i text) ≡ true → digitsOnly (take (i + 1) text) ≡ true
+unfolding digitsOnly
+digitsOnly-more text i h e d = rw (add-one i, take-suc text i 0, digitsOnly-append (take i text) (getD text i 0 ∷ []), e, d)
+
+-- a first part that says more than the limit settles it
+pub numberOf-above : (text : List ℕ) (i limit : ℕ) → limit < numberOf (take i text) → leb (numberOf text) limit ≡ false
+unfolding numberOf
+numberOf-above text i limit h =
+    let g = fromBig-grows 10 (map digitValue (take i text)) (map digitValue (drop i text)) (omega arith) in
+    let w : fromBig 10 (map digitValue (take i text)) ≤ fromBig 10 (map digitValue text) =
+    rw (← map-append digitValue (take i text) (drop i text), take-append-drop i text) at g in
+    lt-leb (fromBig 10 (map digitValue text)) limit (omega arith)
+
+pub readOf-spoilt : (text : List ℕ) (limit : ℕ) → digitsOnly text ≡ false → readOf text limit ≡ Nothing
+unfolding readOf
+readOf-spoilt text limit e = rw (e, and-false (ltb 0 (length text)))
+
+pub readOf-above : (text : List ℕ) (limit : ℕ) → leb (numberOf text) limit ≡ false → readOf text limit ≡ Nothing
+unfolding readOf
+readOf-above text limit e = rw (e, and-false (digitsOnly text), and-false (ltb 0 (length text)))
+
+pub readOf-value : (text : List ℕ) (limit : ℕ) → 0 < length text → digitsOnly text ≡ true → numberOf text ≤ limit → readOf text limit ≡ Value (numberOf text)
+unfolding readOf
+readOf-value text limit h d l = rw (lt-ltb 0 (length text) h, d, le-leb (numberOf text) limit l)
+
+-- ---- there and back
+
+values-of-bytes : (ds : List ℕ) → map digitValue (map digitByte ds) ≡ ds
+values-of-bytes [] = refl
+values-of-bytes (d ∷ ds) =
+    let e : digitValue (digitByte d) ≡ d = omega arith in
+    rw (e, values-of-bytes ds)
+
+bytes-of-values : (text : List ℕ) → digitsOnly text ≡ true → map digitByte (map digitValue text) ≡ text
+unfolding digitsOnly
+bytes-of-values [] h = refl
+bytes-of-values (b ∷ bs) h =
+    let p = and-eq-true-iff (isDigit b) (digitsOnly bs) .0 h in
+    let e : digitByte (digitValue b) ≡ b = omega (arith, digit-bounds b (p .0)) in
+    rw (e, bytes-of-values bs (p .1))
+
+-- written in enough digits, leading zeros or not, it reads back
+pub inDigits-reads-back : (w n : ℕ) → n < 10 ^ w → numberOf (inDigits w n) ≡ n
+unfolding numberOf inDigits
+inDigits-reads-back w n h = rw (values-of-bytes (toBig 10 w n)) (big-reads-back 10 w n (omega arith) h)
+
+pub decimal-reads-back : (n : ℕ) → numberOf (decimal n) ≡ n
+unfolding decimal
+decimal-reads-back n = inDigits-reads-back (width n) n (width-fits n)
+
+-- a text of digits is a number in as many digits as it has
+pub inDigits-writes-back : (text : List ℕ) → digitsOnly text ≡ true → inDigits (length text) (numberOf text) ≡ text
+unfolding numberOf inDigits
+inDigits-writes-back text h =
+    rw (← length-map text digitValue) (ap (map digitByte) (big-writes-back 10 (map digitValue text) (values-below text h)) ∙ bytes-of-values text h)
+
+pub numberOf-lt : (text : List ℕ) → digitsOnly text ≡ true → numberOf text < 10 ^ length text
+unfolding numberOf
+numberOf-lt text h = rw (length-map text digitValue) at (fromBig-lt 10 (map digitValue text) (values-below text h))
+
+-- the digits of a text without leading zeros are those of its number
+plain-digits : (text : List ℕ) → plain text ≡ true → digitsOnly text ≡ true
+unfolding plain digitsOnly
+plain-digits [] h = refl
+plain-digits (b ∷ []) h = rw h
+plain-digits (b ∷ c ∷ rest) h = and-eq-true-iff (not (eqb b 48)) (digitsOnly (b ∷ c ∷ rest)) .0 h .1
+
+first-above : (b : ℕ) (bs : List ℕ) → not (eqb b 48) && digitsOnly (b ∷ bs) ≡ true → 0 < digitValue b
+unfolding digitsOnly
+first-above b bs h =
+    let p = and-eq-true-iff (not (eqb b 48)) (digitsOnly (b ∷ bs)) .0 h in
+    let q = and-eq-true-iff (isDigit b) (digitsOnly bs) .0 (p .1) in
+    let ne : ¬ (b ≡ 48) = eqb-false b 48 (not-true (eqb b 48) (p .0)) in
+    omega (arith, digit-bounds b (q .0))
+
+plain-width : (text : List ℕ) → plain text ≡ true → width (numberOf text) ≡ length text
+unfolding plain numberOf
+plain-width [] h = absurd (false≢true h)
+plain-width (b ∷ []) h = width-is 0 (numberOf (b ∷ [])) (numberOf-lt (b ∷ []) (plain-digits (b ∷ []) h)) (inl refl)
+plain-width (b ∷ c ∷ rest) h =
+    let text = b ∷ c ∷ rest in
+    let first = fromBig-first 10 (digitValue b) (map digitValue (c ∷ rest)) (first-above b (c ∷ rest) h) in
+    width-is (length (c ∷ rest)) (numberOf text) (numberOf-lt text (plain-digits text h)) (inr (rw (length-map rest digitValue) at first))
+
+pub decimal-writes-back : (text : List ℕ) → plain text ≡ true → decimal (numberOf text) ≡ text
+unfolding decimal
+decimal-writes-back text h = rw (plain-width text h) (inDigits-writes-back text (plain-digits text h))
+
+-- ---- no leading zero
+
+-- a text of digits whose first is not 0
+leads : List ℕ → Bool
+leads [] = false
+leads (b ∷ bs) = not (eqb b 48) && digitsOnly (b ∷ bs)
+
+leads-more : (text : List ℕ) (d : ℕ) → d < 10 → leads text ≡ true → leads (text ++ (digitByte d ∷ [])) ≡ true
+unfolding leads digitsOnly
+leads-more [] d h e = absurd (false≢true e)
+leads-more (b ∷ bs) d h e =
+    let p = and-eq-true-iff (not (eqb b 48)) (digitsOnly (b ∷ bs)) .0 e in
+    rw (p .0, digitsOnly-append bs (digitByte d ∷ []), digit-byte d h, and-true (digitsOnly bs)) (p .1)
+
+leads-plain : (text : List ℕ) → leads text ≡ true → plain text ≡ true
+unfolding leads plain digitsOnly
+leads-plain [] h = h
+leads-plain (b ∷ []) h = and-eq-true-iff (isDigit b) true .0 (and-eq-true-iff (not (eqb b 48)) (isDigit b && true) .0 h .1) .0
+leads-plain (b ∷ c ∷ rest) h = h
+
+leads-small : (n : ℕ) → n < 10 → 0 < n → leads (decimal n) ≡ true
+unfolding leads digitsOnly
+leads-small n h g = rw (decimal-small n h, ne-eqb (digitByte n) 48 (omega arith), digit-byte n h)
+
+decimal-leads : (k n : ℕ) → n ≤ k → 0 < n → leads (decimal n) ≡ true
+decimal-leads zero n h g = absurd (omega arith)
+decimal-leads (suc k) n h g = go (decLt n 10) (decimal-leads k (n / 10))
+  where
+    go : Dec (n < 10) → (n / 10 ≤ k → 0 < n / 10 → leads (decimal (n / 10)) ≡ true) → leads (decimal n) ≡ true
+    go (yes l) ih = leads-small n l g
+    go (no l) ih =
+        rw (decimal-step n (omega arith)) (leads-more (decimal (n / 10)) (n % 10) (omega arith) (ih (omega arith) (omega arith)))
+
+pub decimal-is-plain : (n : ℕ) → plain (decimal n) ≡ true
+unfolding plain
+decimal-is-plain zero = rw (decimal-small 0 (omega arith))
+decimal-is-plain (suc n) = leads-plain (decimal (suc n)) (decimal-leads (suc n) (suc n) (le-refl (suc n)) (omega arith))

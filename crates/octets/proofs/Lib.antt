@@ -1,0 +1,4 @@
+pub mod Digits
+pub mod Decimals
+mod Turn
+pub mod RoundTrips
