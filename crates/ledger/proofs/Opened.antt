@@ -1,0 +1,107 @@
+-- A pair of entries at a place of the lent list: what the rule, the used pairs and the zeros say there.
+use Prim.Native.Nat.{ℕ, suc, _+_, _*_, _-_, _≤_, _<_}
+use mathlib.Core.Path.{_≡_, refl, sym}
+use mathlib.Core.Bool.{Bool, true, false, cond, _&&_, _||_, and-true, and-false}
+use mathlib.Core.List.{List, [], _∷_}
+use native.Mathlib.Omega.{arith}
+use native.Mathlib.Numerals.{add-one, add-two}
+use borrow.Author.Tests.{lt-ltb, le-ltb, le-leb, lt-leb, eq-eqb, ne-eqb}
+use lib.Dec.{leb, ltb, eqb}
+use lib.ListN.{length, getD, drop, length-drop}
+use lib.Seq.{drop-cons, drop-drop, getD-drop}
+use Rattle.ledger.specs.Pairs.{none, pair, endsBy}
+use Rattle.ledger.specs.Ledger.{zeros, rule, pairsOf, follows}
+use Rattle.ledger.specs.Claim.{sharesIn}
+
+pub two-of : (l : List ℕ) (i : ℕ) → i + 1 < length l → drop i l ≡ getD l i 0 ∷ getD l (i + 1) 0 ∷ drop (i + 2) l
+two-of l i h =
+    let h₁ : i < length l = omega arith in
+    let h₂ : suc i < length l = omega arith in
+    rw (drop-cons l i 0 h₁, drop-cons l (suc i) 0 h₂, add-one i, add-two i)
+
+pub pairs-unused : (l : List ℕ) (i : ℕ) → i + 1 < length l → getD l (i + 1) 0 ≡ 0 → pairsOf (drop i l) ≡ none
+unfolding pairsOf
+pairs-unused l i h e = rw (two-of l i h, eq-eqb (getD l (i + 1) 0) 0 e)
+
+pub pairs-used : (l : List ℕ) (i : ℕ) → i + 1 < length l → (getD l (i + 1) 0 ≡ 0 → ⊥)
+    → pairsOf (drop i l) ≡ pair (getD l i 0) (getD l (i + 1) 0) (pairsOf (drop (i + 2) l))
+unfolding pairsOf
+pairs-used l i h n = rw (two-of l i h, ne-eqb (getD l (i + 1) 0) 0 n)
+
+-- fewer than two entries are no pair
+pub pairs-over : (l : List ℕ) (i : ℕ) → length l ≤ i + 1 → pairsOf (drop i l) ≡ none
+unfolding pairsOf
+pairs-over l i h = go (drop i l) (omega (arith, length-drop i l))
+  where
+    go : (r : List ℕ) → length r ≤ 1 → pairsOf r ≡ none
+    go [] k = refl
+    go (a ∷ []) k = refl
+    go (a ∷ b ∷ r) k = absurd (omega arith)
+
+-- ---- the rule and the ends, tested together
+
+-- the least place at which a pair may start behind one that ends at `end`, 0 where there is none before it
+abbrev pub lowest : ℕ → ℕ
+lowest end = cond (eqb end 0) 0 (suc end)
+
+pub lowest-follows : (end a : ℕ) → leb (lowest end) a ≡ follows end a
+lowest-follows end a = go (eqb end 0) refl
+  where
+    go : (t : Bool) → eqb end 0 ≡ t → leb (lowest end) a ≡ follows end a
+    go true e = rw e (le-leb 0 a (omega arith))
+    go false e = rw e
+
+unfoldable pub sound : ℕ → ℕ → List ℕ → Bool
+sound lo f l = rule lo l && endsBy f (pairsOf l)
+
+module _ (lo f : ℕ) (l : List ℕ) (i : ℕ) (h : i + 1 < length l) where
+  pub sound-unused : getD l (i + 1) 0 ≡ 0 → sound lo f (drop i l) ≡ zeros (drop i l)
+  unfolding sound rule zeros endsBy
+  sound-unused e =
+      rw (pairs-unused l i h e, two-of l i h, eq-eqb (getD l (i + 1) 0) 0 e) (and-true (eqb (getD l i 0) 0 && zeros (drop (i + 2) l)))
+
+  module _ (n : getD l (i + 1) 0 ≡ 0 → ⊥) where
+    pub sound-low : leb lo (getD l i 0) ≡ false → sound lo f (drop i l) ≡ false
+    unfolding sound rule
+    sound-low e = rw (pairs-used l i h n, two-of l i h, ne-eqb (getD l (i + 1) 0) 0 n, e)
+
+    pub sound-empty : getD l (i + 1) 0 ≤ getD l i 0 → sound lo f (drop i l) ≡ false
+    unfolding sound rule
+    sound-empty e =
+        rw (pairs-used l i h n, two-of l i h, ne-eqb (getD l (i + 1) 0) 0 n, le-ltb (getD l i 0) (getD l (i + 1) 0) e, and-false (leb lo (getD l i 0)))
+
+    pub sound-above : f < getD l (i + 1) 0 → sound lo f (drop i l) ≡ false
+    unfolding sound endsBy
+    sound-above e = rw (pairs-used l i h n, lt-leb (getD l (i + 1) 0) f e) (and-false (rule lo (drop i l)))
+
+    pub sound-on : leb lo (getD l i 0) ≡ true → getD l i 0 < getD l (i + 1) 0 → getD l (i + 1) 0 ≤ f
+        → sound lo f (drop i l) ≡ sound (suc (getD l (i + 1) 0)) f (drop (i + 2) l)
+    unfolding sound rule endsBy
+    sound-on e k g =
+        rw (
+          pairs-used l i h n,
+          two-of l i h,
+          ne-eqb (getD l (i + 1) 0) 0 n,
+          e,
+          lt-ltb (getD l i 0) (getD l (i + 1) 0) k,
+          le-leb (getD l (i + 1) 0) f g,
+        )
+
+pub sound-over : (lo f : ℕ) (l : List ℕ) (i : ℕ) → i ≤ length l → length l ≤ i + 1 → sound lo f (drop i l) ≡ eqb i (length l)
+unfolding sound rule endsBy
+sound-over lo f l i h g = rw (pairs-over l i g) (go (drop i l) (length-drop i l))
+  where
+    go : (r : List ℕ) → length r ≡ length l - i → rule lo r && true ≡ eqb i (length l)
+    go [] k = sym (eq-eqb i (length l) (omega arith))
+    go (a ∷ []) k = sym (ne-eqb i (length l) (omega arith))
+    go (a ∷ b ∷ r) k = absurd (omega arith)
+
+-- ---- sharing
+
+pub shares-step : (s e n k : ℕ) (l : List ℕ)
+    → sharesIn s e (suc n) (drop (2 * k) l) ≡ ((ltb s (getD l (2 * k + 1) 0) && ltb (getD l (2 * k) 0) e) || sharesIn s e n (drop (2 * (k + 1)) l))
+unfolding sharesIn
+shares-step s e n k l =
+    let z : 2 * k + 0 ≡ 2 * k = omega arith in
+    let t : 2 * k + 2 ≡ 2 * (k + 1) = omega arith in
+    rw (getD-drop (2 * k) l 1 0, getD-drop (2 * k) l 0 0, z, drop-drop 2 (2 * k) l, t)

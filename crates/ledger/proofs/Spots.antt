@@ -1,0 +1,240 @@
+-- A range joined to pairs, by the spot where it goes: the pairs below it stay, those from `at` up to `past` become one with it, and the rest follows.
+use Prim.Native.Nat.{ℕ, zero, suc, _+_, _*_, _-_, _≤_, _<_, min, max}
+use mathlib.Core.Path.{_≡_, refl, sym, ap, _∙_}
+use mathlib.Core.Bool.{true, false, cond, _&&_, _||_, and-false, and-eq-true-iff}
+use mathlib.Core.List.{_∷_}
+use native.Mathlib.Omega.{arith}
+use native.Mathlib.Decide.{decLt, decLe}
+use borrow.Author.Tests.{lt-ltb, le-ltb, le-leb, lt-leb, leb-true}
+use lib.Dec.{leb, ltb}
+use lib.ListN.{drop}
+use Rattle.ledger.specs.Pairs.{Pairs, none, pair, size, Ruled, join, shares, endsBy}
+use Rattle.ledger.specs.Ledger.{lent}
+use Rattle.ledger.specs.Claim.{below, upTo, sharesIn}
+use Rattle.ledger.proofs.Joined.{Stands, before, behind, touching, stands, join-before, join-behind, join-touching}
+
+-- ---- parts of pairs
+
+-- all but the first k pairs
+unfoldable pub rest : ℕ → Pairs → Pairs
+rest zero ps = ps
+rest (suc k) none = none
+rest (suc k) (pair a b ps) = rest k ps
+
+-- the first k pairs of ps, and qs behind them
+unfoldable pub splice : ℕ → Pairs → Pairs → Pairs
+splice zero ps qs = qs
+splice (suc k) none qs = qs
+splice (suc k) (pair a b ps) qs = pair a b (splice k ps qs)
+
+-- start and end of the pair with the number k, 0 where there is none
+unfoldable pub startAt : ℕ → Pairs → ℕ
+startAt k none = 0
+startAt zero (pair a b ps) = a
+startAt (suc k) (pair a b ps) = startAt k ps
+
+unfoldable pub endAt : ℕ → Pairs → ℕ
+endAt k none = 0
+endAt zero (pair a b ps) = b
+endAt (suc k) (pair a b ps) = endAt k ps
+
+endAt-above : (lo k : ℕ) (ps : Pairs) → Ruled (suc lo) ps → k < size ps → lo < endAt k ps
+unfolding endAt size
+endAt-above lo k none c h = absurd (omega arith)
+endAt-above lo zero (pair a b ps) c h = omega (arith, c .0, c .1)
+endAt-above lo (suc k) (pair a b ps) c h = omega (arith, c .0, c .1, endAt-above b k ps (c .2) (omega arith))
+
+-- ---- the two counts
+
+pub upTo-on : (e a b : ℕ) (ps : Pairs) → a ≤ e → upTo e (pair a b ps) ≡ suc (upTo e ps)
+unfolding upTo
+upTo-on e a b ps h = rw (le-leb a e h)
+
+pub upTo-stops : (e a b : ℕ) (ps : Pairs) → e < a → upTo e (pair a b ps) ≡ 0
+unfolding upTo
+upTo-stops e a b ps h = rw (lt-leb a e h)
+
+pub below-on : (s a b : ℕ) (ps : Pairs) → b < s → below s (pair a b ps) ≡ suc (below s ps)
+unfolding below
+below-on s a b ps h = rw (lt-ltb b s h)
+
+pub below-stops : (s a b : ℕ) (ps : Pairs) → s ≤ b → below s (pair a b ps) ≡ 0
+unfolding below
+below-stops s a b ps h = rw (le-ltb b s h)
+
+pub upTo-le : (e : ℕ) (ps : Pairs) → upTo e ps ≤ size ps
+unfolding size
+upTo-le e none = unfold upTo in omega arith
+upTo-le e (pair a b ps) = go (decLe a e) (upTo-le e ps)
+  where
+    go : Dec (a ≤ e) → upTo e ps ≤ size ps → upTo e (pair a b ps) ≤ suc (size ps)
+    go (yes h) i = omega (arith, upTo-on e a b ps h)
+    go (no h) i = omega (arith, upTo-stops e a b ps (omega arith))
+
+pub below-le : (s e lo : ℕ) (ps : Pairs) → s < e → Ruled lo ps → below s ps ≤ upTo e ps
+below-le s e lo none h c = unfold below in omega arith
+below-le s e lo (pair a b ps) h c = go (decLt b s) (below-le s e (suc b) ps h (c .2))
+  where
+    go : Dec (b < s) → below s ps ≤ upTo e ps → below s (pair a b ps) ≤ upTo e (pair a b ps)
+    go (yes k) i = omega (arith, below-on s a b ps k, upTo-on e a b ps (omega (arith, c .1)))
+    go (no k) i = omega (arith, below-stops s a b ps (omega arith))
+
+-- an end that lies before the pairs changes nothing
+upTo-max : (e b : ℕ) (ps : Pairs) → Ruled (suc b) ps → upTo (max e b) ps ≡ upTo e ps
+upTo-max e b none c = unfold upTo in refl
+upTo-max e b (pair x y ps) c = go (decLe x e) (upTo-max (max e b) y ps (c .2)) (upTo-max e y ps (c .2))
+  where
+    go : Dec (x ≤ e) → upTo (max (max e b) y) ps ≡ upTo (max e b) ps → upTo (max e y) ps ≡ upTo e ps → upTo (max e b) (pair x y ps) ≡ upTo e (pair x y ps)
+    go (yes h) i j =
+        let q : max (max e b) y ≡ max e y = omega (arith, c .0, c .1) in
+        upTo-on (max e b) x y ps (omega arith) ∙ ap suc (sym i ∙ rw q j) ∙ sym (upTo-on e x y ps h)
+    go (no h) i j = upTo-stops (max e b) x y ps (omega (arith, c .0)) ∙ sym (upTo-stops e x y ps (omega arith))
+
+-- ---- the joined pair
+
+-- where it ends: at e, or at the end of the last of n pairs, whichever is later
+abbrev pub reached : ℕ → ℕ → Pairs → ℕ
+reached e zero ps = e
+reached e (suc k) ps = max (endAt k ps) e
+
+pub reached-some : (e k : ℕ) (ps : Pairs) → 0 < k → reached e k ps ≡ max (endAt (k - 1) ps) e
+reached-some e zero ps h = absurd (omega arith)
+reached-some e (suc k) ps h = let q : suc k - 1 ≡ k = omega arith in rw q
+
+reached-step : (e a b k : ℕ) (ps : Pairs) → Ruled (suc b) ps → k ≤ size ps → reached (max e b) k ps ≡ reached e (suc k) (pair a b ps)
+unfolding endAt
+reached-step e a b zero ps c h = omega arith
+reached-step e a b (suc k) ps c h = omega (arith, endAt-above b k ps c (omega arith))
+
+-- a range that reaches the place before the pairs takes in those that start by its end
+absorb : (s e b : ℕ) (ps : Pairs) → s ≤ b → b ≤ e → s < e → Ruled (suc b) ps → join s e ps ≡ pair s (reached e (upTo e ps) ps) (rest (upTo e ps) ps)
+unfolding rest
+absorb s e b none h g k c = unfold join upTo in refl
+absorb s e b (pair x y ps) h g k c = go (decLe x e)
+    (λ (q : s ≤ y) (r : y ≤ max e y) (t : s < max e y). absorb s (max e y) y ps q r t (c .2))
+  where
+    go : Dec (x ≤ e) → (s ≤ y → y ≤ max e y → s < max e y → join s (max e y) ps ≡ pair s (reached (max e y) (upTo (max e y) ps) ps) (rest (upTo (max e y) ps) ps))
+        → join s e (pair x y ps) ≡ pair s (reached e (upTo e (pair x y ps)) (pair x y ps)) (rest (upTo e (pair x y ps)) (pair x y ps))
+    go (no q) i = rw (upTo-stops e x y ps (omega arith)) (join-before s e x y ps (lt-ltb e x (omega arith)))
+    go (yes q) i =
+        let m : min s x ≡ s = omega (arith, c .0) in
+        let j : join s e (pair x y ps) ≡ join s (max e y) ps =
+        join-touching s e x y ps (le-ltb e x q) (le-ltb y s (omega (arith, c .0, c .1))) ∙ rw m in
+        rw (upTo-on e x y ps q, j, i (omega (arith, c .0, c .1)) (omega arith) (omega arith), upTo-max e y ps (c .2))
+        (ap (λ z. pair s z (rest (upTo e ps) ps)) (reached-step e x y (upTo e ps) ps (c .2) (upTo-le e ps)))
+
+-- where it starts: at s, or at the start of the first pair that it takes in, whichever is earlier
+abbrev pub begun : ℕ → ℕ → ℕ → Pairs → ℕ
+begun s at past ps = cond (ltb at past) (min (startAt at ps) s) s
+
+abbrev pub ended : ℕ → ℕ → ℕ → Pairs → ℕ
+ended e at past ps = cond (ltb at past) (reached e past ps) e
+
+reached-on : (e a b k m : ℕ) (ps : Pairs) → k < m → reached e (suc m) (pair a b ps) ≡ reached e m ps
+unfolding endAt
+reached-on e a b k zero ps h = absurd (omega arith)
+reached-on e a b k (suc m) ps h = refl
+
+pub join-is : (s e lo : ℕ) (ps : Pairs) → s < e → Ruled lo ps → let at = below s ps in let past = upTo e ps in
+    join s e ps ≡ splice at ps (pair (begun s at past ps) (ended e at past ps) (rest past ps))
+unfolding splice rest startAt
+join-is s e lo none h c = unfold join below upTo in refl
+join-is s e lo (pair a b ps) h c = go (stands s e a b) (join-is s e (suc b) ps h (c .2))
+  where
+    whole : ℕ → ℕ → Pairs
+    whole at past = splice at (pair a b ps) (pair (begun s at past (pair a b ps)) (ended e at past (pair a b ps)) (rest past (pair a b ps)))
+
+    go : Stands s e a b
+        → join s e ps ≡ splice (below s ps) ps (pair (begun s (below s ps) (upTo e ps) ps) (ended e (below s ps) (upTo e ps) ps) (rest (upTo e ps) ps))
+        → join s e (pair a b ps) ≡ whole (below s (pair a b ps)) (upTo e (pair a b ps))
+    go (before x y) i = rw (below-stops s a b ps (omega (arith, c .1)), upTo-stops e a b ps x) (join-before s e a b ps y)
+    go (behind x z y w) i = rw (below-on s a b ps z, upTo-on e a b ps x, join-behind s e a b ps y w, i) (at-on (decLt (below s ps) (upTo e ps)))
+      where
+        at-on : Dec (below s ps < upTo e ps)
+            → pair a b (splice (below s ps) ps (pair (begun s (below s ps) (upTo e ps) ps) (ended e (below s ps) (upTo e ps) ps) (rest (upTo e ps) ps)))
+            ≡ whole (suc (below s ps)) (suc (upTo e ps))
+        at-on (yes q) =
+            rw (lt-ltb (below s ps) (upTo e ps) q, lt-ltb (suc (below s ps)) (suc (upTo e ps)) (omega arith), reached-on e a b (below s ps) (upTo e ps) ps q)
+        at-on (no q) = rw (le-ltb (below s ps) (upTo e ps) (omega arith), le-ltb (suc (below s ps)) (suc (upTo e ps)) (omega arith))
+    go (touching x z y w) i =
+        let m : min s a ≡ min a s = omega arith in
+        rw (
+          below-stops s a b ps z,
+          upTo-on e a b ps x,
+          join-touching s e a b ps y w,
+          absorb (min s a) (max e b) b ps (omega arith) (omega arith) (omega (arith, c .1)) (c .2),
+          upTo-max e b ps (c .2),
+          lt-ltb 0 (suc (upTo e ps)) (omega arith),
+          reached-step e a b (upTo e ps) ps (c .2) (upTo-le e ps),
+          m,
+        )
+
+-- counting the pairs up to an end may begin at any pair that is among them
+pub upTo-rest : (e k : ℕ) (ps : Pairs) → k ≤ upTo e ps → k + upTo e (rest k ps) ≡ upTo e ps
+unfolding rest
+upTo-rest e zero ps h = omega arith
+upTo-rest e (suc k) none h = absurd (unfold upTo in omega arith)
+upTo-rest e (suc k) (pair a b ps) h = go (decLe a e) (upTo-rest e k ps)
+  where
+    go : Dec (a ≤ e) → (k ≤ upTo e ps → k + upTo e (rest k ps) ≡ upTo e ps) → suc k + upTo e (rest k ps) ≡ upTo e (pair a b ps)
+    go (yes q) i = omega (arith, upTo-on e a b ps q, i (omega (arith, upTo-on e a b ps q)))
+    go (no q) i = absurd (omega (arith, upTo-stops e a b ps (omega arith)))
+
+-- ---- what a spot decides
+
+pub endAt-used : (k lo : ℕ) (ps : Pairs) → Ruled lo ps → k < size ps → 0 < endAt k ps
+unfolding endAt size
+endAt-used k lo none c h = absurd (omega arith)
+endAt-used zero lo (pair a b ps) c h = omega (arith, c .1)
+endAt-used (suc k) lo (pair a b ps) c h = endAt-used k (suc b) ps (c .2) (omega arith)
+
+pub endAt-unused : (k : ℕ) (ps : Pairs) → size ps ≤ k → endAt k ps ≡ 0
+unfolding endAt size
+endAt-unused k none h = refl
+endAt-unused zero (pair a b ps) h = absurd (omega arith)
+endAt-unused (suc k) (pair a b ps) h = endAt-unused k ps (omega arith)
+
+-- the pairs that start above the end share nothing
+shares-beyond : (s e lo : ℕ) (ps : Pairs) → Ruled lo ps → e ≤ lo → shares s e ps ≡ false
+unfolding shares
+shares-beyond s e lo none c h = refl
+shares-beyond s e lo (pair a b ps) c h =
+    rw (le-ltb a e (omega (arith, c .0)), and-false (ltb s b), shares-beyond s e (suc b) ps (c .2) (omega (arith, c .0, c .1)))
+
+-- every pair starts by an end that none is above
+pub upTo-all : (f lo : ℕ) (ps : Pairs) → Ruled lo ps → endsBy f ps ≡ true → upTo f ps ≡ size ps
+unfolding size endsBy
+upTo-all f lo none c h = unfold upTo in refl
+upTo-all f lo (pair a b ps) c h =
+    let q = and-eq-true-iff (leb b f) (endsBy f ps) .0 h in
+    upTo-on f a b ps (omega (arith, leb-true b f (q .0), c .1)) ∙ ap suc (upTo-all f (suc b) ps (c .2) (q .1))
+
+shares-front : (s e r lo : ℕ) (ps : Pairs) → size ps ≤ r → Ruled lo ps → sharesIn s e (upTo e ps) (lent r ps) ≡ shares s e ps
+unfolding sharesIn shares lent size
+shares-front s e r lo none h c = unfold upTo in refl
+shares-front s e zero lo (pair a b ps) h c = absurd (omega arith)
+shares-front s e (suc r) lo (pair a b ps) h c = go (decLe a e) (shares-front s e r (suc b) ps (omega arith) (c .2))
+  where
+    go : Dec (a ≤ e) → sharesIn s e (upTo e ps) (lent r ps) ≡ shares s e ps
+        → sharesIn s e (upTo e (pair a b ps)) (a ∷ b ∷ lent r ps) ≡ ((ltb s b && ltb a e) || shares s e ps)
+    go (yes q) i = rw (upTo-on e a b ps q, i)
+    go (no q) i =
+        rw (upTo-stops e a b ps (omega arith), le-ltb a e (omega arith), and-false (ltb s b), shares-beyond s e (suc b) ps (c .2) (omega (arith, c .1)))
+
+pub shares-spot : (s e r lo : ℕ) (ps : Pairs) → s < e → size ps ≤ r → Ruled lo ps
+    → sharesIn s e (upTo e ps - below s ps) (drop (2 * below s ps) (lent r ps)) ≡ shares s e ps
+unfolding shares lent size
+shares-spot s e r lo none h g c = unfold upTo below sharesIn in refl
+shares-spot s e zero lo (pair a b ps) h g c = absurd (omega arith)
+shares-spot s e (suc r) lo (pair a b ps) h g c = go (decLt b s) (shares-spot s e r (suc b) ps h (omega arith) (c .2))
+  where
+    go : Dec (b < s) → sharesIn s e (upTo e ps - below s ps) (drop (2 * below s ps) (lent r ps)) ≡ shares s e ps
+        → sharesIn s e (upTo e (pair a b ps) - below s (pair a b ps)) (drop (2 * below s (pair a b ps)) (a ∷ b ∷ lent r ps))
+        ≡ ((ltb s b && ltb a e) || shares s e ps)
+    go (yes q) i =
+        let m : suc (upTo e ps) - suc (below s ps) ≡ upTo e ps - below s ps = omega arith in
+        let d : 2 * suc (below s ps) ≡ suc (suc (2 * below s ps)) = omega arith in
+        rw (below-on s a b ps q, upTo-on e a b ps (omega (arith, c .1)), m, d, i, le-ltb s b (omega arith))
+    go (no q) i =
+        let z : upTo e (pair a b ps) - 0 ≡ upTo e (pair a b ps) = omega arith in
+        rw (below-stops s a b ps (omega arith), z) (shares-front s e (suc r) lo (pair a b ps) g c)

@@ -1,0 +1,26 @@
+-- `claim::locate`.
+use native.Mathlib.Omega.{arith}
+use borrow.Author.Needs.{needs}
+use Rattle.ledger.proofs.Claims.{past-at, past-room, spot-is}
+use Rattle.ledger.proofs.claim.locate.Statement.{statement}
+use Rattle.ledger.proofs.claim.locate.Tie as tie
+
+place-requires : tie.Need-place-requires
+place-requires c κs = search needs
+
+reach-requires : tie.Need-reach-requires
+reach-requires c κs = search needs
+
+returns : tie.Need-returns
+returns c =
+    let p = c .before in
+    let x = p .before .before .args in
+    let l = x .ledger .now in
+    let k = p .place .result in (
+      omega (arith, c .reach .ensures, past-at (x .end) k l),
+      omega (arith, c .reach .ensures, past-room (x .end) k l (p .place .ensures .0)),
+      λ o h. spot-is k (c .reach .result) (x .start) (x .end) l o h (p .place .ensures .1 o) (c .reach .ensures),
+    )
+
+pub locate-spec : {M : Type 1} → statement M
+locate-spec = tie.close (tie.spec place-requires reach-requires returns)

@@ -1,0 +1,77 @@
+-- Claiming a range in a ledger: where it goes, whether there is room, and what the ledger is with it.
+--
+--     pairs that end below its start   those it shares a place with or touches   pairs that start above its end
+--     0 .. at                          at .. past                                past ..
+use Prim.Native.Nat.{ℕ, zero, suc, _+_, _*_, _-_, min, max}
+use mathlib.Core.Bool.{Bool, false, cond, _&&_, _||_}
+use mathlib.Core.List.{List, _∷_, _++_}
+use lib.Dec.{leb, ltb, eqb}
+use lib.ListN.{getD, set, take, drop, replicate}
+use lib.Seq.{paste}
+use Rattle.ledger.specs.Pairs.{Pairs, none, pair, size, join, shares}
+use Rattle.ledger.specs.Ledger.{pairsOf, roomOf}
+use Rattle.ledger.specs.declared.claim.Spot.{Spot}
+use Rattle.ledger.specs.declared.claim.Room.{Room}
+use Rattle.ledger.specs.declared.claim.Room.the-variants.{Shares, Full, At}
+
+-- the number of pairs, from the first on, that end below s
+unfoldable pub below : ℕ → Pairs → ℕ
+below s none = 0
+below s (pair a b ps) = cond (ltb b s) (suc (below s ps)) 0
+
+-- the number of pairs, from the first on, that start at e or before
+unfoldable pub upTo : ℕ → Pairs → ℕ
+upTo e none = 0
+upTo e (pair a b ps) = cond (leb a e) (suc (upTo e ps)) 0
+
+-- the pairs that the range from s to e becomes one with stand from `at` up to `past`
+unfoldable pub spotOf : ℕ → ℕ → Pairs → Spot
+spotOf s e ps = record { at = below s ps; past = upTo e ps }
+
+-- 17, then 18: the range shares a place with a claimed one; the ledger would need more pairs than it has
+unfoldable pub judged : ℕ → ℕ → ℕ → Pairs → Room
+judged r s e ps = cond (shares s e ps) Shares (cond (ltb r (size (join s e ps))) Full (At (spotOf s e ps)))
+
+-- ---- what the code reads, for any list and any spot
+
+-- the first pair at k or behind it that is unused or starts above e
+unfoldable pub pastFrom : ℕ → ℕ → List ℕ → ℕ
+pastFrom e k ledger = k + upTo e (pairsOf (drop (2 * k) ledger))
+
+-- one of the first n pairs of a list shares a place with the range from s to e
+unfoldable pub sharesIn : ℕ → ℕ → ℕ → List ℕ → Bool
+sharesIn s e zero l = false
+sharesIn s e (suc n) l = (ltb s (getD l 1 0) && ltb (getD l 0 0) e) || sharesIn s e n (drop 2 l)
+
+-- there is no pair to become one with, and the last pair is used
+unfoldable pub isFull : Spot → List ℕ → Bool
+isFull spot ledger = eqb (spot .at) (spot .past) && (eqb (roomOf ledger) 0 || ltb 0 (getD ledger (2 * roomOf ledger - 1) 0))
+
+-- ---- the change, as lists
+
+-- a pair put at `at`, with the entries up to `end` moved up by two and the two from there on given up
+unfoldable pub inserted : List ℕ → ℕ → ℕ → ℕ → ℕ → List ℕ
+inserted l at end a b = take at l ++ (a ∷ b ∷ (take (end - at) (drop at l) ++ drop (end + 2) l))
+
+-- the entries from `from` up to `end` moved down to `to`
+unfoldable pub movedDown : List ℕ → ℕ → ℕ → ℕ → List ℕ
+movedDown l to from end = paste l to (drop from l) (end - from)
+
+-- the same, with zeros in the entries that they left
+unfoldable pub closed : List ℕ → ℕ → ℕ → ℕ → List ℕ
+closed l to from end = take to l ++ (take (end - from) (drop from l) ++ (replicate (from - to) 0 ++ drop end l))
+
+-- the largest 64-bit number
+abbrev pub largest : ℕ
+largest = 18446744073709551615
+
+-- a range from s to e put into any list at any spot: a pair of its own, where one is unused, or the pairs of the spot widened to one;
+-- a spot that the list does not have changes nothing
+unfoldable pub putOf : Spot → ℕ → ℕ → List ℕ → List ℕ
+putOf spot s e l =
+    let at = spot .at in
+    let past = spot .past in
+    let used = pastFrom largest past l in
+    let wide = set (set l (2 * at) (min (getD l (2 * at) 0) s)) (2 * at + 1) (max (getD l (2 * past - 1) 0) e) in
+    cond (ltb past at || ltb (roomOf l) past) l
+    (cond (eqb at past) (cond (eqb used (roomOf l)) l (inserted l (2 * at) (2 * used) s e)) (closed wide (2 * at + 2) (2 * past) (2 * used)))

@@ -1,0 +1,56 @@
+-- The ledger (document 01, "The ledger"): a lent run of numbers, R pairs (start, end), the used ones first and zeros after them.
+use Prim.Native.Nat.{ℕ, zero, suc, _+_, _*_, _/_, _%_, _≤_, _<_}
+use mathlib.Core.Bool.{Bool, true, false, cond, _&&_, _||_, not}
+use mathlib.Core.List.{List, [], _∷_}
+use lib.Dec.{leb, ltb, eqb}
+use lib.ListN.{length, getD}
+use Rattle.ledger.specs.Pairs.{Pairs, none, pair}
+
+-- the most entries that a ledger may have
+abbrev pub entryLimit : ℕ
+entryLimit = 8192
+
+-- 53: an odd number of entries, or too many
+unfoldable pub lengthWrong : List ℕ → Bool
+lengthWrong ledger = not (eqb (length ledger % 2) 0) || ltb entryLimit (length ledger)
+
+abbrev pub roomOf : List ℕ → ℕ
+roomOf ledger = length ledger / 2
+
+unfoldable pub zeros : List ℕ → Bool
+zeros [] = true
+zeros (x ∷ xs) = eqb x 0 && zeros xs
+
+-- the ledger rule from the place lo on: used pairs first, each with start < end and its end less than the next start; then zeros.
+-- A pair is used unless both entries are 0.
+unfoldable pub rule : ℕ → List ℕ → Bool
+rule lo [] = true
+rule lo (a ∷ []) = false
+rule lo (a ∷ b ∷ rest) =
+    let behind = rule (suc b) rest in
+    cond (eqb b 0) (eqb a 0 && zeros rest) (leb lo a && (ltb a b && behind))
+
+-- a pair that starts at a may stand behind one that ends at `end`, 0 where there is none before it
+abbrev pub follows : ℕ → ℕ → Bool
+follows end a = eqb end 0 || ltb end a
+
+unfoldable pub obeys : List ℕ → Bool
+obeys ledger = rule 0 ledger
+
+-- the used pairs
+unfoldable pub pairsOf : List ℕ → Pairs
+pairsOf [] = none
+pairsOf (a ∷ []) = none
+pairsOf (a ∷ b ∷ rest) =
+    let behind = pairsOf rest in
+    cond (eqb b 0) none (pair a b behind)
+
+-- a ledger of r pairs with these used ones, and zeros after them
+unfoldable pub lent : ℕ → Pairs → List ℕ
+lent zero ps = []
+lent (suc r) none = 0 ∷ 0 ∷ lent r none
+lent (suc r) (pair a b ps) = a ∷ b ∷ lent r ps
+
+-- the place p lies in one of the ledger's pairs
+abbrev pub Holds : ℕ → List ℕ → Type 0
+Holds p ledger = (i : ℕ) × (getD ledger (2 * i) 0 ≤ p) × (p < getD ledger (2 * i + 1) 0)

@@ -1,0 +1,5 @@
+pub mod Pairs
+pub mod Ledger
+pub mod Claim
+pub mod RangeText
+pub mod Saved

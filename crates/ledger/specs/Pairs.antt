@@ -1,0 +1,55 @@
+-- Sets of places as pairs (start, end), the end not counted.
+use Prim.Native.Nat.{ℕ, suc, _+_, _-_, _≤_, _<_, min, max}
+use mathlib.Core.Bool.{Bool, true, false, cond, _&&_, _||_}
+use lib.Dec.{leb, ltb}
+
+pub data Pairs : Type 0 where
+  none : Pairs
+  pair : ℕ → ℕ → Pairs → Pairs
+
+-- how many pairs there are
+unfoldable pub size : Pairs → ℕ
+size none = 0
+size (pair a b ps) = suc (size ps)
+
+-- how many places they hold, pair by pair
+unfoldable pub total : Pairs → ℕ
+total none = 0
+total (pair a b ps) = (b - a) + total ps
+
+-- 1 where the place p lies from a up to b, b not counted, and 0 elsewhere
+unfoldable pub hit : ℕ → ℕ → ℕ → ℕ
+hit a b p = cond (leb a p && ltb p b) 1 0
+
+-- 1 where one of the pairs holds the place p, and 0 where none does
+unfoldable pub holds : ℕ → Pairs → ℕ
+holds p none = 0
+holds p (pair a b ps) = max (hit a b p) (holds p ps)
+
+-- the ledger rule for pairs from the place lo on: start < end, and each end less than the next start
+abbrev pub Ruled : ℕ → Pairs → Type 0
+Ruled lo none = Unit {0}
+Ruled lo (pair a b ps) = (lo ≤ a) × (a < b) × Ruled (suc b) ps
+
+-- the range from s to e joined to the pairs: those that it shares a place with or touches become one with it
+unfoldable pub join : ℕ → ℕ → Pairs → Pairs
+join s e none = pair s e none
+join s e (pair a b ps) =
+    let behind = join s e ps in
+    let wider = join (min s a) (max e b) ps in
+    cond (ltb e a) (pair s e (pair a b ps)) (cond (ltb b s) (pair a b behind) wider)
+
+-- the range from s to e shares a place with one of the pairs
+unfoldable pub shares : ℕ → ℕ → Pairs → Bool
+shares s e none = false
+shares s e (pair a b ps) = (ltb s b && ltb a e) || shares s e ps
+
+-- the range from s to e lies inside one of the pairs
+unfoldable pub inside : ℕ → ℕ → Pairs → Bool
+inside s e none = false
+inside s e (pair a b ps) = (leb a s && leb e b) || inside s e ps
+
+-- no end is above f
+unfoldable pub endsBy : ℕ → Pairs → Bool
+endsBy f none = true
+endsBy f (pair a b ps) = leb b f && endsBy f ps

@@ -1,0 +1,108 @@
+// The ledger rule, and how many bytes a ledger holds.
+ghost use mathlib.Core.Path.{_≡_};
+ghost use mathlib.Core.Bool.{_&&_};
+ghost use Prim.Native.Nat.{_+_, _-_, min};
+ghost use Rattle.ledger.specs.Pairs.{total, endsBy};
+ghost use Rattle.ledger.specs.Ledger.{lengthWrong, zeros, follows, obeys, pairsOf};
+
+// The most entries that a ledger may have.
+pub const ENTRY_LIMIT: usize = 8192;
+
+// Whether a ledger has an odd number of entries, or too many: refusal 53.
+pub fn length_wrong(ledger: &[u64]) -> bool
+    ensures { λ r. ⌜ r ≡ lengthWrong (now (ledger .entry)) ⌝ }
+{
+    if ledger.len() % 2 != 0 {
+        return true;
+    }
+    ENTRY_LIMIT < ledger.len()
+}
+
+// Whether the entries are all 0.
+fn all_zero(entries: &[u64]) -> bool
+    ensures { λ r. ⌜ r ≡ zeros (now (entries .entry)) ⌝ }
+{
+    let mut i = 0;
+    while i < entries.len() {
+        if entries[i] != 0 {
+            return false;
+        }
+        i += 1;
+    }
+    true
+}
+
+// Whether a pair that starts at a may stand behind one that ends at end; an end of 0 says that there is none before it.
+fn may_follow(end: u64, a: u64) -> bool
+    ensures { λ r. ⌜ r ≡ follows end a ⌝ }
+{
+    if end == 0 {
+        return true;
+    }
+    end < a
+}
+
+// Whether the ledger obeys its rule with no end above the limit.
+pub fn obeys(ledger: &[u64], limit: u64) -> bool
+    ensures { λ r. ⌜ r ≡ (obeys (now (ledger .entry)) && endsBy limit (pairsOf (now (ledger .entry)))) ⌝ }
+{
+    let mut end: u64 = 0;
+    let mut i = 0;
+    while i + 1 < ledger.len() {
+        let a = ledger[i];
+        let b = ledger[i + 1];
+        if b == 0 {
+            return all_zero(&ledger[i..]);
+        }
+        if !may_follow(end, a) {
+            return false;
+        }
+        if b <= a {
+            return false;
+        }
+        if limit < b {
+            return false;
+        }
+        end = b;
+        i += 2;
+    }
+    i == ledger.len()
+}
+
+// b - a, or 0 where b is less.
+fn above(b: u64, a: u64) -> u64
+    ensures { λ r. ⌜ r ≡ b - a ⌝ }
+{
+    if b < a {
+        return 0;
+    }
+    b - a
+}
+
+// n + d, or the largest number where that is more.
+fn at_most(n: u64, d: u64) -> u64
+    ensures { λ r. ⌜ r ≡ min 18446744073709551615 (n + d) ⌝ }
+{
+    if 18446744073709551615 - n < d {
+        return 18446744073709551615;
+    }
+    n + d
+}
+
+// How many bytes the used pairs hold, or the largest number where that is more, which a ledger that obeys its rule never has.
+pub fn total(ledger: &[u64]) -> u64
+    ensures { λ r. ⌜ r ≡ min 18446744073709551615 (total (pairsOf (now (ledger .entry)))) ⌝ }
+{
+    let mut n: u64 = 0;
+    let mut i = 0;
+    while i + 1 < ledger.len() {
+        let a = ledger[i];
+        let b = ledger[i + 1];
+        if b == 0 {
+            return n;
+        }
+        n = at_most(n, above(b, a));
+        i += 2;
+    }
+    n
+}
