@@ -1,1 +1,5 @@
 pub mod Reply
+pub mod Line
+pub mod Accepted
+pub mod HostPort
+pub mod HostPorts

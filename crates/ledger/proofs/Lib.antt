@@ -8,3 +8,7 @@ pub mod Spots
 mod Flats
 pub mod Claims
 mod Spliced
+pub mod Shared
+pub mod Rules
+pub mod Meanings
+pub mod ProvedSets

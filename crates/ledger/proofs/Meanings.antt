@@ -1,0 +1,25 @@
+-- `Ledgers` holds.
+use mathlib.Core.Path.{_∙_, sym}
+use native.Mathlib.Omega.{arith}
+use Rattle.ledger.specs.Pairs.{join}
+use Rattle.ledger.specs.Means.{Ledgers}
+use Rattle.ledger.proofs.Joined.{join-holds, join-ruled, join-size}
+use Rattle.ledger.proofs.Unique.{ruled-unique}
+use Rattle.ledger.proofs.Shared.{shares-none, none-shares, held-inside, inside-held, total-held, join-total}
+use Rattle.ledger.proofs.Rules
+
+pub ledgers : Ledgers
+ledgers =
+    record {
+      test-is-rule = Rules.test-is-rule;
+      holds-places = Rules.holds-places;
+      only-one = Rules.only-one;
+      bytes-are-places = λ f ps c h. total-held f 0 ps c h;
+      join-union = λ s e p ps h c. join-holds s e 0 p ps h c;
+      join-obeys = λ s e ps h c. join-ruled s e 0 ps h (omega arith) c;
+      join-needs = join-size;
+      join-only = λ s e ps qs h c d u. ruled-unique 0 qs (join s e ps) d (join-ruled s e 0 ps h (omega arith) c) (λ p. u p ∙ sym (join-holds s e 0 p ps h c));
+      join-adds = λ s e ps h c n. join-total s e 0 ps h (omega arith) c (λ p. shares-none s e p ps n);
+      shares-place = λ s e ps h c. (λ n p. shares-none s e p ps n, none-shares s e 0 ps h c);
+      inside-places = λ s e ps h c. (inside-held s e ps, held-inside s e 0 ps h c);
+    }

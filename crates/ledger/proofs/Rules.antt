@@ -1,0 +1,157 @@
+-- The ledger rule in words, entry by entry, and the test: each gives the other. The places of the used pairs are those that the ledger holds.
+use Prim.Native.Nat.{ℕ, zero, suc, _+_, _*_, _≤_, _<_, max}
+use mathlib.Core.Path.{_≡_, refl, sym, ap, _∙_}
+use mathlib.Core.Logic.{_↔_}
+use mathlib.Core.Bool.{true, cond, and-eq-true-iff, false≢true}
+use mathlib.Core.List.{List, [], _∷_}
+use native.Mathlib.Omega.{arith}
+use native.Mathlib.Decide.{ℕ-discrete}
+use borrow.Author.Tests.{lt-ltb, le-leb, ne-eqb, eqb-true}
+use lib.Dec.{eqb}
+use lib.ListN.{length, getD}
+use Rattle.ledger.specs.Pairs.{Pairs, none, pair, size, hit, holds, Ruled}
+use Rattle.ledger.specs.Ledger.{zeros, rule, obeys, pairsOf, lent, Holds}
+use Rattle.ledger.specs.Means.{Obeys}
+use Rattle.ledger.proofs.Places.{hit-in, hit-le, Where, under, within, past, stand, holds-le}
+use Rattle.ledger.proofs.Unique.{ruled-unique}
+use Rattle.ledger.proofs.Lents.{First, unused, used, rule-first, rule-ruled, lent-pairsOf, size-pairsOf}
+use Rattle.ledger.proofs.Spots.{startAt, endAt}
+use Rattle.ledger.proofs.Flats.{lent-start, lent-end}
+
+-- the places 2 * k of a list with two entries in front
+even-on : (k : ℕ) → 2 * suc k ≡ suc (suc (2 * k))
+even-on k = omega arith
+
+odd-on : (k : ℕ) → 2 * suc k + 1 ≡ suc (suc (2 * k + 1))
+odd-on k = omega arith
+
+-- ---- zeros
+
+zeros-at : (l : List ℕ) (j : ℕ) → zeros l ≡ true → getD l j 0 ≡ 0
+unfolding zeros
+zeros-at [] j h = refl
+zeros-at (x ∷ xs) zero h = eqb-true x 0 (and-eq-true-iff (eqb x 0) (zeros xs) .0 h .0)
+zeros-at (x ∷ xs) (suc j) h = zeros-at xs j (and-eq-true-iff (eqb x 0) (zeros xs) .0 h .1)
+
+at-zeros : (l : List ℕ) → ((j : ℕ) → getD l j 0 ≡ 0) → zeros l ≡ true
+unfolding zeros
+at-zeros [] h = refl
+at-zeros (x ∷ xs) h = rw (h 0, at-zeros xs (λ j. h (suc j)))
+
+-- ---- from the rule in words to the test
+
+words-test : (lo r u : ℕ) (l : List ℕ) → length l ≡ 2 * r → u ≤ r → (0 < u → lo ≤ getD l 0 0)
+    → ((i : ℕ) → i < u → getD l (2 * i) 0 < getD l (2 * i + 1) 0) → ((i : ℕ) → suc i < u → getD l (2 * i + 1) 0 < getD l (2 * suc i) 0)
+    → ((j : ℕ) → 2 * u ≤ j → getD l j 0 ≡ 0) → rule lo l ≡ true
+unfolding rule
+words-test lo r u [] n h f o a z = refl
+words-test lo r u (x ∷ []) n h f o a z = absurd (omega arith)
+words-test lo r zero (x ∷ y ∷ l) n h f o a z =
+    rw (z 0 (omega arith), z 1 (omega arith), at-zeros l (λ j. z (suc (suc j)) (omega arith)))
+words-test lo zero (suc u) (x ∷ y ∷ l) n h f o a z = absurd (omega arith)
+words-test lo (suc r) (suc u) (x ∷ y ∷ l) n h f o a z =
+    rw (ne-eqb y 0 (λ q. omega (arith, o 0 (omega arith))), le-leb lo x (f (omega arith)), lt-ltb x y (o 0 (omega arith)))
+    (words-test (suc y) r u l (omega arith) (omega arith) (λ q. a 0 (omega arith))
+    (λ i q. rw (odd-on i, even-on i) at (o (suc i) (omega arith)))
+    (λ i q. rw (odd-on i, even-on (suc i)) at (a (suc i) (omega arith)))
+    (λ j q. z (suc (suc j)) (omega arith)))
+
+-- ---- from the test to the rule in words
+
+start-end : (lo i : ℕ) (ps : Pairs) → Ruled lo ps → i < size ps → startAt i ps < endAt i ps
+unfolding startAt endAt size
+start-end lo i none c h = absurd (omega arith)
+start-end lo zero (pair a b ps) c h = c .1
+start-end lo (suc i) (pair a b ps) c h = start-end (suc b) i ps (c .2) (omega arith)
+
+end-start : (lo i : ℕ) (ps : Pairs) → Ruled lo ps → suc i < size ps → endAt i ps < startAt (suc i) ps
+unfolding startAt endAt size
+end-start lo i none c h = absurd (omega arith)
+end-start lo zero (pair a b none) c h = absurd (omega arith)
+end-start lo zero (pair a b (pair x y ps)) c h = c .2 .0
+end-start lo (suc i) (pair a b ps) c h = end-start (suc b) i ps (c .2) (omega arith)
+
+lent-after : (r j : ℕ) (ps : Pairs) → 2 * size ps ≤ j → getD (lent r ps) j 0 ≡ 0
+unfolding lent size
+lent-after zero j ps h = refl
+lent-after (suc r) zero none h = refl
+lent-after (suc r) (suc zero) none h = refl
+lent-after (suc r) (suc (suc j)) none h = lent-after r j none (unfold size in omega arith)
+lent-after (suc r) zero (pair a b ps) h = absurd (omega arith)
+lent-after (suc r) (suc zero) (pair a b ps) h = absurd (omega arith)
+lent-after (suc r) (suc (suc j)) (pair a b ps) h = lent-after r j ps (omega arith)
+
+pub test-words : (r : ℕ) (l : List ℕ) → length l ≡ 2 * r → obeys l ≡ true → Obeys r l
+unfolding obeys
+test-words r l n o =
+    let ps = pairsOf l in
+    let c = rule-ruled 0 l o in
+    let e = lent-pairsOf r 0 l o n in
+    let f : size ps ≤ r = omega (arith, size-pairsOf l) in
+    let s : (i : ℕ) → getD l (2 * i) 0 ≡ startAt i ps = λ i. ap (λ z. getD z (2 * i) 0) e ∙ lent-start r i ps f in
+    let t : (i : ℕ) → getD l (2 * i + 1) 0 ≡ endAt i ps = λ i. ap (λ z. getD z (2 * i + 1) 0) e ∙ lent-end r i ps f in
+    record {
+      used = size ps;
+      room = f;
+      ordered = λ i h. omega (arith, s i, t i, start-end 0 i ps c h);
+      apart = λ i h. omega (arith, s (suc i), t i, end-start 0 i ps c h);
+      zero-after = λ j h. ap (λ z. getD z j 0) e ∙ lent-after r j ps h;
+    }
+
+pub test-is-rule : (r : ℕ) (l : List ℕ) → length l ≡ 2 * r → (obeys l ≡ true) ↔ Obeys r l
+unfolding obeys
+test-is-rule r l n =
+    (test-words r l n, λ w. words-test 0 r (w .used) l n (w .room) (λ q. omega arith) (w .ordered) (w .apart) (w .zero-after))
+
+-- ---- the places
+
+places-held : (p lo : ℕ) (l : List ℕ) → rule lo l ≡ true → holds p (pairsOf l) ≡ 1 → Holds p l
+unfolding pairsOf holds
+places-held p lo [] h g = absurd (omega arith)
+places-held p lo (a ∷ []) h g = absurd (omega arith)
+places-held p lo (a ∷ b ∷ rest) h g = go (rule-first lo a b rest h) (places-held p (suc b) rest) g
+  where
+    go : First lo a b rest → (rule (suc b) rest ≡ true → holds p (pairsOf rest) ≡ 1 → Holds p rest) → holds p (cond (eqb b 0) none (pair a b (pairsOf rest))) ≡ 1 → Holds p (a ∷ b ∷ rest)
+    go (unused x y z) i k = absurd (omega (arith, rw y at k))
+    go (used x y z) i k = at (stand a b p) (rw (ne-eqb b 0 (λ q. omega arith)) at k)
+      where
+        at : Where a b p → max (hit a b p) (holds p (pairsOf rest)) ≡ 1 → Holds p (a ∷ b ∷ rest)
+        at (within u v w) m = (0, u, v)
+        at (under u v) m =
+            let j = i z (omega arith) in
+            (suc (j .0), rw (even-on (j .0)) (j .1), rw (odd-on (j .0)) (j .2))
+        at (past u v w) m =
+            let j = i z (omega arith) in
+            (suc (j .0), rw (even-on (j .0)) (j .1), rw (odd-on (j .0)) (j .2))
+
+held-places : (p lo k : ℕ) (l : List ℕ) → rule lo l ≡ true → getD l (2 * k) 0 ≤ p → p < getD l (2 * k + 1) 0 → holds p (pairsOf l) ≡ 1
+unfolding pairsOf holds
+held-places p lo k [] h x y = absurd (omega arith)
+held-places p lo k (a ∷ []) h x y = absurd (unfold rule in false≢true h)
+held-places p lo k (a ∷ b ∷ rest) h x y = go (rule-first lo a b rest h) k x y (λ j. held-places p (suc b) j rest)
+  where
+    go : First lo a b rest → (k : ℕ) → getD (a ∷ b ∷ rest) (2 * k) 0 ≤ p → p < getD (a ∷ b ∷ rest) (2 * k + 1) 0
+        → ((j : ℕ) → rule (suc b) rest ≡ true → getD rest (2 * j) 0 ≤ p → p < getD rest (2 * j + 1) 0 → holds p (pairsOf rest) ≡ 1)
+        → holds p (cond (eqb b 0) none (pair a b (pairsOf rest))) ≡ 1
+    go (unused u v w) zero x y i = absurd (omega arith)
+    go (unused u v w) (suc k) x y i = absurd (omega (arith, rw (odd-on k) at y, zeros-at rest (2 * k + 1) w))
+    go (used u v w) zero x y i = rw (ne-eqb b 0 (λ q. omega arith)) (omega (arith, hit-in a b p x y, holds-le p (pairsOf rest)))
+    go (used u v w) (suc k) x y i =
+        rw (ne-eqb b 0 (λ q. omega arith)) (omega (arith, i k w (rw (even-on k) at x) (rw (odd-on k) at y), hit-le a b p))
+
+pub holds-places : (p : ℕ) (l : List ℕ) → obeys l ≡ true → (holds p (pairsOf l) ≡ 1) ↔ Holds p l
+unfolding obeys
+holds-places p l o = (places-held p 0 l o, λ w. held-places p 0 (w .0) l o (w .1) (w .2))
+
+pub only-one : (r : ℕ) (l m : List ℕ) → length l ≡ 2 * r → length m ≡ 2 * r → obeys l ≡ true → obeys m ≡ true → ((p : ℕ) → Holds p l ↔ Holds p m) → l ≡ m
+unfolding obeys
+only-one r l m n k o q h =
+    lent-pairsOf r 0 l o n ∙ ap (lent r) (ruled-unique 0 (pairsOf l) (pairsOf m) (rule-ruled 0 l o) (rule-ruled 0 m q) same) ∙ sym (lent-pairsOf r 0 m q k)
+  where
+    same : (p : ℕ) → holds p (pairsOf l) ≡ holds p (pairsOf m)
+    same p = go (ℕ-discrete (holds p (pairsOf l)) 1) (ℕ-discrete (holds p (pairsOf m)) 1)
+      where
+        go : Dec (holds p (pairsOf l) ≡ 1) → Dec (holds p (pairsOf m) ≡ 1) → holds p (pairsOf l) ≡ holds p (pairsOf m)
+        go (yes x) d = x ∙ sym (holds-places p m q .1 (h p .0 (holds-places p l o .0 x)))
+        go (no x) (yes y) = absurd (x (holds-places p l o .1 (h p .1 (holds-places p m q .0 y))))
+        go (no x) (no y) = omega (arith, holds-le p (pairsOf l), holds-le p (pairsOf m))

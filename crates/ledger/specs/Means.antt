@@ -1,0 +1,43 @@
+-- What a ledger means, a field for each sentence (document 01, "The ledger").
+use Prim.Native.Nat.{ℕ, zero, suc, _+_, _*_, _-_, _≤_, _<_, max}
+use mathlib.Core.Path.{_≡_}
+use mathlib.Core.Logic.{_↔_}
+use mathlib.Core.Bool.{true, false}
+use mathlib.Core.List.{List}
+use lib.ListN.{length, getD}
+use Rattle.ledger.specs.Pairs.{Pairs, size, total, hit, holds, Ruled, join, shares, inside, endsBy}
+use Rattle.ledger.specs.Ledger.{obeys, pairsOf, Holds}
+
+-- the ledger rule in document 01's words, for a ledger of r pairs
+pub record Obeys (r : ℕ) (l : List ℕ) : Type 0 where
+  -- how many pairs are used: they stand first
+  pub used : ℕ
+  pub room : used ≤ r
+  pub ordered : (i : ℕ) → i < used → getD l (2 * i) 0 < getD l (2 * i + 1) 0
+  pub apart : (i : ℕ) → suc i < used → getD l (2 * i + 1) 0 < getD l (2 * suc i) 0
+  pub zero-after : (j : ℕ) → 2 * used ≤ j → getD l j 0 ≡ 0
+
+-- how many of the places below f are held
+unfoldable pub heldBelow : ℕ → Pairs → ℕ
+heldBelow zero ps = 0
+heldBelow (suc f) ps = holds f ps + heldBelow f ps
+
+pub record Ledgers : Type 0 where
+  -- the test is the rule
+  pub test-is-rule : (r : ℕ) (l : List ℕ) → length l ≡ 2 * r → (obeys l ≡ true) ↔ Obeys r l
+  -- the places of the used pairs are those that the ledger holds
+  pub holds-places : (p : ℕ) (l : List ℕ) → obeys l ≡ true → (holds p (pairsOf l) ≡ 1) ↔ Holds p l
+  -- of all ledgers of its length that obey the rule it is the only one with its places
+  pub only-one : (r : ℕ) (l m : List ℕ) → length l ≡ 2 * r → length m ≡ 2 * r → obeys l ≡ true → obeys m ≡ true → ((p : ℕ) → Holds p l ↔ Holds p m) → l ≡ m
+  -- its number of bytes is the number of places that it holds
+  pub bytes-are-places : (f : ℕ) (ps : Pairs) → Ruled 0 ps → endsBy f ps ≡ true → total ps ≡ heldBelow f ps
+  -- a range joined to it: the union, by the rule, and as few pairs as that has
+  pub join-union : (s e p : ℕ) (ps : Pairs) → s < e → Ruled 0 ps → holds p (join s e ps) ≡ max (hit s e p) (holds p ps)
+  pub join-obeys : (s e : ℕ) (ps : Pairs) → s < e → Ruled 0 ps → Ruled 0 (join s e ps)
+  pub join-needs : (s e : ℕ) (ps : Pairs) → size (join s e ps) ≤ suc (size ps)
+  pub join-only : (s e : ℕ) (ps qs : Pairs) → s < e → Ruled 0 ps → Ruled 0 qs → ((p : ℕ) → holds p qs ≡ max (hit s e p) (holds p ps)) → qs ≡ join s e ps
+  -- a range that shares no place adds its bytes
+  pub join-adds : (s e : ℕ) (ps : Pairs) → s < e → Ruled 0 ps → shares s e ps ≡ false → total (join s e ps) ≡ (e - s) + total ps
+  -- sharing is a common place, and lying inside one pair is that every place is held
+  pub shares-place : (s e : ℕ) (ps : Pairs) → s < e → Ruled 0 ps → (shares s e ps ≡ false) ↔ ((p : ℕ) → hit s e p + holds p ps ≤ 1)
+  pub inside-places : (s e : ℕ) (ps : Pairs) → s < e → Ruled 0 ps → (inside s e ps ≡ true) ↔ ((p : ℕ) → s ≤ p → p < e → holds p ps ≡ 1)
