@@ -4,13 +4,13 @@ use mathlib.Core.Path.{_≡_, refl, sym, ap, _∙_}
 use mathlib.Core.Bool.{Bool, true, false, cond}
 use mathlib.Core.List.{List, [], _∷_, _++_, append-nil}
 use native.Mathlib.Omega.{arith}
-use native.Mathlib.Nat.{sub-zero, zero-add, suc-add}
+use native.Mathlib.Nat.{sub-zero}
 use native.Mathlib.Numerals.{add-one}
 use borrow.Author.Tests.{lt-ltb, le-ltb, eq-eqb, ne-eqb}
-use borrow.Author.Fill.{fill-more}
+use borrow.Rule.Slice.PartMut.{putMid}
 use lib.Dec.{eqb}
-use lib.ListN.{length, getD, set, take, drop, replicate, length-append, length-drop, take-append-drop, drop-of-length-le}
-use lib.Seq.{length-take-le, take-suc-set}
+use lib.ListN.{length, getD, set, take, drop, replicate, length-append, length-take, length-drop, drop-of-length-le}
+use lib.Seq.{length-take-le, take-all, take-suc-set}
 use Rattle.control.specs.declared.hosts.Step.{Step}
 use Rattle.control.specs.declared.hosts.Step.the-variants.{Host, Malformed}
 use Rattle.control.specs.declared.hosts.Hosts.{Hosts}
@@ -19,30 +19,20 @@ use Rattle.control.specs.HostPort.{hostLimit, hostPortAt, Listed, listed
 
 -- ---- clearing a list from an entry on
 
--- n entries cleared
-abbrev pub clearing : List ℕ → ℕ → ℕ → List ℕ
-clearing list from n = take from list ++ (replicate n 0 ++ drop n (drop from list))
-
-pub clearing-none : (list : List ℕ) (from : ℕ) → list ≡ clearing list from 0
-clearing-none list from = sym (take-append-drop from list)
-
-set-behind : (xs ys : List ℕ) (n a : ℕ) → set (xs ++ ys) (length xs + n) a ≡ xs ++ set ys n a
-set-behind [] ys n a = rw (zero-add n)
-set-behind (x ∷ xs) ys n a = rw (suc-add (length xs) n) (ap (λ (l : List ℕ). x ∷ l) (set-behind xs ys n a))
-
-pub clearing-more : (list : List ℕ) (from i : ℕ) → from ≤ i → i < length list → set (clearing list from (i - from)) i 0 ≡ clearing list from (i + 1 - from)
-clearing-more list from i h g =
-    let n : length (take from list) + (i - from) ≡ i = omega (arith, length-take-le from list (omega arith)) in
-    let m : i + 1 - from ≡ i - from + 1 = omega arith in
-    let s = set-behind (take from list) (replicate (i - from) 0 ++ drop (i - from) (drop from list)) (i - from) 0 in
-    let f = fill-more (i - from) 0 (drop from list) (simp length-drop (omega arith)) in
-    (rw n at s) ∙ rw (f, m)
-
-pub clearing-all : (list : List ℕ) (from n : ℕ) → n ≡ length list - from → clearing list from n ≡ emptied from list
+-- the part from an entry on, which came back as zeros
+pub cleared-part : (list ys : List ℕ) (from : ℕ) → ys ≡ replicate (length (take (length list - from) (drop from list))) 0
+    → putMid from (length list - from) list ys ≡ emptied from list
 unfolding emptied
-clearing-all list from n e =
-    let h : length (drop from list) ≤ n = simp length-drop (omega arith) in
-    rw (drop-of-length-le (drop from list) h, append-nil {A = ℕ} (replicate n 0), e)
+cleared-part list ys from e =
+    let h : length (drop from list) ≤ length list - from = simp length-drop (omega arith) in
+    let n : length (take (length list - from) (drop from list)) ≡ length list - from = simp (length-take, length-drop) (omega arith) in
+    rw (e, n, drop-of-length-le (drop from list) h, append-nil)
+
+pub cleared-none : (list : List ℕ) (from : ℕ) → length list ≤ from → list ≡ emptied from list
+unfolding emptied
+cleared-none list from h =
+    let z : length list - from ≡ 0 = omega arith in
+    rw (z, take-all from list h, append-nil)
 
 -- ---- one step of a list
 

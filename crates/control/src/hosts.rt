@@ -1,5 +1,6 @@
 // Host-port lists.
 use octets::decimal;
+use octets::entries;
 ghost use mathlib.Core.Path.{_≡_};
 ghost use Prim.Native.Nat.{_≤_};
 ghost use lib.ListN.{length};
@@ -142,10 +143,8 @@ fn store(text: &[u8], list: &mut [u64]) -> Hosts
 fn clear(list: &mut [u64], from: usize)
     ensures { λ _. ⌜ now (list .exit) ≡ emptied from (now (list .entry)) ⌝ }
 {
-    let mut i = from;
-    while i < list.len() {
-        list[i] = 0;
-        i += 1;
+    if from < list.len() {
+        entries::clear(&mut list[from..]);
     }
 }
 

@@ -6,7 +6,7 @@ use native.Mathlib.Omega.{arith}
 use native.Mathlib.Numerals.{add-one}
 use lib.ListN.{length, getD, set, take, drop, replicate, length-take, length-drop, length-append, take-append-drop, List·getD-append}
 use borrow.Rule.Slice.PartMut.{putMid}
-use lib.Seq.{sets-eq, take-append-le, take-take, drop-at, drop-cons, take-suc, set-at, getD-take, getD-drop, append-snoc, drop-drop, paste, length-paste, length-paste-head, take-paste, drop-paste, getD-append-add}
+use lib.Seq.{sets-eq, take-append-le, take-take, drop-at, drop-cons, take-suc, set-at, getD-take, getD-drop, append-snoc, drop-drop, paste, paste-suc, length-paste, length-paste-head, take-paste, drop-paste, getD-append-add}
 use Rattle.ledger.specs.Claim.{inserted, movedDown, closed}
 
 -- ---- up by two: the entries from k to e have moved
@@ -45,7 +45,7 @@ up-filled l i e a b h g =
 -- ---- down: a copy of later entries over earlier ones, read behind what is written
 
 -- an entry at or behind the place that is written next still stands
-pub down-at : (l : List ℕ) (to from n : ℕ) → to ≤ from → from + n < length l → getD (paste l to (drop from l) n) (from + n) 0 ≡ getD (drop from l) n 0
+down-at : (l : List ℕ) (to from n : ℕ) → to ≤ from → from + n < length l → getD (paste l to (drop from l) n) (from + n) 0 ≡ getD (drop from l) n 0
 down-at l to from n h g =
     let p = take to l ++ take n (drop from l) in
     let s : n ≤ length (drop from l) = simp length-drop (omega arith) in
@@ -53,6 +53,18 @@ down-at l to from n h g =
     let q : from + n ≡ length p + (from - to) = omega arith in
     let d : to + n + (from - to) ≡ from + n = omega arith in
     rw (q, getD-append-add p (drop (to + n) l) (from - to) 0, getD-drop (to + n) l (from - to) 0, d, getD-drop from l n 0)
+
+-- one turn: the entry that is read, and the store of it
+pub down-more : (l now : List ℕ) (to from k j : ℕ) → to ≤ from → from ≤ k → k < length l → now ≡ paste l to (drop from l) (k - from) → j ≡ to + (k - from)
+    → set now j (getD now k 0) ≡ paste l to (drop from l) (k + 1 - from)
+down-more l now to from k j h g e is at =
+    let n = k - from in
+    let k₁ : k ≡ from + n = omega arith in
+    let m : k + 1 - from ≡ suc n = omega arith in
+    let d : n < length (drop from l) = simp length-drop (omega arith) in
+    let r : getD (paste l to (drop from l) n) k 0 ≡ getD (drop from l) n 0 =
+    ap (λ q. getD (paste l to (drop from l) n) q 0) k₁ ∙ down-at l to from n h (omega arith) in
+    rw (is, at, r, m) (paste-suc l to (drop from l) n 0 (omega arith) d)
 
 -- the entries that were left behind cleared
 pub down-cleared : (l : List ℕ) (to from end k : ℕ) → to ≤ from → from ≤ end → end ≤ length l → k ≡ end - (to + (end - from))

@@ -1,7 +1,8 @@
 // Moving the entries of a ledger, each at most once.
+use octets::entries;
 ghost use mathlib.Core.Path.{_≡_};
 ghost use Prim.Native.Nat.{_+_, _≤_};
-ghost use lib.ListN.{length, replicate};
+ghost use lib.ListN.{length};
 ghost use Rattle.ledger.specs.Claim.{inserted, movedDown, closed};
 
 // Makes room for a pair and puts it there; the two entries from end on are given up.
@@ -34,17 +35,6 @@ fn move_down(ledger: &mut [u64], to: usize, from: usize, end: usize)
     }
 }
 
-// Puts 0 into every entry.
-pub fn clear(entries: &mut [u64])
-    ensures { λ _. ⌜ now (entries .exit) ≡ replicate (length (now (entries .entry))) 0 ⌝ }
-{
-    let mut i = 0;
-    while i < entries.len() {
-        entries[i] = 0;
-        i += 1;
-    }
-}
-
 // Takes out the entries from `to` up to `from`: those up to end move down, and zeros stand in their place.
 //
 //     .. to ++ from ..... end ..        .. to from ..... 0 0 end ..
@@ -53,5 +43,5 @@ pub fn close(ledger: &mut [u64], to: usize, from: usize, end: usize)
     ensures { λ _. ⌜ now (ledger .exit) ≡ closed (now (ledger .entry)) to from end ⌝ }
 {
     move_down(ledger, to, from, end);
-    clear(&mut ledger[to + (end - from)..end]);
+    entries::clear(&mut ledger[to + (end - from)..end]);
 }

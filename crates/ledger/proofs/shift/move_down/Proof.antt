@@ -1,11 +1,11 @@
 -- `shift::move_down`: the entries from `from` up to k have been copied.
-use Prim.Native.Nat.{suc, _+_, _-_, _≤_, _<_}
-use mathlib.Core.Path.{_≡_, refl, ap, _∙_}
+use Prim.Native.Nat.{_+_, _-_, _≤_}
+use mathlib.Core.Path.{_≡_, refl}
 use native.Mathlib.Omega.{arith}
-use lib.ListN.{length, getD, drop, length-set, length-drop}
-use lib.Seq.{paste, paste-zero, paste-suc}
+use lib.ListN.{length, drop, length-set}
+use lib.Seq.{paste, paste-zero}
 use Rattle.ledger.specs.Claim.{movedDown}
-use Rattle.ledger.proofs.Shifted.{down-at}
+use Rattle.ledger.proofs.Shifted.{down-more}
 use Rattle.ledger.proofs.shift.move_down.Statement.{statement}
 use Rattle.ledger.proofs.shift.move_down.Tie as tie
 
@@ -46,20 +46,12 @@ loop-less c = omega arith
 loop-again : tie.Need-loop-again Inv-loop μ-loop
 loop-again c =
     let l = c .before .before in
-    let x = l .before .args in
-    let s = x .ledger .now in
-    let n = l .loop .k - x .from in
-    let k : l .loop .k ≡ x .from + n = omega arith in
-    let m : l .loop .k + 1 - x .from ≡ suc n = omega arith in
-    let d : n < length (drop (x .from) s) = simp length-drop (omega arith) in
-    let r : getD (l .loop .ledger) (l .loop .k) 0 ≡ getD (drop (x .from) s) n 0 =
-    ap (λ z. getD z (l .loop .k) 0) (l .loop .inv .4) ∙ ap (λ q. getD (paste s (x .to) (drop (x .from) s) n) q 0) k
-    ∙ down-at s (x .to) (x .from) n (omega arith) (omega arith) in (
+    let x = l .before .args in (
       omega arith,
       omega arith,
       omega arith,
       simp length-set (l .loop .inv .3),
-      rw (r, m, l .loop .inv .4, l .loop .inv .2) (paste-suc s (x .to) (drop (x .from) s) n 0 (omega arith) d),
+      down-more (x .ledger .now) (l .loop .ledger) (x .to) (x .from) (l .loop .k) (l .loop .j) (omega arith) (omega arith) (omega arith) (l .loop .inv .4) (l .loop .inv .2),
     )
 
 same-length : tie.Need-same-length Inv-loop μ-loop

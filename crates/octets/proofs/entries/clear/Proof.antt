@@ -1,12 +1,12 @@
--- `shift::clear`: the entries passed are 0.
+-- `entries::clear`: the entries passed are 0.
 use Prim.Native.Nat.{_-_, _≤_}
 use mathlib.Core.Path.{_≡_, refl, _∙_}
 use mathlib.Core.List.{_++_, append-nil}
 use native.Mathlib.Omega.{arith}
 use borrow.Author.Fill.{fill-none, fill-more}
 use lib.ListN.{length, drop, replicate, length-set, drop-of-length-le}
-use Rattle.ledger.proofs.shift.clear.Statement.{statement}
-use Rattle.ledger.proofs.shift.clear.Tie as tie
+use Rattle.octets.proofs.entries.clear.Statement.{statement}
+use Rattle.octets.proofs.entries.clear.Tie as tie
 
 abbrev Inv-loop : tie.InvT-loop
 Inv-loop entries₀ i₀ entries i =
