@@ -1,7 +1,10 @@
 pub mod Pairs
 pub mod Ledger
+pub mod Means
 pub mod Claim
 pub mod RangeText
+pub mod RangeLists
+pub mod Numbers
 pub mod Saved
-pub mod Means
+pub mod SavedTrip
 pub mod ProvedSet

@@ -1,10 +1,13 @@
 -- Restart range lists (document 01, "Control lines"): a-b with commas between, both ends counted, in any order, overlapping or repeated.
-use Prim.Native.Nat.{ℕ, suc, _-_, max}
-use mathlib.Core.Bool.{Bool, cond, _&&_, not}
+use Prim.Native.Nat.{ℕ, suc, _+_, _-_, _<_, max}
+use mathlib.Core.Path.{_≡_}
+use mathlib.Core.Bool.{Bool, true, cond, _&&_, not}
 use mathlib.Core.List.{List, [], _∷_, _++_}
 use lib.Dec.{leb, ltb, eqb}
 use lib.ListN.{length, getD, take, drop, replicate}
 use Rattle.octets.specs.Decimal.{digitRun, digitsOnly, numberOf, decimal}
+use Rattle.octets.specs.declared.decimal.Number.{Number}
+use Rattle.octets.specs.declared.decimal.Number.the-variants.{Value, Nothing}
 use Rattle.ledger.specs.Pairs.{Pairs, none, pair, size, hit, join}
 use Rattle.ledger.specs.Ledger.{lengthWrong, obeys, pairsOf, lent, roomOf}
 use Rattle.ledger.specs.declared.answer.Loaded.{Loaded}
@@ -23,6 +26,10 @@ endLimit = 18446744073709551614
 -- a number of 1 to 20 digits, at most the largest end
 unfoldable pub bound : List ℕ → Bool
 bound text = (leb 1 (length text) && leb (length text) 20) && (digitsOnly text && leb (numberOf text) endLimit)
+
+-- what reading such a number answers
+unfoldable pub boundOf : List ℕ → Number
+boundOf text = cond (bound text) (Value (numberOf text)) Nothing
 
 -- all the text between two commas: a number, a hyphen, and a number that is no less. It holds the places from the first up to the second.
 unfoldable pub rangeOf : List ℕ → Range
@@ -43,6 +50,11 @@ unfoldable pub parts : List ℕ → List (List ℕ)
 parts [] = [] ∷ []
 parts (b ∷ bs) = cond (eqb b 44) ([] ∷ parts bs) (inFront b (parts bs))
 
+-- how many bytes stand before the first comma
+unfoldable pub commaRun : List ℕ → ℕ
+commaRun [] = 0
+commaRun (b ∷ bs) = cond (eqb b 44) 0 (suc (commaRun bs))
+
 -- what a list says: the merged set, or the number of the first trouble in reading order
 pub data Merged : Type 0 where
   merged : Pairs → Merged
@@ -56,6 +68,18 @@ added r ps (Places s e) on = cond (ltb r (size (join s e ps))) (trouble 52) (on 
 unfoldable pub mergedFrom : ℕ → Pairs → List (List ℕ) → Merged
 mergedFrom r ps [] = merged ps
 mergedFrom r ps (t ∷ ts) = added r ps (rangeOf t) (λ qs. mergedFrom r qs ts)
+
+-- one range joined to a ledger, where it has a pair for that
+unfoldable pub fits : ℕ → ℕ → List ℕ → Bool
+fits s e ledger = not (ltb (roomOf ledger) (size (join s e (pairsOf ledger))))
+
+unfoldable pub joinedTo : ℕ → ℕ → List ℕ → List ℕ
+joinedTo s e ledger = cond (fits s e ledger) (lent (roomOf ledger) (join s e (pairsOf ledger))) ledger
+
+-- how the reader's steps answer: 0 with the merged set in the ledger, or the number of the trouble
+pub record Says (m : Merged) (k : ℕ) (ledger : List ℕ) : Type 0 where
+  pub done : k ≡ 0 → (obeys ledger ≡ true) × (m ≡ merged (pairsOf ledger))
+  pub stopped : 0 < k → m ≡ trouble k
 
 unfoldable pub rangesOf : ℕ → List ℕ → Merged
 rangesOf r text = mergedFrom r none (parts text)
@@ -94,6 +118,14 @@ unfoldable pub rangesText : Pairs → List ℕ
 rangesText none = []
 rangesText (pair a b none) = rangeText a b
 rangesText (pair a b (pair c d ps)) = rangeText a b ++ (44 ∷ rangesText (pair c d ps))
+
+-- what stands before a range that n bytes stand before: a comma, unless it is the first
+unfoldable pub comma : ℕ → List ℕ
+comma n = cond (eqb n 0) [] (44 ∷ [])
+
+-- lent bytes with a text put at a place
+unfoldable pub putAt : ℕ → List ℕ → List ℕ → List ℕ
+putAt at text out = take at out ++ (text ++ drop (at + length text) out)
 
 -- 53, 1 where the ledger breaks its rule, 54 where it is empty, 55 where the lent bytes are too few; 0 where it writes
 unfoldable pub rangesNumber : List ℕ → List ℕ → ℕ

@@ -32,6 +32,10 @@ frameNumber kind bytes =
     cond (not (leb frameLength (length bytes) && eqb (fromLittle 256 (take 4 bytes)) (length bytes - 4))) 61
     (cond (not (eqb (kindOf bytes) kind)) 62 0)
 
+-- the six bytes before a body of n bytes
+unfoldable pub frameOf : ℕ → ℕ → List ℕ
+frameOf kind n = toLittle 256 4 (2 + n) ++ toLittle 256 2 kind
+
 -- a record of this kind with this body
 unfoldable pub framed : ℕ → List ℕ → List ℕ
 framed kind body = toLittle 256 4 (2 + length body) ++ (toLittle 256 2 kind ++ body)

@@ -2,6 +2,7 @@
 //
 // What a ledger that breaks its rule is answered is open wherever a contract here asks that it obeys: such a ledger has no order to
 // search by, and each entry that is lent one refuses it before it comes here.
+use crate::rule;
 use crate::shift;
 ghost use mathlib.Core.Path.{_≡_};
 ghost use mathlib.Core.Bool.{true, _&&_};
@@ -163,7 +164,7 @@ pub fn put(ledger: &mut [u64], spot: Spot, start: u64, end: u64)
     if room < past {
         return;
     }
-    let used = reach(ledger, past, 18446744073709551615);
+    let used = reach(ledger, past, rule::LARGEST);
     if at != past {
         widen(ledger, at, past, used, start, end);
         return;

@@ -7,6 +7,8 @@ ghost use Rattle.ledger.specs.Ledger.{lengthWrong, zeros, follows, obeys
 
 // The most entries that a ledger may have.
 pub const ENTRY_LIMIT: usize = 8192;
+// The largest number that an entry can be.
+pub const LARGEST: u64 = 18446744073709551615;
 
 // Whether a ledger has an odd number of entries, or too many: refusal 53.
 pub fn length_wrong(ledger: &[u64]) -> bool
@@ -33,7 +35,7 @@ fn all_zero(entries: &[u64]) -> bool
 }
 
 // Whether a pair that starts at a may stand behind one that ends at end; an end of 0 says that there is none before it.
-fn may_follow(end: u64, a: u64) -> bool
+pub(crate) fn may_follow(end: u64, a: u64) -> bool
     ensures { λ r. ⌜ r ≡ follows end a ⌝ }
 {
     if end == 0 {
@@ -83,8 +85,8 @@ fn above(b: u64, a: u64) -> u64
 fn at_most(n: u64, d: u64) -> u64
     ensures { λ r. ⌜ r ≡ min 18446744073709551615 (n + d) ⌝ }
 {
-    if 18446744073709551615 - n < d {
-        return 18446744073709551615;
+    if LARGEST - n < d {
+        return LARGEST;
     }
     n + d
 }
