@@ -1,6 +1,9 @@
 // Examples of document 01 that are run: a line for each, held against the file `stdout`. Bytes are printed in hexadecimal, none as '-'.
 use control::line;
 use control::line::Line;
+use ledger::answer::Loaded;
+use ledger::answer::Written;
+use ledger::saved;
 use libc::STDOUT_FILENO;
 
 fn print_bytes(bytes: &[u8]) {
@@ -52,6 +55,55 @@ fn command_lines() {
     show_line(b"MODE1");
 }
 
+// A ledger saved into 24 bytes that hold EE: what was written, and the whole of them.
+fn show_saved(ledger: &[u64]) {
+    let mut out = [238u8; 24];
+    let answer = saved::write(ledger, &mut out);
+    match answer {
+        Written::Bytes(n) => {
+            io::write_all(STDOUT_FILENO, b"SAVED ");
+            io::print_decimal(STDOUT_FILENO, n as u64);
+            io::write_all(STDOUT_FILENO, b" ");
+            print_bytes(&out);
+            io::write_all(STDOUT_FILENO, b"\n");
+        }
+        Written::Refused(k) => print_refused(k),
+    }
+}
+
+// A saved record read into a ledger of two pairs that hold 7.
+fn show_loaded(bytes: &[u8]) {
+    let mut ledger = [7u64; 4];
+    let answer = saved::read(bytes, &mut ledger);
+    match answer {
+        Loaded::Done => {
+            io::write_all(STDOUT_FILENO, b"LOADED ");
+            print_entries(&ledger);
+        }
+        Loaded::Refused(k) => print_refused(k),
+    }
+}
+
+fn print_entries(entries: &[u64; 4]) {
+    io::print_decimal(STDOUT_FILENO, entries[0]);
+    io::write_all(STDOUT_FILENO, b",");
+    io::print_decimal(STDOUT_FILENO, entries[1]);
+    io::write_all(STDOUT_FILENO, b",");
+    io::print_decimal(STDOUT_FILENO, entries[2]);
+    io::write_all(STDOUT_FILENO, b",");
+    io::print_decimal(STDOUT_FILENO, entries[3]);
+    io::write_all(STDOUT_FILENO, b"\n");
+}
+
+fn saved_ledgers() {
+    show_saved(&[0, 0]);
+    show_saved(&[0, 90, 0, 0]);
+    show_loaded(b"\x02\0\0\0\x01\0");
+    show_loaded(b"\x12\0\0\0\x01\0\0\0\0\0\0\0\0\0\x5A\0\0\0\0\0\0\0");
+    show_loaded(b"\x12\0\0\0\x02\0\0\0\0\0\0\0\0\0\x5A\0\0\0\0\0\0\0");
+}
+
 fn main() {
     command_lines();
+    saved_ledgers();
 }

@@ -2,6 +2,7 @@ pub mod Pairs
 pub mod Ledger
 pub mod Means
 pub mod Claim
+pub mod Answer
 pub mod RangeText
 pub mod RangeLists
 pub mod Numbers
