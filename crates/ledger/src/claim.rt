@@ -26,7 +26,7 @@ pub enum Room {
 }
 
 // The place for a range: the number of used pairs that end below its start.
-pub fn place(ledger: &[u64], start: u64) -> usize
+fn place(ledger: &[u64], start: u64) -> usize
     ensures { λ r. ⌜ (r ≤ roomOf (now (ledger .entry))) × (obeys (now (ledger .entry)) ≡ true → r ≡ below start (pairsOf (now (ledger .entry)))) ⌝ }
 {
     let room = ledger.len() / 2;
@@ -64,7 +64,7 @@ fn reach(ledger: &[u64], at: usize, end: u64) -> usize
 }
 
 // Where the range from start to end goes.
-pub fn locate(ledger: &[u64], start: u64, end: u64) -> Spot
+pub(crate) fn locate(ledger: &[u64], start: u64, end: u64) -> Spot
     ensures { λ r. ⌜ (r .at ≤ r .past) × (r .past ≤ roomOf (now (ledger .entry))) × (obeys (now (ledger .entry)) ≡ true → start < end → r ≡ spotOf start end (pairsOf (now (ledger .entry)))) ⌝ }
 {
     let at = place(ledger, start);
@@ -98,7 +98,7 @@ fn overlaps(ledger: &[u64], at: usize, past: usize, start: u64, end: u64) -> boo
 }
 
 // Whether the ledger lacks a pair for a range that goes there.
-pub fn full(ledger: &[u64], spot: Spot) -> bool
+pub(crate) fn full(ledger: &[u64], spot: Spot) -> bool
     ensures { λ r. ⌜ r ≡ isFull spot (now (ledger .entry)) ⌝ }
 {
     if spot.at != spot.past {
