@@ -1,0 +1,31 @@
+-- Lists of calls: each gets transfer, file and ledger as the last left them.
+use Prim.Native.Nat.{ℕ}
+use mathlib.Core.List.{List, [], _∷_}
+use lib.ListN.{length}
+use Rattle.transfer.specs.Transfer.{World, world, startOf, startLeaves}
+use Rattle.transfer.specs.Receive.{Answer, receiveOf}
+
+pub data Call : Type 0 where
+  -- a piece on a channel
+  receive : ℕ → List ℕ → Call
+
+unfoldable pub callOf : World → Call → Answer × World
+callOf w (receive c piece) = receiveOf w c piece
+
+-- the answers, and what the last call left
+unfoldable pub runBy {ℓ} : {W : Type ℓ} → (W → Call → Answer × W) → W → List Call → List Answer × W
+runBy f w [] = ([], w)
+runBy f w (k ∷ ks) =
+    let a = f w k in
+    let r = runBy f (a .1) ks in
+    (a .0 ∷ r .0, r .1)
+
+-- what start leaves of a lent ledger, with a file of the length that it was told
+unfoldable pub begun : List ℕ → List ℕ → World
+begun file claimed = world (startOf (length file) claimed) file (startLeaves claimed)
+
+abbrev pub answersOf : World → List Call → List Answer
+answersOf w ks = runBy callOf w ks .0
+
+abbrev pub after : World → List Call → World
+after w ks = runBy callOf w ks .1

@@ -1,0 +1,41 @@
+-- A header judged at its 17th byte (document 01, "One transfer"), in two stages: by the transfer alone, then by the ledger.
+use Prim.Native.Nat.{ℕ, _+_}
+use mathlib.Core.Bool.{Bool, cond, _||_}
+use mathlib.Core.List.{List}
+use lib.Dec.{ltb, eqb}
+use Rattle.ledger.specs.Pairs.{Pairs, size, join, shares}
+use Rattle.eblock.specs.Descriptor.{has, eodc, endOfData, faultOf}
+use Rattle.eblock.specs.Header.{countLimit, descriptorOf, secondOf, thirdOf}
+
+abbrev pub isCount : List ℕ → Bool
+isCount h = has eodc (descriptorOf h)
+
+-- the channel ends after this block
+abbrev pub endsChannel : List ℕ → Bool
+endsChannel h = has endOfData (descriptorOf h)
+
+-- how many payload bytes follow
+unfoldable pub payloadLength : List ℕ → ℕ
+payloadLength h = cond (isCount h) 0 (secondOf h)
+
+-- what a header asks for: a count, a range to be claimed, or neither; or the number of its fault
+pub data Asks : Type 0 where
+  counts : ℕ → Asks
+  claims : ℕ → ℕ → Asks
+  nothing : Asks
+  faulty : ℕ → Asks
+
+-- 11, 12, 13; for a count 14, then 15; for a payload 16. `known` is 0 where no count is known.
+unfoldable pub askedOf : ℕ → ℕ → ℕ → List ℕ → Asks
+askedOf F known used h =
+    let n = thirdOf h in
+    let offset = thirdOf h in
+    let len = secondOf h in
+    cond (ltb 0 (faultOf (descriptorOf h))) (faulty (faultOf (descriptorOf h)))
+    (cond (isCount h)
+    (cond (ltb 0 known) (faulty 14) (cond (eqb n 0 || (ltb countLimit n || ltb n used)) (faulty 15) (counts n)))
+    (cond (eqb len 0) nothing (cond (ltb F (offset + len)) (faulty 16) (claims offset (offset + len)))))
+
+-- 17 where the range shares a byte with a claimed one, 18 where the ledger would need more than R pairs, 0 where it is claimed
+unfoldable pub claimFault : ℕ → Pairs → ℕ → ℕ → ℕ
+claimFault R ps s e = cond (shares s e ps) 17 (cond (ltb R (size (join s e ps))) 18 0)

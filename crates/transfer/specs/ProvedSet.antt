@@ -1,0 +1,100 @@
+-- The proved set of the receiver: document 01's examples of headers, claims, counts and channels, and each refusal and fault that a call can
+-- reach, as one statement over a list of cases.
+use Prim.Native.Nat.{ℕ, _*_}
+use mathlib.Core.Path.{_≡_}
+use mathlib.Core.List.{List, [], _∷_, _++_}
+use lib.ListN.{replicate}
+use Rattle.eblock.specs.Header.{bytesOf}
+use Rattle.transfer.specs.Transfer.{Verdict, guess, result, broken, verdictOf, storedOf}
+use Rattle.transfer.specs.Receive.{Answer, refused, took}
+use Rattle.transfer.specs.Calls.{Call, receive, begun, answersOf, after}
+
+-- from a file of so many zero bytes and a ledger of so many pairs, the calls are answered so and leave this
+pub record Case : Type 0 where
+  pub bytes : ℕ
+  pub pairs : ℕ
+  pub calls : List Call
+  pub answers : List Answer
+  pub shows : Verdict
+  pub fault : ℕ
+  pub on : ℕ
+  pub stored : ℕ
+  pub claimed : List ℕ
+
+abbrev pub Holds : Case → Type 0
+Holds k =
+    let w = begun (replicate (k .bytes) 0) (replicate (2 * k .pairs) 7) in
+    let v = after w (k .calls) in
+    (answersOf w (k .calls) ≡ k .answers)
+    × (verdictOf v ≡ k .shows)
+    × (v .t .fault ≡ k .fault)
+    × (v .t .on ≡ k .on)
+    × (storedOf v ≡ k .stored)
+    × (v .lent .claimed ≡ k .claimed)
+
+abbrev pub AllHold : List Case → Type 0
+AllHold [] = Unit {0}
+AllHold (k ∷ ks) = Holds k × AllHold ks
+
+-- "plai" and "d123"
+abbrev plai : List ℕ
+plai = 112 ∷ 108 ∷ 97 ∷ 105 ∷ []
+
+abbrev d123 : List ℕ
+d123 = 100 ∷ 49 ∷ 50 ∷ 51 ∷ []
+
+abbrev first : Call
+first = receive 0 (bytesOf 0 4 0 ++ plai)
+
+abbrev second : Call
+second = receive 1 (bytesOf 8 4 4 ++ d123)
+
+abbrev third : Call
+third = receive 0 (bytesOf 72 0 2)
+
+-- a case that ends in a fault, or goes on
+abbrev breaks : ℕ → ℕ → List Call → List Answer → ℕ → ℕ → ℕ → List ℕ → Case
+breaks f r ks said k c n l =
+    record { bytes = f; pairs = r; calls = ks; answers = said; shows = broken; fault = k; on = c; stored = n; claimed = l }
+
+abbrev goesOn : ℕ → ℕ → List Call → List Answer → Verdict → ℕ → List ℕ → Case
+goesOn f r ks said v n l = record { bytes = f; pairs = r; calls = ks; answers = said; shows = v; fault = 0; on = 0; stored = n; claimed = l }
+
+abbrev pub cases : List Case
+cases =
+    -- the screen line's example, call by call
+    goesOn 8 1 (first ∷ []) (took 21 ∷ []) guess 4 (0 ∷ 4 ∷ [])
+    ∷ goesOn 8 1 (first ∷ second ∷ []) (took 21 ∷ took 21 ∷ []) guess 8 (0 ∷ 8 ∷ [])
+    ∷ goesOn 8 1 (first ∷ second ∷ third ∷ []) (took 21 ∷ took 21 ∷ took 17 ∷ []) result 8 (0 ∷ 8 ∷ [])
+    -- after RESULT every call is 3, 1 and 2 before it
+    ∷ goesOn 8 1 (first ∷ second ∷ third ∷ receive 5 [] ∷ receive 64 [] ∷ []) (took 21 ∷ took 21 ∷ took 17 ∷ refused 3 ∷ refused 2 ∷ []) result 8 (0 ∷ 8 ∷ [])
+    -- a range up to F, one past it, and an empty one far behind it
+    ∷ goesOn 8 1 (receive 0 (bytesOf 0 4 4) ∷ []) (took 17 ∷ []) guess 0 (4 ∷ 8 ∷ [])
+    ∷ breaks 8 1 (receive 0 (bytesOf 0 4 5) ∷ []) (took 17 ∷ []) 16 0 0 (0 ∷ 0 ∷ [])
+    ∷ goesOn 8 0 (receive 0 (bytesOf 0 0 100) ∷ []) (took 17 ∷ []) guess 0 []
+    -- offset and length of which the sum does not fit 64 bits
+    ∷ breaks 8 1 (receive 0 (bytesOf 0 18446744073709551615 18446744073709551615) ∷ []) (took 17 ∷ []) 16 0 0 (0 ∷ 0 ∷ [])
+    -- bytes 0 to 3 claimed: 3 to 4 is 17, 4 to 5 joins them, 6 to 7 lacks a pair
+    ∷ breaks 8 1 (receive 0 (bytesOf 0 4 0) ∷ receive 1 (bytesOf 0 2 3) ∷ []) (took 17 ∷ took 17 ∷ []) 17 1 0 (0 ∷ 4 ∷ [])
+    ∷ goesOn 8 1 (receive 0 (bytesOf 0 4 0) ∷ receive 1 (bytesOf 0 2 4) ∷ []) (took 17 ∷ took 17 ∷ []) guess 0 (0 ∷ 6 ∷ [])
+    ∷ breaks 8 1 (receive 0 (bytesOf 0 4 0) ∷ receive 1 (bytesOf 0 2 6) ∷ []) (took 17 ∷ took 17 ∷ []) 18 1 0 (0 ∷ 4 ∷ [])
+    -- descriptors
+    ∷ breaks 8 1 (receive 0 (bytesOf 17 0 0) ∷ []) (took 17 ∷ []) 11 0 0 (0 ∷ 0 ∷ [])
+    ∷ breaks 8 1 (receive 0 (bytesOf 144 0 0) ∷ []) (took 17 ∷ []) 12 0 0 (0 ∷ 0 ∷ [])
+    ∷ breaks 8 1 (receive 0 (bytesOf 4 0 0) ∷ []) (took 17 ∷ []) 13 0 0 (0 ∷ 0 ∷ [])
+    -- counts: 0, 65, 64, fewer than are used, a second one
+    ∷ breaks 8 1 (receive 3 (bytesOf 64 0 0) ∷ []) (took 17 ∷ []) 15 3 0 (0 ∷ 0 ∷ [])
+    ∷ breaks 8 1 (receive 3 (bytesOf 64 0 65) ∷ []) (took 17 ∷ []) 15 3 0 (0 ∷ 0 ∷ [])
+    ∷ goesOn 8 1 (receive 3 (bytesOf 64 0 64) ∷ []) (took 17 ∷ []) guess 0 (0 ∷ 0 ∷ [])
+    ∷ breaks 8 1 (receive 0 (0 ∷ []) ∷ receive 1 (bytesOf 64 0 1) ∷ []) (took 1 ∷ took 17 ∷ []) 15 1 0 (0 ∷ 0 ∷ [])
+    ∷ breaks 8 1 (receive 0 (bytesOf 64 0 2 ++ bytesOf 64 0 2) ∷ []) (took 34 ∷ []) 14 0 0 (0 ∷ 0 ∷ [])
+    -- n = 2, two used: a byte on a third is not taken
+    ∷ breaks 8 1 (receive 0 (bytesOf 64 0 2) ∷ receive 1 (0 ∷ []) ∷ receive 2 (0 ∷ []) ∷ []) (took 17 ∷ took 1 ∷ took 0 ∷ []) 19 2 0 (0 ∷ 0 ∷ [])
+    -- where a channel ends, the rest of the piece is left; offered again it is 4, and an empty piece is accepted
+    ∷ goesOn 8 1 (receive 0 (bytesOf 8 0 0 ++ (1 ∷ [])) ∷ receive 0 (1 ∷ []) ∷ receive 0 [] ∷ []) (took 17 ∷ refused 4 ∷ took 0 ∷ []) guess 0 (0 ∷ 0 ∷ [])
+    -- channel 64 is none
+    ∷ goesOn 8 1 (receive 64 (0 ∷ []) ∷ []) (refused 2 ∷ []) guess 0 (0 ∷ 0 ∷ [])
+    ∷ []
+
+abbrev pub ProvedSet : Type 0
+ProvedSet = AllHold cases

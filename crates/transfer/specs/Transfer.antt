@@ -1,0 +1,94 @@
+-- What a transfer counts, its verdict, its stored bytes, and the fresh one (document 01, "One transfer").
+use Prim.Native.Nat.{ℕ, _+_, _*_, _-_}
+use mathlib.Core.Bool.{Bool, cond, _&&_}
+use mathlib.Core.List.{List, [], _∷_}
+use lib.Dec.{ltb, eqb}
+use lib.ListN.{length, replicate}
+use Rattle.ledger.specs.Pairs.{total}
+use Rattle.ledger.specs.Ledger.{lengthWrong, pairsOf, roomOf}
+use Rattle.transfer.specs.declared.state.Channel.{Channel}
+use Rattle.transfer.specs.declared.state.Transfer.{Transfer}
+use Rattle.transfer.specs.Channel.{channelCount, heldLimit}
+
+-- ---- counts over the channels
+
+-- a number for each, added up
+unfoldable pub sum {ℓ} : {A : Type ℓ} → (A → ℕ) → List A → ℕ
+sum f [] = 0
+sum f (x ∷ xs) = f x + sum f xs
+
+abbrev pub isEnded : Channel → ℕ
+isEnded k = cond (eqb (k .state) 4) 1 0
+
+-- in a header or in a payload
+abbrev pub isAlive : Channel → ℕ
+isAlive k = cond (ltb 0 (k .state) && ltb (k .state) 4) 1 0
+
+unfoldable pub endedOf : Transfer → ℕ
+endedOf t = sum isEnded (t .channels)
+
+-- the channels not unused: those that have ended and those that are alive
+unfoldable pub usedOf : Transfer → ℕ
+usedOf t = endedOf t + sum isAlive (t .channels)
+
+-- the bytes left in all payloads
+unfoldable pub leftOf : Transfer → ℕ
+leftOf t = sum (λ k. k .left) (t .channels)
+
+-- ---- what is lent, and the world: all that a call is given and leaves
+
+pub record Lent : Type 0 where
+  pub file : List ℕ
+  pub claimed : List ℕ
+
+pub record World : Type 0 where
+  pub t : Transfer
+  pub lent : Lent
+
+abbrev pub world : Transfer → List ℕ → List ℕ → World
+world t file claimed = record { t = t; lent = record { file = file; claimed = claimed } }
+
+abbrev pub withTransfer : World → Transfer → World
+withTransfer w t = record { t = t; lent = w .lent }
+
+-- ---- the verdict
+
+pub data Verdict : Type 0 where
+  guess : Verdict
+  result : Verdict
+  broken : Verdict
+
+-- a count is known and as many channels have ended
+unfoldable pub isFinal : Transfer → Bool
+isFinal t = ltb 0 (t .count) && eqb (endedOf t) (t .count)
+
+unfoldable pub verdictOf : World → Verdict
+verdictOf w = cond (ltb 0 (w .t .fault)) broken (cond (isFinal (w .t)) result guess)
+
+-- claimed bytes less those left in all payloads
+unfoldable pub storedOf : World → ℕ
+storedOf w = total (pairsOf (w .lent .claimed)) - leftOf (w .t)
+
+-- ---- start
+
+unfoldable pub fresh : ℕ → ℕ → Transfer
+fresh f r =
+    record {
+      len = f;
+      pairs = r;
+      count = 0;
+      fault = 0;
+      on = 0;
+      heads = replicate (heldLimit * channelCount) 0;
+      channels = replicate channelCount (record { state = 0; held = 0; next = 0; left = 0 });
+    }
+
+-- refusal 5, or 0
+unfoldable pub startNumber : List ℕ → ℕ
+startNumber claimed = cond (lengthWrong claimed) 5 0
+
+unfoldable pub startOf : ℕ → List ℕ → Transfer
+startOf f claimed = cond (lengthWrong claimed) (fresh 0 0) (fresh f (roomOf claimed))
+
+unfoldable pub startLeaves : List ℕ → List ℕ
+startLeaves claimed = cond (lengthWrong claimed) claimed (replicate (length claimed) 0)
