@@ -7,7 +7,7 @@ use native.Mathlib.Omega.{arith}
 use lib.ListN.{length, take, drop, replicate, length-append, length-replicate}
 use lib.Seq.{getD-set-same, set-set, take-at, drop-at, length-take-le}
 use Rattle.transfer.specs.declared.state.Transfer.{Transfer}
-use Rattle.transfer.specs.Channel.{heldLimit, State, unused, header, payload, ended, stateNumber, heldNumber, nextNumber, leftNumber, heldBytes, numbersOf, readState, stateAt, putState}
+use Rattle.transfer.specs.Channel.{heldLimit, blank, State, unused, header, payload, ended, stateNumber, heldNumber, nextNumber, leftNumber, heldBytes, numbersOf, readState, stateAt, putState}
 
 -- the transfer has the channel c, and its held bytes
 pub record Has (t : Transfer) (c : ℕ) : Type 0 where
@@ -47,7 +47,7 @@ module _ (t : Transfer) (c : ℕ) (a : Has t c) where
   unfolding stateAt putState numbersOf
   get-put x =
       rw (
-        getD-set-same (t .channels) c (numbersOf x) (record { state = 0; held = 0; next = 0; left = 0 }) (a .row),
+        getD-set-same (t .channels) c (numbersOf x) blank (a .row),
         drop-at (take (heldLimit * c) (t .heads)) (heldBytes x ++ drop (heldLimit * c + heldLimit) (t .heads)) (heldLimit * c) front-length,
       )
       (read-back x (drop (heldLimit * c + heldLimit) (t .heads)))

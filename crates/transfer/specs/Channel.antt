@@ -67,13 +67,14 @@ readState (suc (suc zero)) h p n = payload p n false
 readState (suc (suc (suc zero))) h p n = payload p n true
 readState (suc (suc (suc (suc s)))) h p n = ended
 
-unfoldable pub none : Channel
-none = record { state = 0; held = 0; next = 0; left = 0 }
+-- an unused channel's
+abbrev pub blank : Channel
+blank = record { state = 0; held = 0; next = 0; left = 0 }
 
 -- ---- in the transfer
 
 abbrev pub channelAt : Transfer → ℕ → Channel
-channelAt t c = getD (t .channels) c (record { state = 0; held = 0; next = 0; left = 0 })
+channelAt t c = getD (t .channels) c blank
 
 unfoldable pub stateAt : Transfer → ℕ → State
 stateAt t c =

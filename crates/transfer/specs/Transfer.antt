@@ -8,7 +8,7 @@ use Rattle.ledger.specs.Pairs.{total}
 use Rattle.ledger.specs.Ledger.{lengthWrong, pairsOf, roomOf}
 use Rattle.transfer.specs.declared.state.Channel.{Channel}
 use Rattle.transfer.specs.declared.state.Transfer.{Transfer}
-use Rattle.transfer.specs.Channel.{channelCount, heldLimit}
+use Rattle.transfer.specs.Channel.{channelCount, heldLimit, blank}
 
 -- ---- counts over the channels
 
@@ -80,7 +80,7 @@ fresh f r =
       fault = 0;
       on = 0;
       heads = replicate (heldLimit * channelCount) 0;
-      channels = replicate channelCount (record { state = 0; held = 0; next = 0; left = 0 });
+      channels = replicate channelCount blank;
     }
 
 -- refusal 5, or 0

@@ -1,0 +1,5 @@
+pub mod Claimed
+pub mod Counted
+pub mod Placed
+pub mod Cuts
+pub mod Views
