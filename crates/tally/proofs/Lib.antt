@@ -3,3 +3,5 @@ pub mod Counted
 pub mod Placed
 pub mod Cuts
 pub mod Views
+pub mod Shapes
+pub mod Streams

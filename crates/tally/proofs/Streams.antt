@@ -1,0 +1,54 @@
+-- All channels: what holds of each, the blocks round one channel's, and a sum when one channel changes.
+use Prim.Native.Nat.{ℕ, zero, suc, _+_, _<_}
+use mathlib.Core.Path.{_≡_, refl, sym, ap, _∙_}
+use mathlib.Core.List.{List, [], _∷_, _++_, append-assoc}
+use native.Mathlib.Omega.{arith}
+use lib.ListN.{length, getD, set}
+use Rattle.transfer.specs.Transfer.{sum}
+use Rattle.transfer.specs.Receive.{isSome}
+use Rattle.tally.specs.Block.{Block}
+use Rattle.tally.specs.Tally.{Stream, sound, taken, accepted, blocksOf}
+use Rattle.tally.proofs.Placed.{Bodies, bodies-append}
+use Rattle.tally.proofs.Views.{view}
+use Rattle.tally.proofs.Shapes.{Proper, kind, kind-bodies}
+
+abbrev pub AllProper : List Stream → Type 0
+AllProper [] = Unit
+AllProper (s ∷ ss) = Proper s × AllProper ss
+
+pub proper-set : (ss : List Stream) (c : ℕ) (s : Stream) → AllProper ss → Proper s → AllProper (set ss c s)
+proper-set [] c s a o = tt
+proper-set (x ∷ ss) zero s a o = (o, a .1)
+proper-set (x ∷ ss) (suc c) s a o = (a .0, proper-set ss c s (a .1) o)
+
+pub proper-bodies : (ss : List Stream) → AllProper ss → Bodies (blocksOf ss)
+unfolding blocksOf
+proper-bodies [] a = tt
+proper-bodies (s ∷ ss) a =
+    bodies-append (accepted s) (blocksOf ss) (kind-bodies (view s) (accepted s) (isSome (taken s)) (kind s (a .0))) (proper-bodies ss (a .1))
+
+-- the blocks of all channels, round those of channel c
+pub record Split (ss : List Stream) (c : ℕ) : Type 0 where
+  pub front : List Block
+  pub back : List Block
+  pub now : blocksOf ss ≡ front ++ (accepted (getD ss c (sound [])) ++ back)
+  pub then : (s : Stream) → blocksOf (set ss c s) ≡ front ++ (accepted s ++ back)
+
+pub split : (ss : List Stream) (c : ℕ) → c < length ss → Split ss c
+unfolding blocksOf
+split [] c h = absurd (omega arith)
+split (x ∷ ss) zero h = record { front = []; back = blocksOf ss; now = refl; then = λ s. refl }
+split (x ∷ ss) (suc c) h =
+    let r : Split ss c = split ss c (omega arith) in
+    record {
+      front = accepted x ++ r .front;
+      back = r .back;
+      now = ap {B = List Block} (λ xs. accepted x ++ xs) (r .now) ∙ sym (append-assoc (accepted x) (r .front) (accepted (getD ss c (sound [])) ++ r .back));
+      then = λ s. ap {B = List Block} (λ xs. accepted x ++ xs) (r .then s) ∙ sym (append-assoc (accepted x) (r .front) (accepted s ++ r .back));
+    }
+
+pub sum-set : (f : Stream → ℕ) (ss : List Stream) (c : ℕ) (s : Stream) → c < length ss → sum f (set ss c s) + f (getD ss c (sound [])) ≡ sum f ss + f s
+unfolding sum
+sum-set f [] c s h = absurd (omega arith)
+sum-set f (x ∷ ss) zero s h = omega arith
+sum-set f (x ∷ ss) (suc c) s h = omega (arith, sum-set f ss c s (omega arith))
