@@ -5,3 +5,4 @@ pub mod Cuts
 pub mod Views
 pub mod Shapes
 pub mod Streams
+pub mod States

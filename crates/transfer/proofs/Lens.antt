@@ -30,7 +30,7 @@ length-heldBytes (payload p n e) s = refl
 length-heldBytes ended s = refl
 
 -- the numbers and the bytes of a state stand for it
-read-back : (x : State) (rest : List ℕ) → readState (stateNumber x) (take (heldNumber x) (heldBytes x ++ rest)) (nextNumber x) (leftNumber x) ≡ x
+pub read-back : (x : State) (rest : List ℕ) → readState (stateNumber x) (take (heldNumber x) (heldBytes x ++ rest)) (nextNumber x) (leftNumber x) ≡ x
 unfolding readState stateNumber heldNumber heldBytes nextNumber leftNumber
 read-back unused rest = refl
 read-back (header h) rest =

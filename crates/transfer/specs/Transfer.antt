@@ -17,19 +17,19 @@ unfoldable pub sum {ℓ} : {A : Type ℓ} → (A → ℕ) → List A → ℕ
 sum f [] = 0
 sum f (x ∷ xs) = f x + sum f xs
 
-abbrev pub isEnded : Channel → ℕ
-isEnded k = cond (eqb (k .state) 4) 1 0
+abbrev pub oneIfEnded : Channel → ℕ
+oneIfEnded k = cond (eqb (k .state) 4) 1 0
 
 -- in a header or in a payload
-abbrev pub isAlive : Channel → ℕ
-isAlive k = cond (ltb 0 (k .state) && ltb (k .state) 4) 1 0
+abbrev pub oneIfAlive : Channel → ℕ
+oneIfAlive k = cond (ltb 0 (k .state) && ltb (k .state) 4) 1 0
 
 unfoldable pub endedOf : Transfer → ℕ
-endedOf t = sum isEnded (t .channels)
+endedOf t = sum oneIfEnded (t .channels)
 
 -- the channels not unused: those that have ended and those that are alive
 unfoldable pub usedOf : Transfer → ℕ
-usedOf t = endedOf t + sum isAlive (t .channels)
+usedOf t = endedOf t + sum oneIfAlive (t .channels)
 
 -- the bytes left in all payloads
 unfoldable pub leftOf : Transfer → ℕ

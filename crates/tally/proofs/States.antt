@@ -1,0 +1,156 @@
+-- The transfer as a function of the tally: read channel by channel, written channel by channel, and counted.
+use Prim.Native.Nat.{ℕ, zero, suc, _+_, _*_, _<_}
+use mathlib.Core.Path.{_≡_, refl, sym, ap, _∙_}
+use mathlib.Core.Bool.{true, false, cond}
+use mathlib.Core.List.{List, [], _∷_, _++_, append-assoc, map}
+use native.Mathlib.Omega.{arith}
+use lib.Dec.{eqb}
+use lib.ListN.{length, getD, set, take, drop, length-append, List·getD-map}
+use lib.Seq.{drop-at, take-append-add, drop-append-add}
+use Rattle.ledger.specs.Pairs.{Pairs}
+use Rattle.ledger.specs.Ledger.{lent}
+use Rattle.transfer.specs.declared.state.Channel.{Channel}
+use Rattle.transfer.specs.declared.state.Transfer.{Transfer}
+use Rattle.transfer.specs.Channel.{heldLimit, blank, State, unused, header, payload, ended, stateNumber, heldNumber, nextNumber, leftNumber, heldBytes, numbersOf, stateAt, putState, putFault, putCount}
+use Rattle.transfer.specs.Transfer.{sum, oneIfEnded, oneIfAlive, endedOf, usedOf, World, world}
+use Rattle.transfer.specs.Receive.{isSome, isEnded}
+use Rattle.transfer.proofs.Lens.{length-heldBytes, read-back}
+use Rattle.tally.specs.Block.{placed}
+use Rattle.tally.specs.Tally.{Tally, Stream, sound, taken, accepted, blocksOf, known, claimed, one, used, endedIn, streamAt, withStream, withFault}
+use Rattle.tally.proofs.Views.{view}
+use Rattle.tally.proofs.Shapes.{Proper, kind, kind-stands, kind-used, kind-ended}
+use Rattle.tally.proofs.Streams.{AllProper}
+
+-- ---- the transfer, the file and the ledger of a tally
+
+unfoldable pub rowOf : Stream → Channel
+rowOf s = numbersOf (view s)
+
+unfoldable pub headsOf : List Stream → List ℕ
+headsOf [] = []
+headsOf (s ∷ ss) = heldBytes (view s) ++ headsOf ss
+
+unfoldable pub transferOf : ℕ → ℕ → Tally → Transfer
+transferOf F R t =
+    record { len = F; pairs = R; count = known (t .streams); fault = t .fault; on = t .on; heads = headsOf (t .streams); channels = map rowOf (t .streams) }
+
+unfoldable pub worldOf : ℕ → ℕ → Pairs → List ℕ → Tally → World
+worldOf F R before file t = world (transferOf F R t) (placed (blocksOf (t .streams)) file) (lent R (claimed before (t .streams)))
+
+-- ---- held bytes
+
+-- each channel's take their 16 places
+held-length : (s : Stream) → Proper s → length (heldBytes (view s)) ≡ heldLimit
+held-length s o = length-heldBytes (view s) (kind-stands (view s) (accepted s) (isSome (taken s)) (kind s o))
+
+pub length-headsOf : (ss : List Stream) → AllProper ss → length (headsOf ss) ≡ heldLimit * length ss
+unfolding headsOf
+length-headsOf [] a = refl
+length-headsOf (s ∷ ss) a = omega (arith, length-append (heldBytes (view s)) (headsOf ss), held-length s (a .0), length-headsOf ss (a .1))
+
+-- behind the first channel's
+module _ (s : Stream) (ss : List Stream) (n : ℕ) (e : length (heldBytes (view s)) ≡ heldLimit) where
+  heads-front : take (heldLimit + n) (heldBytes (view s) ++ headsOf ss) ≡ heldBytes (view s) ++ take n (headsOf ss)
+  heads-front = ap (λ k. take (k + n) (heldBytes (view s) ++ headsOf ss)) (sym e) ∙ take-append-add (heldBytes (view s)) (headsOf ss) n
+
+  heads-back : drop (heldLimit + n) (heldBytes (view s) ++ headsOf ss) ≡ drop n (headsOf ss)
+  heads-back = ap (λ k. drop (k + n) (heldBytes (view s) ++ headsOf ss)) (sym e) ∙ drop-append-add (heldBytes (view s)) (headsOf ss) n
+
+heads-set : (ss : List Stream) (c : ℕ) (s : Stream) → AllProper ss → c < length ss
+    → headsOf (set ss c s) ≡ take (heldLimit * c) (headsOf ss) ++ (heldBytes (view s) ++ drop (heldLimit * c + heldLimit) (headsOf ss))
+unfolding headsOf
+heads-set [] c s a h = absurd (omega arith)
+heads-set (x ∷ ss) zero s a h = ap {B = List ℕ} (λ r. heldBytes (view s) ++ r) (sym (drop-at (heldBytes (view x)) (headsOf ss) heldLimit (held-length x (a .0))))
+heads-set (x ∷ ss) (suc c) s a h =
+    let e = held-length x (a .0) in
+    let p : heldLimit * suc c ≡ heldLimit + heldLimit * c = omega arith in
+    let q : heldLimit * suc c + heldLimit ≡ heldLimit + (heldLimit * c + heldLimit) = omega arith in
+    let all = heldBytes (view x) ++ headsOf ss in
+    let before : take (heldLimit * suc c) all ≡ heldBytes (view x) ++ take (heldLimit * c) (headsOf ss) = ap (λ n. take n all) p ∙ heads-front x ss (heldLimit * c) e in
+    let behind : drop (heldLimit * suc c + heldLimit) all ≡ drop (heldLimit * c + heldLimit) (headsOf ss) = ap (λ n. drop n all) q ∙ heads-back x ss (heldLimit * c + heldLimit) e in
+    let middle = heldBytes (view s) ++ drop (heldLimit * c + heldLimit) (headsOf ss) in
+    ap {B = List ℕ} (λ r. heldBytes (view x) ++ r) (heads-set ss c s (a .1) (omega arith))
+    ∙ sym (append-assoc (heldBytes (view x)) (take (heldLimit * c) (headsOf ss)) middle)
+    ∙ ap (λ r. r ++ middle) (sym before)
+    ∙ ap (λ r. take (heldLimit * suc c) all ++ (heldBytes (view s) ++ r)) (sym behind)
+
+heads-drop : (ss : List Stream) (c : ℕ) → AllProper ss → c < length ss → drop (heldLimit * c) (headsOf ss) ≡ heldBytes (view (getD ss c (sound []))) ++ headsOf (drop (suc c) ss)
+unfolding headsOf
+heads-drop [] c a h = absurd (omega arith)
+heads-drop (x ∷ ss) zero a h = refl
+heads-drop (x ∷ ss) (suc c) a h =
+    let p : heldLimit * suc c ≡ heldLimit + heldLimit * c = omega arith in
+    rw p (heads-back x ss (heldLimit * c) (held-length x (a .0)) ∙ heads-drop ss c (a .1) (omega arith))
+
+-- ---- one channel
+
+pub state-is : (F R : ℕ) (t : Tally) (c : ℕ) → AllProper (t .streams) → c < length (t .streams) → stateAt (transferOf F R t) c ≡ view (streamAt t c)
+unfolding stateAt transferOf
+state-is F R t c a h = rw (row, heads-drop (t .streams) c a h) (unfold rowOf numbersOf in read-back (view (streamAt t c)) (headsOf (drop (suc c) (t .streams))))
+  where
+    no-row : rowOf (sound []) ≡ blank
+    no-row = unfold rowOf numbersOf stateNumber heldNumber nextNumber leftNumber view in refl
+
+    row : getD (map rowOf (t .streams)) c blank ≡ rowOf (streamAt t c)
+    row = ap (λ d. getD (map rowOf (t .streams)) c d) (sym no-row) ∙ List·getD-map rowOf (t .streams) c (sound [])
+
+rows-set : (ss : List Stream) (c : ℕ) (s : Stream) → map rowOf (set ss c s) ≡ set (map rowOf ss) c (rowOf s)
+rows-set [] c s = refl
+rows-set (x ∷ ss) zero s = refl
+rows-set (x ∷ ss) (suc c) s = ap {B = List Channel} (λ r. rowOf x ∷ r) (rows-set ss c s)
+
+-- a channel's state written where the count becomes n
+pub put-count-is : (F R : ℕ) (t : Tally) (c : ℕ) (s : Stream) (n : ℕ) → AllProper (t .streams) → c < length (t .streams) → known (set (t .streams) c s) ≡ n
+    → putState (putCount (transferOf F R t) n) c (view s) ≡ transferOf F R (withStream t c s)
+unfolding putState putCount transferOf
+put-count-is F R t c s n a h e = rw (e, heads-set (t .streams) c s a h, rows-set (t .streams) c s) (unfold rowOf in refl)
+
+-- and where it stays
+pub put-is : (F R : ℕ) (t : Tally) (c : ℕ) (s : Stream) → AllProper (t .streams) → c < length (t .streams) → known (set (t .streams) c s) ≡ known (t .streams)
+    → putState (transferOf F R t) c (view s) ≡ transferOf F R (withStream t c s)
+put-is F R t c s a h e = same ∙ put-count-is F R t c s (known (t .streams)) a h e
+  where
+    same : putState (transferOf F R t) c (view s) ≡ putState (putCount (transferOf F R t) (known (t .streams))) c (view s)
+    same = unfold putCount transferOf in refl
+
+pub fault-is : (F R : ℕ) (t : Tally) (k c : ℕ) → putFault (transferOf F R t) k c ≡ transferOf F R (withFault t k c)
+unfolding putFault transferOf
+fault-is F R t k c = refl
+
+-- ---- counts
+
+state-ended : (x : State) → oneIfEnded (numbersOf x) ≡ one (isEnded x)
+unfolding numbersOf stateNumber
+state-ended unused = refl
+state-ended (header h) = refl
+state-ended (payload p n true) = refl
+state-ended (payload p n false) = refl
+state-ended ended = refl
+
+state-used : (x : State) → oneIfEnded (numbersOf x) + oneIfAlive (numbersOf x) ≡ cond (eqb (stateNumber x) 0) 0 1
+unfolding numbersOf stateNumber
+state-used unused = refl
+state-used (header h) = refl
+state-used (payload p n true) = refl
+state-used (payload p n false) = refl
+state-used ended = refl
+
+rows-ended : (ss : List Stream) → AllProper ss → sum oneIfEnded (map rowOf ss) ≡ endedIn ss
+unfolding sum rowOf
+rows-ended [] a = refl
+rows-ended (s ∷ ss) a =
+    omega (arith, state-ended (view s), ap one (kind-ended (view s) (accepted s) (isSome (taken s)) (kind s (a .0))), rows-ended ss (a .1))
+
+rows-used : (ss : List Stream) → AllProper ss → sum oneIfEnded (map rowOf ss) + sum oneIfAlive (map rowOf ss) ≡ used ss
+unfolding sum rowOf
+rows-used [] a = refl
+rows-used (s ∷ ss) a =
+    omega (arith, state-used (view s), kind-used (view s) (accepted s) (isSome (taken s)) (kind s (a .0)), rows-used ss (a .1))
+
+pub ended-is : (F R : ℕ) (t : Tally) → AllProper (t .streams) → endedOf (transferOf F R t) ≡ endedIn (t .streams)
+unfolding endedOf transferOf
+ended-is F R t a = rows-ended (t .streams) a
+
+pub used-is : (F R : ℕ) (t : Tally) → AllProper (t .streams) → usedOf (transferOf F R t) ≡ used (t .streams)
+unfolding usedOf endedOf transferOf
+used-is F R t a = rows-used (t .streams) a
