@@ -6,3 +6,6 @@ pub mod Views
 pub mod Shapes
 pub mod Streams
 pub mod States
+pub mod Asked
+pub mod Invariant
+pub mod Follows
