@@ -1,7 +1,7 @@
 -- What stays true of a tally over every byte: the invariant by which the receiver follows it.
 use Prim.Native.Nat.{ℕ, zero, suc, _+_, _≤_, _<_}
 use mathlib.Core.Path.{_≡_, refl, sym, ap, _∙_}
-use mathlib.Core.Bool.{Bool, true, false, cond}
+use mathlib.Core.Bool.{Bool, true, cond}
 use mathlib.Core.List.{List, [], _∷_, _++_}
 use native.Mathlib.Omega.{arith}
 use lib.Dec.{eqb}
@@ -16,7 +16,7 @@ use Rattle.tally.specs.Tally.{Tally, Stream, sound, spoilt, taken, accep
 use Rattle.tally.proofs.Claimed.{sum-append, hitBy, cover}
 use Rattle.tally.proofs.Placed.{longer}
 use Rattle.tally.proofs.Views.{view}
-use Rattle.tally.proofs.Shapes.{Proper, Kind, kind, kind-ended, kind-used}
+use Rattle.tally.proofs.Shapes.{Proper, kind, kind-ended, kind-used}
 use Rattle.tally.proofs.Streams.{AllProper, proper-set, Split, split, sum-set}
 
 -- no count, or one that the sender may announce and that is not less than the channels used

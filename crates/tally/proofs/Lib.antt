@@ -9,3 +9,6 @@ pub mod States
 pub mod Asked
 pub mod Invariant
 pub mod Follows
+pub mod Fills
+pub mod Accepts
+pub mod Steps

@@ -1,0 +1,196 @@
+-- A header accepted at its 17th byte: a count, a claim, or neither.
+use Prim.Native.Nat.{ℕ, _+_, _-_, _≤_, _<_}
+use mathlib.Core.Path.{_≡_, refl, sym, ap, _∙_}
+use mathlib.Core.Bool.{true, false}
+use mathlib.Core.List.{List, [], _∷_, _++_, append-assoc, append-nil}
+use native.Mathlib.Omega.{arith}
+use borrow.Author.Tests.{eq-eqb, ne-eqb}
+use lib.ListN.{length, getD, set, length-append, length-set}
+use Rattle.ledger.specs.Pairs.{Pairs, size, hit, holds, Ruled, join, shares, endsBy}
+use Rattle.ledger.specs.Ledger.{pairsOf, lent}
+use Rattle.ledger.proofs.Joined.{join-ends}
+use Rattle.ledger.proofs.Shared.{shares-none}
+use Rattle.ledger.proofs.Lents.{pairsOf-lent}
+use Rattle.eblock.specs.Header.{countLimit, secondOf, thirdOf}
+use Rattle.transfer.specs.Channel.{channelCount, heldLimit, putCount}
+use Rattle.transfer.specs.Transfer.{withTransfer, endedOf}
+use Rattle.transfer.specs.Header.{isCount, endsChannel, payloadLength}
+use Rattle.transfer.specs.Receive.{opens, claimsRange, isSome, isEnded}
+use Rattle.tally.specs.Block.{Block, block, placeOf, sizeOf, cut, countsIn, claim, claimsOf, hasEnd, placed}
+use Rattle.tally.specs.Tally.{Tally, Stream, sound, taken, accepted, blocksOf, countsOf, known, claimed, one, used, streamAt, withStream, keeps}
+use Rattle.tally.proofs.Claimed.{hitBy, cover, claims-ruled, claims-holds, claims-insert}
+use Rattle.tally.proofs.Counted.{counts-without, counts-first}
+use Rattle.tally.proofs.Placed.{placed-insert}
+use Rattle.tally.proofs.Cuts.{flat, Done, cuts-header}
+use Rattle.tally.proofs.Views.{view}
+use Rattle.tally.proofs.Shapes.{in-header, kind, kind-ended, view-header, hit-nothing}
+use Rattle.tally.proofs.Streams.{proper-set, Split, split, sum-set}
+use Rattle.tally.proofs.States.{transferOf, worldOf, put-is, put-count-is, ended-is}
+use Rattle.tally.proofs.Invariant.{Count, unknown, announced, sound-set, Invariant, opens-block, cover-insert}
+use Rattle.tally.proofs.Follows.{Follows, world-is, isSome-append, tipOf, Opened, opened, opens-on}
+
+claim-none : (x : Block) (ps : Pairs) → sizeOf x ≡ 0 → claim x ps ≡ ps
+unfolding claim
+claim-none x ps e = rw (eq-eqb (sizeOf x) 0 e)
+
+claim-some : (x : Block) (ps : Pairs) → 0 < sizeOf x → claim x ps ≡ join (placeOf x) (placeOf x + sizeOf x) ps
+unfolding claim
+claim-some x ps e = rw (ne-eqb (sizeOf x) 0 (λ q. omega arith))
+
+module _ (F R : ℕ) (before : Pairs) (file : List ℕ) (ruled : Ruled 0 before) where
+  -- the ledger holds what is claimed
+  pub pairs-are : (t : Tally) → Invariant F R before t → pairsOf (lent R (claimed before (t .streams))) ≡ claimed before (t .streams)
+  pairs-are t i = pairsOf-lent R 0 (claimed before (t .streams)) (claims-ruled (blocksOf (t .streams)) before ruled) (i .room)
+
+  module _ (t : Tally) (c : ℕ) (bs : List ℕ) (done : List Block) (r : List ℕ) (b : ℕ) (i : Invariant F R before t) (z : t .fault ≡ 0) (k : c < channelCount) (e : streamAt t c ≡ sound bs)
+      (d : Done done) (y : length r ≡ heldLimit) (u : isSome bs ≡ true) (g : bs ≡ flat done ++ r) where
+    abbrev head : List ℕ
+    head = r ++ b ∷ []
+
+    abbrev next : List Stream
+    next = set (t .streams) c (sound (bs ++ b ∷ []))
+
+    abbrev x : Block
+    x = block head []
+
+    h′ : c < length (t .streams)
+    h′ = omega (arith, i .number)
+
+    pub new : Opened (bs ++ b ∷ []) done head []
+    new =
+        opened (bs ++ b ∷ []) done head [] d (omega (arith, length-append r (b ∷ []))) (omega arith) (isSome-append bs b)
+        (ap (λ a. a ++ b ∷ []) g ∙ append-assoc (flat done) r (b ∷ []) ∙ ap (λ a. flat done ++ a) (sym (append-nil head)))
+
+    looks : view (sound (bs ++ b ∷ [])) ≡ tipOf (thirdOf head) (payloadLength head) (endsChannel head)
+    looks =
+        let a : thirdOf head + 0 ≡ thirdOf head = omega arith in
+        let a′ : payloadLength head - 0 ≡ payloadLength head = omega arith in
+        new .looks ∙ rw (a, a′)
+
+    was : accepted (streamAt t c) ≡ done
+    unfolding accepted
+    was = ap accepted e ∙ ap cut g ∙ cuts-header done r d (omega arith) .0
+
+    around : Split (t .streams) c
+    around = split (t .streams) c h′
+
+    front : List Block
+    front = around .front ++ done
+
+    now : blocksOf (t .streams) ≡ front ++ around .back
+    unfolding front
+    now = around .now ∙ ap (λ m. around .front ++ (m ++ around .back)) was ∙ sym (append-assoc (around .front) done (around .back))
+
+    then : blocksOf next ≡ front ++ x ∷ around .back
+    unfolding front
+    then =
+        around .then (sound (bs ++ b ∷ [])) ∙ ap (λ m. around .front ++ (m ++ around .back)) (new .blocks) ∙ ap (λ m. around .front ++ m) (append-assoc done (x ∷ []) (around .back))
+        ∙ sym (append-assoc (around .front) done (x ∷ around .back))
+
+    claims-are : claimed before next ≡ claim x (claimed before (t .streams))
+    claims-are = ap (λ m. claimsOf m before) then ∙ claims-insert front x (around .back) before ruled ∙ ap (λ m. claim x (claimsOf m before)) (sym now)
+
+    cover-is : (o : ℕ) → cover o (blocksOf next) ≡ hitBy o x + cover o (blocksOf (t .streams))
+    cover-is o = ap (cover o) then ∙ cover-insert o front x (around .back) ∙ ap (λ m. hitBy o x + cover o m) (sym now)
+
+    same-file : placed (blocksOf next) file ≡ placed (blocksOf (t .streams)) file
+    same-file = ap (λ m. placed m file) then ∙ placed-insert front x (around .back) file refl ∙ ap (λ m. placed m file) (sym now)
+
+    used-now : one (isSome (taken (streamAt t c))) ≡ 1
+    used-now = ap (λ s. one (isSome (taken s))) e ∙ ap one u
+
+    not-ended : one (hasEnd (accepted (streamAt t c))) ≡ 0
+    not-ended =
+        ap (λ s. one (hasEnd (accepted s))) e
+        ∙ ap one (kind-ended (view (sound bs)) (accepted (sound bs)) (isSome bs) (kind (sound bs) (in-header done r d (omega arith) u g)) ∙ ap isEnded (view-header bs done r d (omega arith) u g))
+
+    same-used : used next ≡ used (t .streams)
+    same-used =
+        let o : one (isSome (bs ++ b ∷ [])) ≡ 1 = ap one (isSome-append bs b) in
+        omega (arith, o, used-now, sum-set (λ (s : Stream). one (isSome (taken s))) (t .streams) c (sound (bs ++ b ∷ [])) h′)
+
+    kept : ((o : ℕ) → hitBy o x + cover o (blocksOf (t .streams)) + holds o before ≤ 1) → endsBy F (claim x (claimed before (t .streams))) ≡ true → size (claim x (claimed before (t .streams))) ≤ R
+        → Count (countsOf next) (used (t .streams)) → Invariant F R before (withStream t c (sound (bs ++ b ∷ [])))
+    kept p₁ p₂ p₃ p₄ =
+        record {
+          number = length-set (t .streams) c (sound (bs ++ b ∷ [])) ∙ i .number;
+          proper = proper-set (t .streams) c (sound (bs ++ b ∷ [])) (i .proper) (new .shape);
+          clean = λ o. sound-set (t .streams) c (bs ++ b ∷ []) (i .clean o);
+          apart = λ o. rw (cover-is o) (p₁ o);
+          ends = rw claims-are p₂;
+          room = rw claims-are p₃;
+          count = rw same-used p₄;
+          fault = i .fault;
+        }
+
+    same-counts : isCount head ≡ false → countsOf next ≡ countsOf (t .streams)
+    same-counts q = ap countsIn then ∙ counts-without front x (around .back) q ∙ ap countsIn (sym now)
+
+    -- a block without a payload
+    module _ (s₀ : payloadLength head ≡ 0) where
+      kept-empty : Count (countsOf next) (used (t .streams)) → Invariant F R before (withStream t c (sound (bs ++ b ∷ [])))
+      kept-empty n =
+          kept (λ o. omega (arith, i .apart o, hit-nothing (placeOf x) (placeOf x + sizeOf x) o (omega arith)))
+          (rw (claim-none x (claimed before (t .streams)) s₀) (i .ends)) (rw (claim-none x (claimed before (t .streams)) s₀) (i .room)) n
+
+      same-claims : claimed before next ≡ claimed before (t .streams)
+      same-claims = claims-are ∙ claim-none x (claimed before (t .streams)) s₀
+
+      tip-empty : view (sound (bs ++ b ∷ [])) ≡ tipOf 0 0 (endsChannel head)
+      tip-empty = looks ∙ ap (λ n. tipOf (thirdOf head) n (endsChannel head)) s₀ ∙ no-place (endsChannel head)
+        where
+          no-place : (l : mathlib.Core.Bool.Bool) → tipOf (thirdOf head) 0 l ≡ tipOf 0 0 l
+          no-place true = refl
+          no-place false = refl
+
+    pub accepts-count : isCount head ≡ true → known (t .streams) ≡ 0 → 0 < thirdOf head → thirdOf head ≤ countLimit → used (t .streams) ≤ thirdOf head
+        → Follows F R before file t c (opens (withTransfer (worldOf F R before file t) (putCount (transferOf F R t) (thirdOf head))) c 0 0 (endsChannel head)) (keeps t c (bs ++ b ∷ []))
+    unfolding worldOf transferOf putCount endedOf
+    accepts-count q k₀ n₀ n₁ n₂ =
+        opens-on F R before file t c (bs ++ b ∷ []) i z k (isSome-append bs b) (new .shape) (kept-empty s₀ (announced (thirdOf head) the-count n₀ n₁ n₂))
+        used-now not-ended (opens-block front x (around .back) now then) (withTransfer (worldOf F R before file t) (putCount (transferOf F R t) (thirdOf head)))
+        (world-is (put-count-is F R t c (sound (bs ++ b ∷ [])) (thirdOf head) (i .proper) h′ (ap (λ m. getD m 0 0) the-count)) (sym same-file) (ap (lent R) (sym (same-claims s₀))))
+        (sym (ap (λ m. getD m 0 0) the-count)) (ended-is F R t (i .proper)) 0 0 (endsChannel head) (tip-empty s₀)
+      where
+        s₀ : payloadLength head ≡ 0
+        s₀ = unfold payloadLength in rw q
+
+        none-yet : Count (countsOf (t .streams)) (used (t .streams)) → countsOf (t .streams) ≡ []
+        none-yet (unknown o) = o
+        none-yet (announced n o o₁ o₂ o₃) = absurd (omega (arith, k₀, ap (λ m. getD m 0 0) o))
+
+        the-count : countsOf next ≡ thirdOf head ∷ []
+        the-count = ap countsIn then ∙ counts-first front x (around .back) q (ap countsIn (sym now) ∙ none-yet (i .count))
+
+    pub accepts-nothing : isCount head ≡ false → secondOf head ≡ 0
+        → Follows F R before file t c (opens (worldOf F R before file t) c 0 0 (endsChannel head)) (keeps t c (bs ++ b ∷ []))
+    unfolding worldOf transferOf
+    accepts-nothing q q₀ =
+        opens-on F R before file t c (bs ++ b ∷ []) i z k (isSome-append bs b) (new .shape) (kept-empty s₀ (rw (same-counts q) (i .count)))
+        used-now not-ended (opens-block front x (around .back) now then) (worldOf F R before file t)
+        (world-is (put-is F R t c (sound (bs ++ b ∷ [])) (i .proper) h′ (ap (λ m. getD m 0 0) (same-counts q))) (sym same-file) (ap (lent R) (sym (same-claims s₀))))
+        (sym (ap (λ m. getD m 0 0) (same-counts q))) (ended-is F R t (i .proper)) 0 0 (endsChannel head) (tip-empty s₀)
+      where
+        s₀ : payloadLength head ≡ 0
+        s₀ = unfold payloadLength in rw q q₀
+
+    pub accepts-claim : isCount head ≡ false → 0 < secondOf head → thirdOf head + secondOf head ≤ F → shares (thirdOf head) (thirdOf head + secondOf head) (claimed before (t .streams)) ≡ false
+        → size (join (thirdOf head) (thirdOf head + secondOf head) (claimed before (t .streams))) ≤ R
+        → Follows F R before file t c (opens (claimsRange (worldOf F R before file t) (thirdOf head) (thirdOf head + secondOf head)) c (thirdOf head) (payloadLength head) (endsChannel head))
+        (keeps t c (bs ++ b ∷ []))
+    unfolding worldOf transferOf claimsRange
+    accepts-claim q q₀ q₁ q₂ q₃ =
+        opens-on F R before file t c (bs ++ b ∷ []) i z k (isSome-append bs b) (new .shape)
+        (kept
+        (λ o. omega (arith, i .apart o, shares-none (thirdOf head) (thirdOf head + secondOf head) o (claimed before (t .streams)) q₂, claims-holds o (blocksOf (t .streams)) before ruled, ap (λ m. hit (thirdOf head) (thirdOf head + m) o) s₀))
+        (rw joins (join-ends (thirdOf head) (thirdOf head + secondOf head) F (claimed before (t .streams)) q₁ (i .ends))) (rw joins q₃) (rw (same-counts q) (i .count)))
+        used-now not-ended (opens-block front x (around .back) now then) (claimsRange (worldOf F R before file t) (thirdOf head) (thirdOf head + secondOf head))
+        (world-is (put-is F R t c (sound (bs ++ b ∷ [])) (i .proper) h′ (ap (λ m. getD m 0 0) (same-counts q))) (sym same-file)
+        (ap (λ m. lent R (join (thirdOf head) (thirdOf head + secondOf head) m)) (pairs-are t i) ∙ ap (lent R) (sym (claims-are ∙ joins))))
+        (sym (ap (λ m. getD m 0 0) (same-counts q))) (ended-is F R t (i .proper)) (thirdOf head) (payloadLength head) (endsChannel head) looks
+      where
+        s₀ : payloadLength head ≡ secondOf head
+        s₀ = unfold payloadLength in rw q
+
+        joins : claim x (claimed before (t .streams)) ≡ join (thirdOf head) (thirdOf head + secondOf head) (claimed before (t .streams))
+        joins = claim-some x (claimed before (t .streams)) (omega (arith, s₀)) ∙ ap (λ m. join (thirdOf head) (thirdOf head + m) (claimed before (t .streams))) s₀

@@ -1,0 +1,175 @@
+-- One byte: the receiver on the world of a tally does what the tally does.
+use Prim.Native.Nat.{ℕ, zero, suc, _+_, _≤_, _<_}
+use mathlib.Core.Path.{_≡_, refl, sym, ap, _∙_, subst}
+use mathlib.Core.Logic.{inl, inr, _≢_}
+use mathlib.Core.Bool.{Bool, true, false, cond, _&&_, true≢false}
+use mathlib.Core.List.{List, [], _∷_, _++_, append-assoc, append-nil}
+use native.Mathlib.Omega.{arith}
+use native.Mathlib.Decide.{decLt}
+use borrow.Author.Tests.{lt-ltb, le-ltb, eq-eqb, ne-eqb}
+use lib.Dec.{ltb, eqb}
+use lib.ListN.{length, getD, set, length-append}
+use Rattle.ledger.specs.Pairs.{Pairs, Ruled}
+use Rattle.ledger.specs.Ledger.{lent}
+use Rattle.eblock.specs.Header.{secondOf, thirdOf}
+use Rattle.transfer.specs.Channel.{channelCount, heldLimit, unused, header, stateAt, putState, putFault}
+use Rattle.transfer.specs.Transfer.{usedOf, withTransfer}
+use Rattle.transfer.specs.Header.{endsChannel, payloadLength, Asks, counts, claims, nothing, faulty, askedOf, claimFault}
+use Rattle.transfer.specs.Receive.{goes, stops, leaves, opens, claimsRange, faults, heeds, judges, heads, byteOn, byteOf, isSome, isEnded}
+use Rattle.tally.specs.Block.{Block, block, cut, cutBy, over, overBy, countsIn, claimsOf, placed}
+use Rattle.tally.specs.Tally.{Tally, Stream, sound, spoilt, taken, allButLast, accepted, blocksOf, countsOf, known, claimed, one, used, streamAt, withStream, withFault, keeps, judgedBy, faultIn, byteOn as tallyByteOn, byteOf as tallyByteOf}
+use Rattle.tally.proofs.Cuts.{flat, Done, cuts-header, cuts-payload}
+use Rattle.tally.proofs.Views.{view, allButLast-last}
+use Rattle.tally.proofs.Shapes.{Shape, no-byte, in-header, in-payload, at-end, Proper, view-header, view-payload, view-end}
+use Rattle.tally.proofs.Streams.{AllProper, sum-set}
+use Rattle.tally.proofs.States.{transferOf, worldOf, state-is, put-is, fault-is, used-is}
+use Rattle.tally.proofs.Asked.{Judgement, claim-judged, claim-accepted, Asking, for-fault, for-count, for-nothing, for-claim, asked}
+use Rattle.tally.proofs.Invariant.{Count, unknown, announced, sound-at, Invariant, stays, same-blocks, kept-fault, kept-spoilt}
+use Rattle.tally.proofs.Follows.{Follows, both-stop, both-leave, world-is, isSome-append, goes-on}
+use Rattle.tally.proofs.Fills.{fills}
+use Rattle.tally.proofs.Accepts.{pairs-are, accepts-count, accepts-nothing, accepts-claim}
+
+proper-at : (ss : List Stream) (c : ℕ) → AllProper ss → Proper (getD ss c (sound []))
+proper-at [] c a = no-byte refl
+proper-at (s ∷ ss) zero a = a .0
+proper-at (s ∷ ss) (suc c) a = proper-at ss c (a .1)
+
+module _ (F R : ℕ) (before : Pairs) (file : List ℕ) (ruled : Ruled 0 before) where
+  -- ---- a header's 17th byte
+
+  module _ (t : Tally) (c : ℕ) (bs : List ℕ) (done : List Block) (r : List ℕ) (b : ℕ) (i : Invariant F R before t) (z : t .fault ≡ 0) (k : c < channelCount) (e : streamAt t c ≡ sound bs)
+      (d : Done done) (y : length r ≡ heldLimit) (u : isSome bs ≡ true) (g : bs ≡ flat done ++ r) where
+    abbrev head : List ℕ
+    head = r ++ b ∷ []
+
+    gone : accepted (spoilt (bs ++ b ∷ [])) ≡ done
+    unfolding accepted
+    gone =
+        ap (λ m. allButLast (cut m)) (ap (λ a. a ++ b ∷ []) g ∙ append-assoc (flat done) r (b ∷ []) ∙ ap (λ a. flat done ++ a) (sym (append-nil head)))
+        ∙ ap allButLast (cuts-payload done head [] d (omega (arith, length-append r (b ∷ []))) (omega arith) .0)
+        ∙ allButLast-last done (block head [])
+
+    was : accepted (streamAt t c) ≡ done
+    unfolding accepted
+    was = ap accepted e ∙ ap cut g ∙ cuts-header done r d (omega arith) .0
+
+    -- judged a fault
+    spoils : (n : ℕ) → 11 ≤ n → n ≤ 18 → Follows F R before file t c (faults (worldOf F R before file t) c n) (stops (withFault (withStream t c (spoilt (bs ++ b ∷ []))) n c))
+    unfolding faults worldOf
+    spoils n a a′ =
+        both-stop (withFault (withStream t c (spoilt (bs ++ b ∷ []))) n c) refl
+        (ap stops
+        (world-is
+        (ap (λ s. putFault s n c) (ap (putState (transferOf F R t) c) cleared ∙ put-is F R t c (spoilt (bs ++ b ∷ [])) (i .proper) (omega (arith, i .number)) (ap (λ m. getD (countsIn m) 0 0) same))
+        ∙ fault-is F R (withStream t c (spoilt (bs ++ b ∷ []))) n c)
+        (ap (λ m. placed m file) (sym same)) (ap (λ m. lent R (claimsOf m before)) (sym same))))
+        (kept-spoilt F R before t c (bs ++ b ∷ []) n i k (subst Done (sym gone) d, isSome-append bs b) (gone ∙ sym was) (ap (λ s. one (isSome (taken s))) e ∙ ap one u) a (omega arith))
+        (stays same)
+      where
+        cleared : header [] ≡ view (spoilt (bs ++ b ∷ []))
+        cleared = unfold view in refl
+
+        same : blocksOf (set (t .streams) c (spoilt (bs ++ b ∷ []))) ≡ blocksOf (t .streams)
+        same = same-blocks t c (spoilt (bs ++ b ∷ [])) (omega (arith, i .number)) (gone ∙ sym was)
+
+    heeded : (a : Asks) → Asking F (known (t .streams)) (used (t .streams)) head a
+        → Follows F R before file t c (heeds (worldOf F R before file t) c head a) (judgedBy t c (bs ++ b ∷ []) (faultIn R (claimed before (t .streams)) a))
+    unfolding heeds judgedBy faultIn worldOf transferOf
+    heeded (faulty zero) (for-fault n a a′) = absurd (omega arith)
+    heeded (faulty (suc n)) (for-fault m a a′) = spoils (suc n) a a′
+    heeded (counts n) (for-count q k₀ n₀ n₁ n₂) = accepts-count F R before file ruled t c bs done r b i z k e d y u g q k₀ n₀ n₁ n₂
+    heeded nothing (for-nothing q q₀) = accepts-nothing F R before file ruled t c bs done r b i z k e d y u g q q₀
+    heeded (claims s f) (for-claim q q₀ q₁) = rw (pairs-are F R before file ruled t i) (go (claimFault R (claimed before (t .streams)) (thirdOf head) (thirdOf head + secondOf head)) refl)
+      where
+        go : (n : ℕ) → claimFault R (claimed before (t .streams)) (thirdOf head) (thirdOf head + secondOf head) ≡ n
+            → Follows F R before file t c
+            (cond (ltb 0 n) (faults (worldOf F R before file t) c n)
+            (opens (claimsRange (worldOf F R before file t) (thirdOf head) (thirdOf head + secondOf head)) c (thirdOf head) (payloadLength head) (endsChannel head)))
+            (judgedBy t c (bs ++ b ∷ []) n)
+        go zero w =
+            let a = claim-accepted R (claimed before (t .streams)) (thirdOf head) (thirdOf head + secondOf head) w in
+            accepts-claim F R before file ruled t c bs done r b i z k e d y u g q q₀ q₁ (a .0) (a .1)
+        go (suc n) w = rw (lt-ltb 0 (suc n) (omega arith)) (numbered (claim-judged R (claimed before (t .streams)) (thirdOf head) (thirdOf head + secondOf head)))
+          where
+            numbered : Judgement (claimFault R (claimed before (t .streams)) (thirdOf head) (thirdOf head + secondOf head))
+                → Follows F R before file t c (faults (worldOf F R before file t) c (suc n)) (stops (withFault (withStream t c (spoilt (bs ++ b ∷ []))) (suc n) c))
+            numbered (inl l) = absurd (omega (arith, w))
+            numbered (inr l) = spoils (suc n) (omega (arith, w, l .0)) (omega (arith, w, l .1))
+
+  -- ---- any byte
+
+  pub step : (t : Tally) (c b : ℕ) → Invariant F R before t → t .fault ≡ 0 → c < channelCount → isEnded (view (streamAt t c)) ≡ false
+      → Follows F R before file t c (byteOf (worldOf F R before file t) c b) (tallyByteOf F R before t c b)
+  unfolding byteOf tallyByteOf byteOn tallyByteOn heads judges worldOf transferOf accepted flat overBy
+  step t c b i z k o = go (subst Proper e (proper-at (t .streams) c (i .proper)))
+    where
+      bs : List ℕ
+      bs = taken (streamAt t c)
+
+      e : streamAt t c ≡ sound bs
+      e = sound-at (t .streams) c (i .clean z)
+
+      h′ : c < length (t .streams)
+      h′ = omega (arith, i .number)
+
+      state : stateAt (transferOf F R t) c ≡ view (sound bs)
+      state = state-is F R t c (i .proper) h′ ∙ ap view e
+
+      used-eq : usedOf (transferOf F R t) ≡ used (t .streams)
+      used-eq = used-is F R t (i .proper)
+
+      first : bs ≡ [] → (q : Bool) → (ltb 0 (known (t .streams)) && eqb (used (t .streams)) (known (t .streams))) ≡ q
+          → Follows F R before file t c
+          (cond q (leaves (withTransfer (worldOf F R before file t) (putFault (transferOf F R t) 19 c))) (goes (withTransfer (worldOf F R before file t) (putState (transferOf F R t) c (header (b ∷ []))))))
+          (cond q (leaves (withFault t 19 c)) (keeps t c (b ∷ [])))
+      first n true q = both-leave (withFault t 19 c) refl (unfold putFault in refl) (kept-fault F R before t 19 c i (omega arith) (omega arith) k) (stays refl)
+      first n false q =
+          goes-on F R before file t c (b ∷ []) i z k (in-header [] (b ∷ []) tt (omega arith) refl refl)
+          (cuts-header [] (b ∷ []) tt (omega arith) .0 ∙ sym (ap accepted (e ∙ ap sound n) ∙ (unfold cutBy in refl)))
+          (more (i .count)) (header (b ∷ [])) (view-header (b ∷ []) [] (b ∷ []) tt (omega arith) refl refl) refl
+        where
+          one-more : used (set (t .streams) c (sound (b ∷ []))) ≡ suc (used (t .streams))
+          one-more =
+              omega (arith, sum-set (λ (s : Stream). one (isSome (taken s))) (t .streams) c (sound (b ∷ [])) h′, ap (λ s. one (isSome (taken s))) (e ∙ ap sound n))
+
+          more : Count (countsOf (t .streams)) (used (t .streams)) → Count (countsOf (t .streams)) (used (set (t .streams) c (sound (b ∷ []))))
+          more (unknown x) = unknown x
+          more (announced n x x₀ x₁ x₂) =
+              let kn : known (t .streams) ≡ n = ap (λ m. getD m 0 0) x in
+              let ne : used (t .streams) ≢ n =
+              λ y. true≢false (sym (rw (lt-ltb 0 (known (t .streams)) (omega arith), eq-eqb (used (t .streams)) (known (t .streams)) (omega arith))) ∙ q) in
+              announced n x x₀ x₁ (omega (arith, one-more))
+
+      go : Shape bs → Follows F R before file t c (byteOn (stateAt (transferOf F R t) c) (worldOf F R before file t) c b) (tallyByteOn F R before t c bs b)
+      go (no-byte n) =
+          let v : view (sound []) ≡ unused = unfold view in refl in
+          rw (state ∙ ap view (ap sound n) ∙ v, used-eq, n) (first n (ltb 0 (known (t .streams)) && eqb (used (t .streams)) (known (t .streams))) refl)
+      go (in-header done r d hr u g) = sized (decLt (length r) heldLimit)
+        where
+          over-is : over bs ≡ r
+          over-is = ap over g ∙ cuts-header done r d hr .1
+
+          new : bs ++ b ∷ [] ≡ flat done ++ (r ++ b ∷ [])
+          new = ap (λ a. a ++ b ∷ []) g ∙ append-assoc (flat done) r (b ∷ [])
+
+          longer-by : length (r ++ b ∷ []) ≡ suc (length r)
+          longer-by = omega (arith, length-append r (b ∷ []))
+
+          same-used : used (set (t .streams) c (sound (bs ++ b ∷ []))) ≡ used (t .streams)
+          same-used =
+              let x : one (isSome (bs ++ b ∷ [])) ≡ 1 = ap one (isSome-append bs b) in
+              omega (arith, x, ap (λ s. one (isSome (taken s))) e ∙ ap one u, sum-set (λ (s : Stream). one (isSome (taken s))) (t .streams) c (sound (bs ++ b ∷ [])) h′)
+
+          sized : Dec (length r < heldLimit) → Follows F R before file t c (byteOn (stateAt (transferOf F R t) c) (worldOf F R before file t) c b) (tallyByteOn F R before t c bs b)
+          sized (yes y) =
+              rw (state ∙ view-header bs done r d hr u g, lt-ltb (length r) heldLimit y, u, over-is, ne-eqb (length r) heldLimit (λ x. omega arith))
+              (goes-on F R before file t c (bs ++ b ∷ []) i z k (in-header done (r ++ b ∷ []) d (omega (arith, longer-by)) (isSome-append bs b) new)
+              (ap cut new ∙ cuts-header done (r ++ b ∷ []) d (omega (arith, longer-by)) .0 ∙ sym (ap accepted e ∙ ap cut g ∙ cuts-header done r d hr .0))
+              (rw same-used (i .count)) (header (r ++ b ∷ [])) (view-header (bs ++ b ∷ []) done (r ++ b ∷ []) d (omega (arith, longer-by)) (isSome-append bs b) new) refl)
+          sized (no y) =
+              rw (state ∙ view-header bs done r d hr u g, le-ltb (length r) heldLimit (omega arith), u, over-is, eq-eqb (length r) heldLimit (omega arith), used-eq)
+              (heeded t c bs done r b i z k e d (omega arith) u g (askedOf F (known (t .streams)) (used (t .streams)) (r ++ b ∷ [])) (asked F (known (t .streams)) (used (t .streams)) (r ++ b ∷ [])))
+      go (in-payload done h p d y q u g) =
+          rw (state ∙ view-payload bs done h p d y q u g, u, ap over g ∙ cuts-payload done h p d y (omega arith) .1) (fills F R before file t c bs done h p b i z k e d y q u g)
+      go (at-end done h p d y q x u g) =
+          absurd (true≢false (sym (ap (λ s. isEnded (view s)) e ∙ ap isEnded (view-end bs done h p d y q x u g)) ∙ o))
