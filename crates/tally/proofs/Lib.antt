@@ -12,3 +12,6 @@ pub mod Follows
 pub mod Fills
 pub mod Accepts
 pub mod Steps
+pub mod Fits
+pub mod Runs
+pub mod Begins

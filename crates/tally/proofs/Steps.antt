@@ -21,18 +21,13 @@ use Rattle.tally.specs.Tally.{Tally, Stream, sound, spoilt, taken, allBu
 use Rattle.tally.proofs.Cuts.{flat, Done, cuts-header, cuts-payload}
 use Rattle.tally.proofs.Views.{view, allButLast-last}
 use Rattle.tally.proofs.Shapes.{Shape, no-byte, in-header, in-payload, at-end, Proper, view-header, view-payload, view-end}
-use Rattle.tally.proofs.Streams.{AllProper, sum-set}
+use Rattle.tally.proofs.Streams.{proper-at, sum-set}
 use Rattle.tally.proofs.States.{transferOf, worldOf, state-is, put-is, fault-is, used-is}
 use Rattle.tally.proofs.Asked.{Judgement, claim-judged, claim-accepted, Asking, for-fault, for-count, for-nothing, for-claim, asked}
 use Rattle.tally.proofs.Invariant.{Count, unknown, announced, sound-at, Invariant, stays, same-blocks, kept-fault, kept-spoilt}
 use Rattle.tally.proofs.Follows.{Follows, both-stop, both-leave, world-is, isSome-append, goes-on}
 use Rattle.tally.proofs.Fills.{fills}
 use Rattle.tally.proofs.Accepts.{pairs-are, accepts-count, accepts-nothing, accepts-claim}
-
-proper-at : (ss : List Stream) (c : ℕ) → AllProper ss → Proper (getD ss c (sound []))
-proper-at [] c a = no-byte refl
-proper-at (s ∷ ss) zero a = a .0
-proper-at (s ∷ ss) (suc c) a = proper-at ss c (a .1)
 
 module _ (F R : ℕ) (before : Pairs) (file : List ℕ) (ruled : Ruled 0 before) where
   -- ---- a header's 17th byte

@@ -10,11 +10,16 @@ use Rattle.tally.specs.Block.{Block}
 use Rattle.tally.specs.Tally.{Stream, sound, taken, accepted, blocksOf}
 use Rattle.tally.proofs.Placed.{Bodies, bodies-append}
 use Rattle.tally.proofs.Views.{view}
-use Rattle.tally.proofs.Shapes.{Proper, kind, kind-bodies}
+use Rattle.tally.proofs.Shapes.{no-byte, Proper, kind, kind-bodies}
 
 abbrev pub AllProper : List Stream → Type 0
 AllProper [] = Unit
 AllProper (s ∷ ss) = Proper s × AllProper ss
+
+pub proper-at : (ss : List Stream) (c : ℕ) → AllProper ss → Proper (getD ss c (sound []))
+proper-at [] c a = no-byte refl
+proper-at (s ∷ ss) zero a = a .0
+proper-at (s ∷ ss) (suc c) a = proper-at ss c (a .1)
 
 pub proper-set : (ss : List Stream) (c : ℕ) (s : Stream) → AllProper ss → Proper s → AllProper (set ss c s)
 proper-set [] c s a o = tt

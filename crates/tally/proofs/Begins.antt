@@ -1,0 +1,67 @@
+-- The beginning: an accepted start leaves the world of the empty tally, for which the invariant holds.
+use Prim.Native.Nat.{ℕ, zero, suc, _*_, _/_, _%_, _≤_, zero-le}
+use mathlib.Core.Path.{_≡_, refl, ap, _∙_}
+use mathlib.Core.Bool.{Bool, true, false, cond, _||_, not}
+use mathlib.Core.List.{List, []}
+use native.Mathlib.Omega.{arith}
+use borrow.Author.Tests.{eqb-true, ltb-false}
+use lib.Dec.{ltb, eqb}
+use lib.ListN.{length, replicate}
+use Rattle.ledger.specs.Pairs.{none, size, holds, endsBy}
+use Rattle.ledger.specs.Ledger.{entryLimit, lengthWrong, roomOf, lent}
+use Rattle.transfer.specs.Channel.{channelCount, stateNumber, heldNumber, nextNumber, leftNumber, heldBytes, numbersOf}
+use Rattle.transfer.specs.Transfer.{sum, World, world, fresh, startNumber, startOf, startLeaves}
+use Rattle.transfer.specs.Fit.{pairLimit}
+use Rattle.transfer.specs.Calls.{begun}
+use Rattle.tally.specs.Block.{cutBy, countsIn, claimsOf, placed}
+use Rattle.tally.specs.Tally.{sound, accepted, blocksOf, empty}
+use Rattle.tally.proofs.Views.{view}
+use Rattle.tally.proofs.Shapes.{no-byte}
+use Rattle.tally.proofs.Streams.{AllProper}
+use Rattle.tally.proofs.States.{rowOf, headsOf, transferOf, worldOf}
+use Rattle.tally.proofs.Invariant.{unknown, no-fault, AllSound, Invariant}
+
+proper-empty : (n : ℕ) → AllProper (replicate n (sound []))
+proper-empty zero = tt
+proper-empty (suc n) = (no-byte refl, proper-empty n)
+
+sound-empty : (n : ℕ) → AllSound (replicate n (sound []))
+sound-empty zero = tt
+sound-empty (suc n) = (refl, sound-empty n)
+
+pub invariant-empty : (F R : ℕ) → Invariant F R none empty
+unfolding empty blocksOf accepted cutBy claimsOf countsIn sum size endsBy holds
+invariant-empty F R =
+    record {
+      number = refl;
+      proper = proper-empty channelCount;
+      clean = λ z. sound-empty channelCount;
+      apart = λ q. omega arith;
+      ends = refl;
+      room = zero-le;
+      count = unknown refl;
+      fault = no-fault refl refl;
+    }
+
+lent-none : (r : ℕ) → replicate (2 * r) 0 ≡ lent r none
+unfolding lent
+lent-none zero = refl
+lent-none (suc r) = let e : 2 * suc r ≡ suc (suc (2 * r)) = omega arith in rw (e, lent-none r)
+
+world-empty : (file : List ℕ) (R : ℕ) → world (fresh (length file) R) file (lent R none) ≡ worldOf (length file) R none file empty
+unfolding worldOf transferOf fresh empty blocksOf accepted cutBy claimsOf countsIn placed headsOf rowOf view numbersOf stateNumber heldNumber heldBytes nextNumber leftNumber
+world-empty file R = refl
+
+pub begun-is : (file claimed : List ℕ) → startNumber claimed ≡ 0 → (roomOf claimed ≤ pairLimit) × (begun file claimed ≡ worldOf (length file) (roomOf claimed) none file empty)
+unfolding startNumber startOf startLeaves begun lengthWrong
+begun-is file claimed h = go (eqb (length claimed % 2) 0) (ltb entryLimit (length claimed)) refl refl h
+  where
+    go : (p q : Bool) → eqb (length claimed % 2) 0 ≡ p → ltb entryLimit (length claimed) ≡ q → _≡_ {A = ℕ} (cond (not p || q) 5 0) 0
+        → (roomOf claimed ≤ pairLimit) × (begun file claimed ≡ worldOf (length file) (roomOf claimed) none file empty)
+    go true true x y z = absurd (omega arith)
+    go false q x y z = absurd (omega arith)
+    go true false x y z =
+        let e : length claimed ≡ 2 * roomOf claimed = omega (arith, eqb-true (length claimed % 2) 0 x) in (
+          omega (arith, ltb-false entryLimit (length claimed) y),
+          rw (x, y) (ap (world (fresh (length file) (roomOf claimed)) file) (ap (λ n. replicate n 0) e ∙ lent-none (roomOf claimed)) ∙ world-empty file (roomOf claimed)),
+        )
