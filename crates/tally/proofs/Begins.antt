@@ -1,5 +1,5 @@
 -- The beginning: an accepted start leaves the world of the empty tally, for which the invariant holds.
-use Prim.Native.Nat.{ℕ, zero, suc, _*_, _/_, _%_, _≤_, zero-le}
+use Prim.Native.Nat.{ℕ, zero, suc, _*_, _%_, _≤_, zero-le}
 use mathlib.Core.Path.{_≡_, refl, ap, _∙_}
 use mathlib.Core.Bool.{Bool, true, false, cond, _||_, not}
 use mathlib.Core.List.{List, []}
@@ -10,7 +10,7 @@ use lib.ListN.{length, replicate}
 use Rattle.ledger.specs.Pairs.{none, size, holds, endsBy}
 use Rattle.ledger.specs.Ledger.{entryLimit, lengthWrong, roomOf, lent}
 use Rattle.transfer.specs.Channel.{channelCount, stateNumber, heldNumber, nextNumber, leftNumber, heldBytes, numbersOf}
-use Rattle.transfer.specs.Transfer.{sum, World, world, fresh, startNumber, startOf, startLeaves}
+use Rattle.transfer.specs.Transfer.{sum, world, fresh, startNumber, startOf, startLeaves}
 use Rattle.transfer.specs.Fit.{pairLimit}
 use Rattle.transfer.specs.Calls.{begun}
 use Rattle.tally.specs.Block.{cutBy, countsIn, claimsOf, placed}

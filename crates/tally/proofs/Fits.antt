@@ -2,7 +2,7 @@
 use Prim.Native.Nat.{ℕ, zero, suc, _+_, _*_, _-_, _≤_, _<_, max}
 use mathlib.Core.Path.{_≡_, refl, ap, _∙_}
 use mathlib.Core.Bool.{Bool, true, false, cond, _&&_, _||_}
-use mathlib.Core.List.{List, [], _∷_, _++_, map}
+use mathlib.Core.List.{List, [], _∷_, map}
 use native.Mathlib.Omega.{arith}
 use native.Mathlib.Decide.{decLe, ℕ-discrete}
 use borrow.Author.Tests.{lt-ltb, le-leb, lt-leb, eq-eqb, ne-eqb}
@@ -10,7 +10,7 @@ use lib.Dec.{leb, ltb, eqb}
 use lib.ListN.{length, replicate, length-map}
 use lib.Seq.{take-at, drop-at, drop-append-seam}
 use Rattle.ledger.specs.Pairs.{Pairs, hit, holds, Ruled, inside}
-use Rattle.ledger.specs.Ledger.{zeros, obeys, pairsOf, lent}
+use Rattle.ledger.specs.Ledger.{zeros, obeys, lent}
 use Rattle.ledger.proofs.Places.{hit-in}
 use Rattle.ledger.proofs.Shared.{held-inside}
 use Rattle.ledger.proofs.Lents.{length-lent, rule-lent}

@@ -15,3 +15,4 @@ pub mod Steps
 pub mod Fits
 pub mod Runs
 pub mod Begins
+pub mod AfterLists

@@ -1,28 +1,27 @@
 -- A piece, a call, a list of calls: the receiver on the world of a tally answers and leaves what the tally does.
-use Prim.Native.Nat.{ℕ, zero, suc, _+_, _*_, _≤_, _<_, zero-le}
-use mathlib.Core.Path.{_≡_, refl, sym, ap, _∙_, subst}
+use Prim.Native.Nat.{ℕ, zero, suc, _≤_, _<_}
+use mathlib.Core.Path.{_≡_, refl, sym, ap, _∙_}
 use mathlib.Core.Logic.{_⊎_, inl, inr}
 use mathlib.Core.Bool.{Bool, true, false, cond, _&&_, not, false≢true}
 use mathlib.Core.List.{List, [], _∷_}
 use native.Mathlib.Omega.{arith}
 use native.Mathlib.Decide.{decLt}
-use borrow.Author.Tests.{lt-ltb, leb-false, eqb-true, ltb-false}
+use borrow.Author.Tests.{lt-ltb, leb-false}
 use lib.Dec.{leb, ltb, eqb}
-use lib.ListN.{length, replicate}
-use Rattle.ledger.specs.Pairs.{Pairs, none, size, holds, Ruled, endsBy}
-use Rattle.ledger.specs.Ledger.{lengthWrong, roomOf, lent}
-use Rattle.transfer.specs.Channel.{channelCount, stateNumber, heldNumber, nextNumber, leftNumber, heldBytes, numbersOf, stateAt}
-use Rattle.transfer.specs.Transfer.{sum, endedOf, World, world, Verdict, guess, result, broken, isFinal, verdictOf, fresh, startNumber, startOf, startLeaves}
+use lib.ListN.{length}
+use Rattle.ledger.specs.Pairs.{Pairs, Ruled}
+use Rattle.transfer.specs.Channel.{channelCount, stateAt}
+use Rattle.transfer.specs.Transfer.{World, guess, result, broken, isFinal, verdictOf}
 use Rattle.transfer.specs.Receive.{Took, goes, stops, leaves, byteOf, Answer, refused, took, bytesBy, isGuess, isEnded, isSome, refusalOf, receiveOf}
-use Rattle.transfer.specs.Fit.{pairLimit, fits}
-use Rattle.transfer.specs.Calls.{Call, receive, callOf, runBy, begun}
-use Rattle.tally.specs.Block.{Block, cutBy, countsIn, claimsOf, hasEnd, placed}
-use Rattle.tally.specs.Tally.{Tally, Stream, sound, taken, accepted, blocksOf, countsOf, known, claimed, used, endedIn, verdict, empty, streamAt, byteOf as tallyByteOf, refusalOf as tallyRefusalOf, callOf as tallyCallOf}
+use Rattle.transfer.specs.Fit.{pairLimit}
+use Rattle.transfer.specs.Calls.{Call, receive, callOf, runBy}
+use Rattle.tally.specs.Block.{Block, hasEnd}
+use Rattle.tally.specs.Tally.{Tally, taken, accepted, blocksOf, countsOf, known, used, endedIn, verdict, streamAt, byteOf as tallyByteOf, refusalOf as tallyRefusalOf, callOf as tallyCallOf}
 use Rattle.tally.proofs.Views.{view}
-use Rattle.tally.proofs.Shapes.{no-byte, kind, kind-ended}
-use Rattle.tally.proofs.Streams.{AllProper, proper-at}
-use Rattle.tally.proofs.States.{rowOf, headsOf, transferOf, worldOf, state-is, ended-is}
-use Rattle.tally.proofs.Invariant.{Count, unknown, announced, no-fault, AllSound, Invariant, Grows}
+use Rattle.tally.proofs.Shapes.{kind, kind-ended}
+use Rattle.tally.proofs.Streams.{proper-at}
+use Rattle.tally.proofs.States.{transferOf, worldOf, state-is, ended-is}
+use Rattle.tally.proofs.Invariant.{Count, unknown, announced, Invariant, Grows}
 use Rattle.tally.proofs.Follows.{Follows, both-go, both-stop, both-leave}
 use Rattle.tally.proofs.Steps.{step}
 use Rattle.tally.proofs.Fits.{fits-always}

@@ -1,0 +1,153 @@
+-- What holds after every list of receive calls, from the run of the receiver along the tally.
+use Prim.Native.Nat.{ℕ, _+_, _≤_, _<_}
+use mathlib.Core.Path.{_≡_, refl, sym, ap, _∙_, subst}
+use mathlib.Core.Logic.{_↔_}
+use mathlib.Core.Bool.{Bool, true, false, cond, _&&_, and-eq-true-iff, true≢false}
+use mathlib.Core.List.{List, [], _∷_, map}
+use native.Mathlib.Omega.{arith}
+use borrow.Author.Tests.{eq-eqb, ltb-true, ltb-false, eqb-true}
+use lib.Dec.{ltb, eqb}
+use lib.ListN.{length, getD}
+use Rattle.ledger.specs.Pairs.{Pairs, none, total, Ruled}
+use Rattle.ledger.specs.Ledger.{obeys, roomOf}
+use Rattle.ledger.proofs.Lents.{rule-lent}
+use Rattle.transfer.specs.Channel.{numbersOf}
+use Rattle.transfer.specs.Transfer.{sum, leftOf, World, Verdict, guess, result, broken, verdictOf, storedOf}
+use Rattle.transfer.specs.Receive.{isSome}
+use Rattle.transfer.specs.Fit.{pairLimit}
+use Rattle.transfer.specs.Calls.{Call, callOf, runBy}
+use Rattle.tally.specs.Block.{Block, sizeOf, bytesIn}
+use Rattle.tally.specs.Tally.{Tally, Stream, taken, accepted, blocksOf, countsOf, known, claimed, endedIn, verdict, empty, callOf as tallyCallOf}
+use Rattle.tally.specs.AfterList.{Begun, fresh-start, tallyOf, Complete, AfterList, EveryList}
+use Rattle.tally.proofs.Claimed.{sum-append, claims-ruled, claims-total}
+use Rattle.tally.proofs.Views.{view}
+use Rattle.tally.proofs.Shapes.{kind, kind-left}
+use Rattle.tally.proofs.Streams.{AllProper}
+use Rattle.tally.proofs.States.{rowOf, transferOf, worldOf}
+use Rattle.tally.proofs.Invariant.{Invariant}
+use Rattle.tally.proofs.Accepts.{pairs-are}
+use Rattle.tally.proofs.Fits.{fits-always}
+use Rattle.tally.proofs.Runs.{verdict-is, run}
+use Rattle.tally.proofs.Begins.{invariant-empty, begun-is}
+
+-- ---- the verdict
+
+-- a verdict by a fault's number k and a test
+abbrev word : ℕ → Bool → Verdict
+word k b = cond (ltb 0 k) broken (cond b result guess)
+
+-- the three words are told apart by a number
+abbrev code : Verdict → ℕ
+code guess = 0
+code result = 1
+code broken = 2
+
+pub data Read (k : ℕ) (b : Bool) (v : Verdict) : Type 0 where
+  reads-broken : 0 < k → v ≡ broken → Read k b v
+  reads-result : k ≡ 0 → b ≡ true → v ≡ result → Read k b v
+  reads-guess : k ≡ 0 → b ≡ false → v ≡ guess → Read k b v
+
+read : (k : ℕ) (b : Bool) → Read k b (word k b)
+read k b = go (ltb 0 k) b refl refl
+  where
+    go : (x y : Bool) → ltb 0 k ≡ x → b ≡ y → Read k b (cond x broken (cond y result guess))
+    go true y p q = reads-broken (ltb-true 0 k p) refl
+    go false true p q = reads-result (omega (arith, ltb-false 0 k p)) q refl
+    go false false p q = reads-guess (omega (arith, ltb-false 0 k p)) q refl
+
+differ : (v : Verdict) (m n : ℕ) → code v ≡ m → code v ≡ n → m < n → ⊥
+differ v m n p q h = omega (arith, p, q, h)
+
+-- the three sentences, where the test says C
+words : (k : ℕ) (b : Bool) (v : Verdict) (C : Type 0) → (b ≡ true → C) → (C → b ≡ true) → Read k b v
+    → ((v ≡ broken) ↔ (0 < k)) × ((v ≡ result) ↔ ((k ≡ 0) × C)) × ((v ≡ guess) ↔ ((k ≡ 0) × (C → ⊥)))
+words k b v C f g (reads-broken p e) = (
+  ((λ h. p), (λ h. e)),
+  ((λ h. absurd (differ v 1 2 (ap code h) (ap code e) (omega arith))), (λ h. absurd (omega (arith, p, h .0)))),
+  ((λ h. absurd (differ v 0 2 (ap code h) (ap code e) (omega arith))), (λ h. absurd (omega (arith, p, h .0)))),
+)
+words k b v C f g (reads-result p q e) = (
+  ((λ h. absurd (differ v 1 2 (ap code e) (ap code h) (omega arith))), (λ h. absurd (omega (arith, p, h)))),
+  ((λ h. (p, f q)), (λ h. e)),
+  ((λ h. absurd (differ v 0 1 (ap code h) (ap code e) (omega arith))), (λ h. absurd (h .1 (f q)))),
+)
+words k b v C f g (reads-guess p q e) = (
+  ((λ h. absurd (differ v 0 2 (ap code e) (ap code h) (omega arith))), (λ h. absurd (omega (arith, p, h)))),
+  ((λ h. absurd (differ v 0 1 (ap code e) (ap code h) (omega arith))), (λ h. absurd (true≢false (sym (g (h .1)) ∙ q)))),
+  ((λ h. (p, λ y. true≢false (sym (g y) ∙ q))), (λ h. e)),
+)
+
+final : Tally → Bool
+final t = eqb (length (countsOf (t .streams))) 1 && eqb (endedIn (t .streams)) (known (t .streams))
+
+only : (cs : List ℕ) → length cs ≡ 1 → cs ≡ getD cs 0 0 ∷ []
+only [] h = absurd (omega arith)
+only (n ∷ []) h = refl
+only (n ∷ m ∷ cs) h = absurd (omega arith)
+
+final-complete : (t : Tally) → final t ≡ true → Complete t
+unfolding final
+final-complete t h =
+    let q = and-eq-true-iff (eqb (length (countsOf (t .streams))) 1) (eqb (endedIn (t .streams)) (known (t .streams))) .0 h in
+    (known (t .streams), only (countsOf (t .streams)) (eqb-true (length (countsOf (t .streams))) 1 (q .0)), eqb-true (endedIn (t .streams)) (known (t .streams)) (q .1))
+
+complete-final : (t : Tally) → Complete t → final t ≡ true
+unfolding final
+complete-final t h =
+    rw (eq-eqb (length (countsOf (t .streams))) 1 (ap length (h .1)), eq-eqb (endedIn (t .streams)) (known (t .streams)) (h .2 ∙ sym (ap (λ cs. getD cs 0 0) (h .1))))
+
+-- ---- the byte count
+
+left-bytes : (ss : List Stream) → AllProper ss → sum (λ k. k .left) (map rowOf ss) + bytesIn (blocksOf ss) ≡ sum sizeOf (blocksOf ss)
+unfolding sum blocksOf rowOf numbersOf
+left-bytes [] a = refl
+left-bytes (s ∷ ss) a =
+    omega (arith, left-bytes ss (a .1), kind-left (view s) (accepted s) (isSome (taken s)) (kind s (a .0)), sum-append sizeOf (accepted s) (blocksOf ss), sum-append (λ (x : Block). length (x .body)) (accepted s) (blocksOf ss))
+
+module _ (F R : ℕ) (before : Pairs) (file : List ℕ) (ruled : Ruled 0 before) where
+  stored-is : (t : Tally) → Invariant F R before t → storedOf (worldOf F R before file t) ≡ bytesIn (blocksOf (t .streams)) + total before
+  unfolding storedOf leftOf worldOf transferOf
+  stored-is t i =
+      rw (pairs-are F R before file ruled t i) (omega (arith, claims-total (blocksOf (t .streams)) before ruled (i .apart), left-bytes (t .streams) (i .proper)))
+
+  pub after-tally : (t : Tally) → length file ≡ F → R ≤ pairLimit → Invariant F R before t → AfterList R before file (worldOf F R before file t) t
+  after-tally t l r i =
+      record {
+        broken-is = says .0;
+        result-is = says .1;
+        guess-is = says .2;
+        file-is = unfold worldOf in refl;
+        bytes-are = stored-is t i;
+        fault-is = unfold worldOf transferOf in (refl, refl);
+        count-is = unfold worldOf transferOf in refl;
+        ledger-is = unfold worldOf in refl;
+        ledger-obeys = unfold worldOf obeys in rule-lent R 0 (claimed before (t .streams)) (claims-ruled (blocksOf (t .streams)) before ruled);
+        fits-still = fits-always F R before file t ruled l r i;
+      }
+    where
+      by-word : verdict t ≡ word (t .fault) (final t)
+      by-word = unfold verdict final in refl
+
+      says : ((verdictOf (worldOf F R before file t) ≡ broken) ↔ (0 < t .fault)) × ((verdictOf (worldOf F R before file t) ≡ result) ↔ ((t .fault ≡ 0) × Complete t))
+          × ((verdictOf (worldOf F R before file t) ≡ guess) ↔ ((t .fault ≡ 0) × (Complete t → ⊥)))
+      says =
+          words (t .fault) (final t) (verdictOf (worldOf F R before file t)) (Complete t) (final-complete t) (complete-final t)
+          (subst (Read (t .fault) (final t)) (sym (verdict-is F R before file t i ∙ by-word)) (read (t .fault) (final t)))
+
+-- ---- every list
+
+same : (w : World) (file : List ℕ) (R : ℕ) (before : Pairs) → Begun w file R before → (ks : List Call)
+    → (runBy callOf w ks ≡ (runBy (tallyCallOf (length file) R before) empty ks .0, worldOf (length file) R before file (tallyOf (length file) R before ks)))
+    × AfterList R before file (worldOf (length file) R before file (tallyOf (length file) R before ks)) (tallyOf (length file) R before ks)
+same w file R before (fresh-start f ledger e) ks =
+    let b = begun-is f ledger e in
+    let s = run (length f) (roomOf ledger) none f tt refl (b .0) ks empty (invariant-empty (length f) (roomOf ledger)) in
+    (ap (λ v. runBy callOf v ks) (b .1) ∙ s .out, after-tally (length f) (roomOf ledger) none f tt (tallyOf (length f) (roomOf ledger) none ks) refl (b .0) (s .kept))
+
+pub every-list : EveryList
+every-list =
+    record {
+      answers-are = λ w file R before b ks. ap (λ r. r .0) (same w file R before b ks .0);
+      after-list = λ w file R before b ks.
+          subst (λ v. AfterList R before file v (tallyOf (length file) R before ks)) (sym (ap (λ r. r .1) (same w file R before b ks .0))) (same w file R before b ks .1);
+    }

@@ -1,0 +1,56 @@
+-- What holds after every list of receive calls: the part of demand 3 that is proved so far, a field for each sentence.
+--
+-- Still to come: the file by place, stored bytes staying stored, payloads standing whole, calls after RESULT, well-formed sendings.
+use Prim.Native.Nat.{ℕ, _+_, _<_}
+use mathlib.Core.Path.{_≡_}
+use mathlib.Core.Logic.{_↔_}
+use mathlib.Core.Bool.{true}
+use mathlib.Core.List.{List, [], _∷_}
+use lib.ListN.{length}
+use Rattle.ledger.specs.Pairs.{Pairs, none, total}
+use Rattle.ledger.specs.Ledger.{roomOf, obeys, lent}
+use Rattle.transfer.specs.Transfer.{World, guess, result, broken, verdictOf, storedOf, startNumber}
+use Rattle.transfer.specs.Receive.{Answer}
+use Rattle.transfer.specs.Fit.{fits}
+use Rattle.transfer.specs.Calls.{Call, runBy, begun, answersOf, after}
+use Rattle.tally.specs.Block.{placed, bytesIn}
+use Rattle.tally.specs.Tally.{Tally, blocksOf, countsOf, known, claimed, endedIn, empty, callOf}
+
+-- the world w is what an accepted start leaves, with a file and a ledger of R pairs that holds these ranges
+pub data Begun : World → List ℕ → ℕ → Pairs → Type 0 where
+  fresh-start : (file ledger : List ℕ) → startNumber ledger ≡ 0 → Begun (begun file ledger) file (roomOf ledger) none
+
+-- the tally of the same list, and its answers
+abbrev pub tallyOf : ℕ → ℕ → Pairs → List Call → Tally
+tallyOf F R before ks = runBy (callOf F R before) empty ks .1
+
+abbrev pub tallyAnswers : ℕ → ℕ → Pairs → List Call → List Answer
+tallyAnswers F R before ks = runBy (callOf F R before) empty ks .0
+
+-- the accepted blocks hold one count n, and exactly n channels have ended
+abbrev pub Complete : Tally → Type 0
+Complete t = (n : ℕ) × (countsOf (t .streams) ≡ n ∷ []) × (endedIn (t .streams) ≡ n)
+
+-- w is the world after the list, t its tally
+pub record AfterList (R : ℕ) (before : Pairs) (file : List ℕ) (w : World) (t : Tally) : Type 0 where
+  -- BROKEN exactly when a fault has come
+  pub broken-is : (verdictOf w ≡ broken) ↔ (0 < t .fault)
+  -- otherwise RESULT exactly when one count n is known and n channels have ended
+  pub result-is : (verdictOf w ≡ result) ↔ ((t .fault ≡ 0) × Complete t)
+  -- otherwise GUESS
+  pub guess-is : (verdictOf w ≡ guess) ↔ ((t .fault ≡ 0) × (Complete t → ⊥))
+  -- the file is the starting file with every payload byte taken at its place, and the byte count is their number and that of the bytes held before
+  pub file-is : w .lent .file ≡ placed (blocksOf (t .streams)) file
+  pub bytes-are : storedOf w ≡ bytesIn (blocksOf (t .streams)) + total before
+  -- the fault's number and channel, the count and the ledger are the tally's
+  pub fault-is : (w .t .fault ≡ t .fault) × (w .t .on ≡ t .on)
+  pub count-is : w .t .count ≡ known (t .streams)
+  pub ledger-is : w .lent .claimed ≡ lent R (claimed before (t .streams))
+  pub ledger-obeys : obeys (w .lent .claimed) ≡ true
+  -- transfer, file and ledger fit
+  pub fits-still : fits w ≡ true
+
+pub record EveryList : Type 0 where
+  pub answers-are : (w : World) (file : List ℕ) (R : ℕ) (before : Pairs) → Begun w file R before → (ks : List Call) → answersOf w ks ≡ tallyAnswers (length file) R before ks
+  pub after-list : (w : World) (file : List ℕ) (R : ℕ) (before : Pairs) → Begun w file R before → (ks : List Call)
+      → AfterList R before file (after w ks) (tallyOf (length file) R before ks)
