@@ -12,9 +12,10 @@ use lib.ListN.{length}
 use Rattle.ledger.specs.Pairs.{Pairs, Ruled}
 use Rattle.transfer.specs.Channel.{channelCount, stateAt}
 use Rattle.transfer.specs.Transfer.{World, guess, result, broken, isFinal, verdictOf}
-use Rattle.transfer.specs.Receive.{Took, goes, stops, leaves, byteOf, Answer, refused, took, bytesBy, isGuess, isEnded, isSome, refusalOf, receiveOf}
+use Rattle.transfer.specs.Receive.{Took, byteOf, Answer, refused, bytesBy, isGuess, isEnded, isSome, refusalOf, receiveOf}
 use Rattle.transfer.specs.Fit.{pairLimit}
 use Rattle.transfer.specs.Calls.{Call, receive, callOf, runBy}
+use Rattle.transfer.proofs.Rowed.{goes-on, stops-there, leaves-it}
 use Rattle.tally.specs.Block.{Block, hasEnd}
 use Rattle.tally.specs.Tally.{Tally, taken, accepted, blocksOf, countsOf, known, used, endedIn, verdict, streamAt, byteOf as tallyByteOf, refusalOf as tallyRefusalOf, callOf as tallyCallOf}
 use Rattle.tally.proofs.Views.{view}
@@ -63,18 +64,6 @@ guess-clean t h = go (decLt 0 (t .fault))
 
 -- ---- a piece
 
-pub bytes-go {ℓ} : {W : Type ℓ} (g : W → ℕ → Took W) (w v : W) (b : ℕ) (bs : List ℕ) (k : ℕ) → g w b ≡ goes v → bytesBy g w (b ∷ bs) k ≡ bytesBy g v bs (suc k)
-unfolding bytesBy
-bytes-go g w v b bs k e = rw (e, bytesBy)
-
-pub bytes-stop {ℓ} : {W : Type ℓ} (g : W → ℕ → Took W) (w v : W) (b : ℕ) (bs : List ℕ) (k : ℕ) → g w b ≡ stops v → bytesBy g w (b ∷ bs) k ≡ (took (suc k), v)
-unfolding bytesBy
-bytes-stop g w v b bs k e = rw (e, bytesBy)
-
-pub bytes-leave {ℓ} : {W : Type ℓ} (g : W → ℕ → Took W) (w v : W) (b : ℕ) (bs : List ℕ) (k : ℕ) → g w b ≡ leaves v → bytesBy g w (b ∷ bs) k ≡ (took k, v)
-unfolding bytesBy
-bytes-leave g w v b bs k e = rw (e, bytesBy)
-
 module _ (F R : ℕ) (before : Pairs) (file : List ℕ) (ruled : Ruled 0 before) where
   abbrev here : Tally → World
   here t = worldOf F R before file t
@@ -100,12 +89,12 @@ module _ (F R : ℕ) (before : Pairs) (file : List ℕ) (ruled : Ruled 0 before)
           → Same F R before file t′ Answer (bytesBy (λ v b. byteOf v c b) (worldOf F R before file t′) piece (suc k)) (bytesBy (λ v b. tallyByteOf F R before v c b) t′ piece (suc k)))
           → Same F R before file t Answer (bytesBy (λ v b. byteOf v c b) (worldOf F R before file t) (b ∷ piece) k) (bytesBy (λ v b. tallyByteOf F R before v c b) t (b ∷ piece) k)
       go (both-go t′ y x i′ g z′ o′) on =
-          rw (bytes-go M (worldOf F R before file t) (worldOf F R before file t′) b piece k x, bytes-go N t t′ b piece k y)
+          rw (goes-on M (worldOf F R before file t) (worldOf F R before file t′) b piece k x, goes-on N t t′ b piece k y)
           (let s = on t′ i′ z′ o′ in record { out = s .out; kept = s .kept; grown = once-more _ _ _ g (s .grown) })
       go (both-stop t′ y x i′ g) on =
-          rw (bytes-stop M (worldOf F R before file t) (worldOf F R before file t′) b piece k x, bytes-stop N t t′ b piece k y) (record { out = refl; kept = i′; grown = grew t′ g })
+          rw (stops-there M (worldOf F R before file t) (worldOf F R before file t′) b piece k x, stops-there N t t′ b piece k y) (record { out = refl; kept = i′; grown = grew t′ g })
       go (both-leave t′ y x i′ g) on =
-          rw (bytes-leave M (worldOf F R before file t) (worldOf F R before file t′) b piece k x, bytes-leave N t t′ b piece k y) (record { out = refl; kept = i′; grown = grew t′ g })
+          rw (leaves-it M (worldOf F R before file t) (worldOf F R before file t′) b piece k x, leaves-it N t t′ b piece k y) (record { out = refl; kept = i′; grown = grew t′ g })
 
   -- ---- a call
 

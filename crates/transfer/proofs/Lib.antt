@@ -1,3 +1,4 @@
 pub mod Lens
 pub mod Pieces
 pub mod ProvedSets
+pub mod Rowed

@@ -5,3 +5,4 @@ pub mod Fit
 pub mod Receive
 pub mod Calls
 pub mod ProvedSet
+pub mod Rows

@@ -1,0 +1,36 @@
+-- What a receive call answers and leaves, row by row (document 01, "One transfer"), what its piece is, and what a list of calls is.
+use Prim.Native.Nat.{ℕ, suc, _≤_, _<_}
+use mathlib.Core.Path.{_≡_}
+use mathlib.Core.Bool.{true, false}
+use mathlib.Core.List.{List, [], _∷_, _++_}
+use Rattle.transfer.specs.Channel.{channelCount, stateAt, ended}
+use Rattle.transfer.specs.Transfer.{World, guess, verdictOf}
+use Rattle.transfer.specs.Receive.{Took, goes, stops, leaves, refused, took, bytesBy, byteOf, receiveOf}
+use Rattle.transfer.specs.Fit.{fits}
+use Rattle.transfer.specs.Calls.{Call, callOf, answersOf, after}
+
+-- the premises carry the order of the numbers
+pub record Rows : Type 1 where
+  -- 1: transfer, file and ledger don't fit
+  pub row-1 : (w : World) (c : ℕ) (piece : List ℕ) → fits w ≡ false → receiveOf w c piece ≡ (refused 1, w)
+  -- 2: there is no such channel
+  pub row-2 : (w : World) (c : ℕ) (piece : List ℕ) → fits w ≡ true → channelCount ≤ c → receiveOf w c piece ≡ (refused 2, w)
+  -- 3: the verdict is not GUESS
+  pub row-3 : (w : World) (c : ℕ) (piece : List ℕ) → fits w ≡ true → c < channelCount → (verdictOf w ≡ guess → ⊥) → receiveOf w c piece ≡ (refused 3, w)
+  -- 4: bytes for a channel that has ended
+  pub row-4 : (w : World) (c b : ℕ) (bs : List ℕ) → fits w ≡ true → c < channelCount → verdictOf w ≡ guess → stateAt (w .t) c ≡ ended
+      → receiveOf w c (b ∷ bs) ≡ (refused 4, w)
+  -- an empty piece is taken, whatever the channel's state
+  pub row-empty : (w : World) (c : ℕ) → fits w ≡ true → c < channelCount → verdictOf w ≡ guess → receiveOf w c [] ≡ (took 0, w)
+  -- otherwise the bytes are taken one after the other
+  pub row-taken : (w : World) (c b : ℕ) (bs : List ℕ) → fits w ≡ true → c < channelCount → verdictOf w ≡ guess → (stateAt (w .t) c ≡ ended → ⊥)
+      → receiveOf w c (b ∷ bs) ≡ bytesBy (λ v x. byteOf v c x) w (b ∷ bs) 0
+  -- a byte after which the call goes on, one after which it stops, and one that is not taken; k bytes were taken before
+  pub piece-goes : {W : Type 0} (f : W → ℕ → Took W) (w v : W) (b : ℕ) (bs : List ℕ) (k : ℕ) → f w b ≡ goes v → bytesBy f w (b ∷ bs) k ≡ bytesBy f v bs (suc k)
+  pub piece-stops : {W : Type 0} (f : W → ℕ → Took W) (w v : W) (b : ℕ) (bs : List ℕ) (k : ℕ) → f w b ≡ stops v → bytesBy f w (b ∷ bs) k ≡ (took (suc k), v)
+  pub piece-leaves : {W : Type 0} (f : W → ℕ → Took W) (w v : W) (b : ℕ) (bs : List ℕ) (k : ℕ) → f w b ≡ leaves v → bytesBy f w (b ∷ bs) k ≡ (took k, v)
+  -- one more call gets what the last left
+  pub one-more : (w : World) (ks : List Call) (k : Call)
+      → (after w (ks ++ k ∷ []) ≡ callOf (after w ks) k .1) × (answersOf w (ks ++ k ∷ []) ≡ answersOf w ks ++ (callOf (after w ks) k .0 ∷ []))
+  -- once the verdict is not GUESS, no list of calls changes anything
+  pub stays : (w : World) → (verdictOf w ≡ guess → ⊥) → (ks : List Call) → after w ks ≡ w
