@@ -3,7 +3,7 @@ use Prim.Native.Nat.{ℕ, _+_, _≤_, _<_}
 use mathlib.Core.Path.{_≡_, refl, sym, ap, _∙_, subst}
 use mathlib.Core.Logic.{_↔_}
 use mathlib.Core.Bool.{Bool, true, false, cond, _&&_, and-eq-true-iff, true≢false}
-use mathlib.Core.List.{List, [], _∷_, map}
+use mathlib.Core.List.{List, [], _∷_, _++_, map}
 use native.Mathlib.Omega.{arith}
 use borrow.Author.Tests.{eq-eqb, ltb-true, ltb-false, eqb-true}
 use lib.Dec.{ltb, eqb}
@@ -15,19 +15,22 @@ use Rattle.transfer.specs.Channel.{numbersOf}
 use Rattle.transfer.specs.Transfer.{sum, leftOf, World, Verdict, guess, result, broken, verdictOf, storedOf}
 use Rattle.transfer.specs.Receive.{isSome}
 use Rattle.transfer.specs.Fit.{pairLimit}
-use Rattle.transfer.specs.Calls.{Call, callOf, runBy}
+use Rattle.transfer.specs.Calls.{Call, callOf, runBy, after}
 use Rattle.tally.specs.Block.{Block, sizeOf, bytesIn}
-use Rattle.tally.specs.Tally.{Tally, Stream, taken, accepted, blocksOf, countsOf, known, claimed, endedIn, verdict, empty, callOf as tallyCallOf}
-use Rattle.tally.specs.AfterList.{Begun, fresh-start, tallyOf, Complete, AfterList, EveryList}
-use Rattle.tally.proofs.Claimed.{sum-append, claims-ruled, claims-total}
+use Rattle.tally.specs.Tally.{Tally, Stream, taken, accepted, blocksOf, countsOf, known, claimed, used, endedIn, verdict, empty, callOf as tallyCallOf}
+use Rattle.tally.specs.AfterList.{Begun, fresh-start, tallyOf, Complete, Has, AfterList, EveryList}
+use Rattle.tally.proofs.Claimed.{sum-append, claims-ruled, claims-holds, claims-total}
+use Rattle.tally.proofs.Placed.{length-placed}
 use Rattle.tally.proofs.Views.{view}
 use Rattle.tally.proofs.Shapes.{kind, kind-left}
-use Rattle.tally.proofs.Streams.{AllProper}
+use Rattle.tally.proofs.Streams.{AllProper, proper-bodies}
 use Rattle.tally.proofs.States.{rowOf, transferOf, worldOf}
-use Rattle.tally.proofs.Invariant.{Invariant}
+use Rattle.tally.proofs.Invariant.{Count, unknown, announced, Invariant}
 use Rattle.tally.proofs.Accepts.{pairs-are}
 use Rattle.tally.proofs.Fits.{fits-always}
-use Rattle.tally.proofs.Runs.{verdict-is, run}
+use Rattle.tally.proofs.Runs.{Grown, verdict-is, run}
+use Rattle.tally.proofs.Stored.{has-cover, has-placed, none-placed, holds-below-end, grown-has, grown-bytes}
+use Rattle.tally.proofs.Wholes.{whole-all, whole-stand}
 use Rattle.tally.proofs.Begins.{invariant-empty, begun-is}
 
 -- ---- the verdict
@@ -116,15 +119,38 @@ module _ (F R : ℕ) (before : Pairs) (file : List ℕ) (ruled : Ruled 0 before)
         broken-is = says .0;
         result-is = says .1;
         guess-is = says .2;
+        file-taken = at-place;
+        file-rest = λ p h. unfold worldOf in none-placed p (blocksOf (t .streams)) file h;
+        file-length = unfold worldOf in length-placed (blocksOf (t .streams)) file;
         file-is = unfold worldOf in refl;
         bytes-are = stored-is t i;
         fault-is = unfold worldOf transferOf in (refl, refl);
         count-is = unfold worldOf transferOf in refl;
         ledger-is = unfold worldOf in refl;
         ledger-obeys = unfold worldOf obeys in rule-lent R 0 (claimed before (t .streams)) (claims-ruled (blocksOf (t .streams)) before ruled);
+        stands = λ c. whole-stand (worldOf F R before file t .lent .file) (blocksOf (t .streams)) (whole-all (t .streams) (i .proper) (all-ended c (i .count))) (λ p v h. at-place p v h .1);
         fits-still = fits-always F R before file t ruled l r i;
       }
     where
+      -- a place with a payload byte is claimed, so it lies below F
+      below : (p v : ℕ) → Has p v (blocksOf (t .streams)) → p < length file
+      below p v h =
+          let covered = has-cover p v (blocksOf (t .streams)) (proper-bodies (t .streams) (i .proper)) h in
+          omega (arith, l, holds-below-end F p (claimed before (t .streams)) (i .ends) (omega (arith, claims-holds p (blocksOf (t .streams)) before ruled, covered)))
+
+      at-place : (p v : ℕ) → Has p v (blocksOf (t .streams)) → (p < length file) × (getD (worldOf F R before file t .lent .file) p 0 ≡ v)
+      at-place p v h = (below p v h, has p v h)
+        where
+          has : (p v : ℕ) → Has p v (blocksOf (t .streams)) → getD (worldOf F R before file t .lent .file) p 0 ≡ v
+          has p v h = unfold worldOf in has-placed p v (blocksOf (t .streams)) file (proper-bodies (t .streams) (i .proper)) (omega (arith, i .apart p)) (below p v h) h
+
+      -- as many have ended as are announced, and no more are used
+      all-ended : Complete t → Count (countsOf (t .streams)) (used (t .streams)) → used (t .streams) ≤ endedIn (t .streams)
+      all-ended c (unknown e) = let z : _≡_ {A = ℕ} 0 1 = ap length (sym e ∙ c .1) in absurd (omega (arith, z))
+      all-ended c (announced n e e₀ e₁ e₂) =
+          let same : n ≡ c .0 = ap (λ cs. getD cs 0 0) (sym e ∙ c .1) in
+          omega (arith, same, c .2)
+
       by-word : verdict t ≡ word (t .fault) (final t)
       by-word = unfold verdict final in refl
 
@@ -144,10 +170,31 @@ same w file R before (fresh-start f ledger e) ks =
     let s = run (length f) (roomOf ledger) none f tt refl (b .0) ks empty (invariant-empty (length f) (roomOf ledger)) in
     (ap (λ v. runBy callOf v ks) (b .1) ∙ s .out, after-tally (length f) (roomOf ledger) none f tt (tallyOf (length f) (roomOf ledger) none ks) refl (b .0) (s .kept))
 
+-- the tally of a longer list is the tally of what comes behind, from that of the first part
+tally-append : (F R : ℕ) (before : Pairs) (t : Tally) (ks more : List Call)
+    → runBy (tallyCallOf F R before) t (ks ++ more) .1 ≡ runBy (tallyCallOf F R before) (runBy (tallyCallOf F R before) t ks .1) more .1
+unfolding runBy
+tally-append F R before t [] more = refl
+tally-append F R before t (k ∷ ks) more = tally-append F R before (tallyCallOf F R before t k .1) ks more
+
+grew : (w : World) (file : List ℕ) (R : ℕ) (before : Pairs) → Begun w file R before → (ks more : List Call)
+    → Grown (blocksOf (tallyOf (length file) R before ks .streams)) (blocksOf (tallyOf (length file) R before (ks ++ more) .streams))
+grew w file R before (fresh-start f ledger e) ks more =
+    let b = begun-is f ledger e in
+    let s = run (length f) (roomOf ledger) none f tt refl (b .0) ks empty (invariant-empty (length f) (roomOf ledger)) in
+    let m = run (length f) (roomOf ledger) none f tt refl (b .0) more (tallyOf (length f) (roomOf ledger) none ks) (s .kept) in
+    subst (λ u. Grown (blocksOf (tallyOf (length f) (roomOf ledger) none ks .streams)) (blocksOf (u .streams))) (sym (tally-append (length f) (roomOf ledger) none empty ks more)) (m .grown)
+
+after-list-is : (w : World) (file : List ℕ) (R : ℕ) (before : Pairs) → Begun w file R before → (ks : List Call) → AfterList R before file (after w ks) (tallyOf (length file) R before ks)
+after-list-is w file R before b ks =
+    subst (λ v. AfterList R before file v (tallyOf (length file) R before ks)) (sym (ap (λ r. r .1) (same w file R before b ks .0))) (same w file R before b ks .1)
+
 pub every-list : EveryList
 every-list =
     record {
       answers-are = λ w file R before b ks. ap (λ r. r .0) (same w file R before b ks .0);
-      after-list = λ w file R before b ks.
-          subst (λ v. AfterList R before file v (tallyOf (length file) R before ks)) (sym (ap (λ r. r .1) (same w file R before b ks .0))) (same w file R before b ks .1);
+      after-list = after-list-is;
+      kept = λ w file R before b ks more p v h. grown-has _ _ p v (grew w file R before b ks more) h;
+      counted = λ w file R before b ks more.
+          omega (arith, after-list-is w file R before b ks .bytes-are, after-list-is w file R before b (ks ++ more) .bytes-are, grown-bytes _ _ (grew w file R before b ks more));
     }

@@ -62,7 +62,7 @@ pub data Grows (a b : List Block) : Type 0 where
 
 -- ---- ended channels are used ones
 
-ended-used : (s : Stream) → Proper s → one (hasEnd (accepted s)) ≤ one (isSome (taken s))
+pub ended-used : (s : Stream) → Proper s → one (hasEnd (accepted s)) ≤ one (isSome (taken s))
 ended-used s o = go (view s) (isSome (taken s)) (kind-ended (view s) (accepted s) (isSome (taken s)) (kind s o)) (kind-used (view s) (accepted s) (isSome (taken s)) (kind s o))
   where
     go : (x : State) (u : Bool) → hasEnd (accepted s) ≡ isEnded x → one u ≡ cond (eqb (stateNumber x) 0) 0 1 → one (hasEnd (accepted s)) ≤ one u

@@ -15,4 +15,6 @@ pub mod Steps
 pub mod Fits
 pub mod Runs
 pub mod Begins
+pub mod Stored
+pub mod Wholes
 pub mod AfterLists

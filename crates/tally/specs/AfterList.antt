@@ -1,19 +1,19 @@
 -- What holds after every list of receive calls: the part of demand 3 that is proved so far, a field for each sentence.
 --
--- Still to come: the file by place, stored bytes staying stored, payloads standing whole, calls after RESULT, well-formed sendings.
-use Prim.Native.Nat.{ℕ, _+_, _<_}
+-- That no call changes anything once the verdict is not GUESS is `stays` of transfer's Rows. Still to come: well-formed sendings and their arrivals.
+use Prim.Native.Nat.{ℕ, _+_, _≤_, _<_}
 use mathlib.Core.Path.{_≡_}
-use mathlib.Core.Logic.{_↔_}
+use mathlib.Core.Logic.{_↔_, _⊎_}
 use mathlib.Core.Bool.{true}
-use mathlib.Core.List.{List, [], _∷_}
-use lib.ListN.{length}
+use mathlib.Core.List.{List, [], _∷_, _++_}
+use lib.ListN.{length, getD}
 use Rattle.ledger.specs.Pairs.{Pairs, none, total}
 use Rattle.ledger.specs.Ledger.{roomOf, obeys, lent}
 use Rattle.transfer.specs.Transfer.{World, guess, result, broken, verdictOf, storedOf, startNumber}
 use Rattle.transfer.specs.Receive.{Answer}
 use Rattle.transfer.specs.Fit.{fits}
 use Rattle.transfer.specs.Calls.{Call, runBy, begun, answersOf, after}
-use Rattle.tally.specs.Block.{placed, bytesIn}
+use Rattle.tally.specs.Block.{Block, placeOf, sizeOf, placed, bytesIn}
 use Rattle.tally.specs.Tally.{Tally, blocksOf, countsOf, known, claimed, endedIn, empty, callOf}
 
 -- the world w is what an accepted start leaves, with a file and a ledger of R pairs that holds these ranges
@@ -31,6 +31,16 @@ tallyAnswers F R before ks = runBy (callOf F R before) empty ks .0
 abbrev pub Complete : Tally → Type 0
 Complete t = (n : ℕ) × (countsOf (t .streams) ≡ n ∷ []) × (endedIn (t .streams) ≡ n)
 
+-- one of the blocks has the payload byte v for the place p
+abbrev pub Has : ℕ → ℕ → List Block → Type 0
+Has p v [] = ⊥
+Has p v (x ∷ xs) = ((i : ℕ) × (i < length (x .body)) × (p ≡ placeOf x + i) × (v ≡ getD (x .body) i 0)) ⊎ Has p v xs
+
+-- each of the blocks is whole and stands in the file
+abbrev pub Stand : List ℕ → List Block → Type 0
+Stand file [] = Unit
+Stand file (x ∷ xs) = (length (x .body) ≡ sizeOf x) × ((i : ℕ) → i < sizeOf x → getD file (placeOf x + i) 0 ≡ getD (x .body) i 0) × Stand file xs
+
 -- w is the world after the list, t its tally
 pub record AfterList (R : ℕ) (before : Pairs) (file : List ℕ) (w : World) (t : Tally) : Type 0 where
   -- BROKEN exactly when a fault has come
@@ -39,14 +49,21 @@ pub record AfterList (R : ℕ) (before : Pairs) (file : List ℕ) (w : World) (t
   pub result-is : (verdictOf w ≡ result) ↔ ((t .fault ≡ 0) × Complete t)
   -- otherwise GUESS
   pub guess-is : (verdictOf w ≡ guess) ↔ ((t .fault ≡ 0) × (Complete t → ⊥))
-  -- the file is the starting file with every payload byte taken at its place, and the byte count is their number and that of the bytes held before
+  -- the file is the starting file with every payload byte taken at its place: each place that one names lies in the file and has it, any other has
+  -- its starting byte, and the length stays
+  pub file-taken : (p v : ℕ) → Has p v (blocksOf (t .streams)) → (p < length file) × (getD (w .lent .file) p 0 ≡ v)
+  pub file-rest : (p : ℕ) → ((v : ℕ) → Has p v (blocksOf (t .streams)) → ⊥) → getD (w .lent .file) p 0 ≡ getD file p 0
+  pub file-length : length (w .lent .file) ≡ length file
   pub file-is : w .lent .file ≡ placed (blocksOf (t .streams)) file
+  -- the byte count is their number, and that of the bytes held before
   pub bytes-are : storedOf w ≡ bytesIn (blocksOf (t .streams)) + total before
   -- the fault's number and channel, the count and the ledger are the tally's
   pub fault-is : (w .t .fault ≡ t .fault) × (w .t .on ≡ t .on)
   pub count-is : w .t .count ≡ known (t .streams)
   pub ledger-is : w .lent .claimed ≡ lent R (claimed before (t .streams))
   pub ledger-obeys : obeys (w .lent .claimed) ≡ true
+  -- from RESULT on every accepted payload stands whole in the file
+  pub stands : Complete t → Stand (w .lent .file) (blocksOf (t .streams))
   -- transfer, file and ledger fit
   pub fits-still : fits w ≡ true
 
@@ -54,3 +71,8 @@ pub record EveryList : Type 0 where
   pub answers-are : (w : World) (file : List ℕ) (R : ℕ) (before : Pairs) → Begun w file R before → (ks : List Call) → answersOf w ks ≡ tallyAnswers (length file) R before ks
   pub after-list : (w : World) (file : List ℕ) (R : ℕ) (before : Pairs) → Begun w file R before → (ks : List Call)
       → AfterList R before file (after w ks) (tallyOf (length file) R before ks)
+  -- stored bytes stay stored and counted: a payload byte taken at its place is there after any further calls
+  pub kept : (w : World) (file : List ℕ) (R : ℕ) (before : Pairs) → Begun w file R before → (ks more : List Call) (p v : ℕ)
+      → Has p v (blocksOf (tallyOf (length file) R before ks .streams)) → Has p v (blocksOf (tallyOf (length file) R before (ks ++ more) .streams))
+  pub counted : (w : World) (file : List ℕ) (R : ℕ) (before : Pairs) → Begun w file R before → (ks more : List Call)
+      → storedOf (after w ks) ≤ storedOf (after w (ks ++ more))
