@@ -6,3 +6,6 @@ pub mod Receive
 pub mod Calls
 pub mod ProvedSet
 pub mod Rows
+pub mod Block
+pub mod Tally
+pub mod AfterList

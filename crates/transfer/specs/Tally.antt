@@ -5,12 +5,12 @@ use mathlib.Core.List.{List, [], _∷_, _++_}
 use lib.Dec.{leb, ltb, eqb}
 use lib.ListN.{length, getD, set, replicate}
 use Rattle.ledger.specs.Pairs.{Pairs}
 use Rattle.transfer.specs.Channel.{channelCount, heldLimit}
 use Rattle.transfer.specs.Transfer.{sum, Verdict, guess, result, broken}
 use Rattle.transfer.specs.Header.{Asks, counts, claims, nothing, faulty, askedOf, claimFault}
 use Rattle.transfer.specs.Receive.{Took, goes, stops, leaves, Answer, refused, bytesBy, isGuess, isSome}
 use Rattle.transfer.specs.Calls.{Call, receive}
-use Rattle.tally.specs.Block.{Block, cut, over, countsIn, claimsOf, hasEnd}
+use Rattle.transfer.specs.Block.{Block, cut, over, countsIn, claimsOf, hasEnd}
 
 -- ---- one channel: its taken bytes; spoilt where the last header of them was judged a fault
 

@@ -12,22 +12,22 @@ use lib.ListN.{length, getD, set, length-append}
 use Rattle.ledger.specs.Pairs.{Pairs, Ruled}
 use Rattle.ledger.specs.Ledger.{lent}
 use Rattle.eblock.specs.Header.{secondOf, thirdOf}
 use Rattle.transfer.specs.Channel.{channelCount, heldLimit, unused, header, stateAt, putState, putFault}
 use Rattle.transfer.specs.Transfer.{usedOf, withTransfer}
 use Rattle.transfer.specs.Header.{endsChannel, payloadLength, Asks, counts, claims, nothing, faulty, askedOf, claimFault}
 use Rattle.transfer.specs.Receive.{goes, stops, leaves, opens, claimsRange, faults, heeds, judges, heads, byteOn, byteOf, isSome, isEnded}
-use Rattle.tally.specs.Block.{Block, block, cut, cutBy, over, overBy, countsIn, claimsOf, placed}
-use Rattle.tally.specs.Tally.{Tally, Stream, sound, spoilt, taken, allButLast, accepted, blocksOf, countsOf, known, claimed, one, used, streamAt, withStream, withFault, keeps, judgedBy, faultIn, byteOn as tallyByteOn, byteOf as tallyByteOf}
-use Rattle.tally.proofs.Cuts.{flat, Done, cuts-header, cuts-payload}
-use Rattle.tally.proofs.Views.{view, allButLast-last}
-use Rattle.tally.proofs.Shapes.{Shape, no-byte, in-header, in-payload, at-end, Proper, view-header, view-payload, view-end}
-use Rattle.tally.proofs.Streams.{proper-at, sum-set}
-use Rattle.tally.proofs.States.{transferOf, worldOf, state-is, put-is, fault-is, used-is}
-use Rattle.tally.proofs.Asked.{Judgement, claim-judged, claim-accepted, Asking, for-fault, for-count, for-nothing, for-claim, asked}
-use Rattle.tally.proofs.Invariant.{Count, unknown, announced, sound-at, Invariant, stays, same-blocks, kept-fault, kept-spoilt}
-use Rattle.tally.proofs.Follows.{Follows, both-stop, both-leave, world-is, isSome-append, goes-on}
-use Rattle.tally.proofs.Fills.{fills}
-use Rattle.tally.proofs.Accepts.{pairs-are, accepts-count, accepts-nothing, accepts-claim}
+use Rattle.transfer.specs.Block.{Block, block, cut, cutBy, over, overBy, countsIn, claimsOf, placed}
+use Rattle.transfer.specs.Tally.{Tally, Stream, sound, spoilt, taken, allButLast, accepted, blocksOf, countsOf, known, claimed, one, used, streamAt, withStream, withFault, keeps, judgedBy, faultIn, byteOn as tallyByteOn, byteOf as tallyByteOf}
+use Rattle.transfer.proofs.Cuts.{flat, Done, cuts-header, cuts-payload}
+use Rattle.transfer.proofs.Views.{view, allButLast-last}
+use Rattle.transfer.proofs.Shapes.{Shape, no-byte, in-header, in-payload, at-end, Proper, view-header, view-payload, view-end}
+use Rattle.transfer.proofs.Streams.{proper-at, sum-set}
+use Rattle.transfer.proofs.States.{transferOf, worldOf, state-is, put-is, fault-is, used-is}
+use Rattle.transfer.proofs.Asked.{Judgement, claim-judged, claim-accepted, Asking, for-fault, for-count, for-nothing, for-claim, asked}
+use Rattle.transfer.proofs.Invariant.{Count, unknown, announced, sound-at, Invariant, stays, same-blocks, kept-fault, kept-spoilt}
+use Rattle.transfer.proofs.Follows.{Follows, both-stop, both-leave, world-is, isSome-append, goes-on}
+use Rattle.transfer.proofs.Fills.{fills}
+use Rattle.transfer.proofs.Accepts.{pairs-are, accepts-count, accepts-nothing, accepts-claim}
 
 module _ (F R : ℕ) (before : Pairs) (file : List ℕ) (ruled : Ruled 0 before) where
   -- ---- a header's 17th byte

@@ -11,13 +11,13 @@ use lib.ListN.{length, getD, set, length-set, length-append, List·getD-append}
 use lib.Seq.{sets, getD-set-same, getD-set-other}
 use Rattle.ledger.specs.Pairs.{Pairs, none, pair, holds, endsBy}
 use Rattle.ledger.proofs.Places.{hit-in, Where, under, within, past, stand}
 use Rattle.transfer.specs.Transfer.{sum}
-use Rattle.tally.specs.Block.{Block, placeOf, sizeOf, placed, bytesIn}
-use Rattle.tally.specs.AfterList.{Has}
-use Rattle.tally.proofs.Claimed.{sum-append, cover}
-use Rattle.tally.proofs.Placed.{length-placed, Bodies, longer}
-use Rattle.tally.proofs.Invariant.{Grows, stays, opens-block, adds-byte}
-use Rattle.tally.proofs.Runs.{Grown, not-yet, once-more}
+use Rattle.transfer.specs.Block.{Block, placeOf, sizeOf, placed, bytesIn}
+use Rattle.transfer.specs.AfterList.{Has}
+use Rattle.transfer.proofs.Claimed.{sum-append, cover}
+use Rattle.transfer.proofs.Placed.{length-placed, Bodies, longer}
+use Rattle.transfer.proofs.Invariant.{Grows, stays, opens-block, adds-byte}
+use Rattle.transfer.proofs.Runs.{Grown, not-yet, once-more}
 
 -- ---- a run of stores
 

@@ -9,17 +9,17 @@ use lib.ListN.{length, getD, set, take, drop, length-append, List·getD-map}
 use lib.Seq.{drop-at, take-append-add, drop-append-add}
 use Rattle.ledger.specs.Pairs.{Pairs}
 use Rattle.ledger.specs.Ledger.{lent}
 use Rattle.transfer.specs.declared.state.Channel.{Channel}
 use Rattle.transfer.specs.declared.state.Transfer.{Transfer}
 use Rattle.transfer.specs.Channel.{heldLimit, blank, State, unused, header, payload, ended, stateNumber, heldNumber, nextNumber, leftNumber, heldBytes, numbersOf, stateAt, putState, putFault, putCount}
 use Rattle.transfer.specs.Transfer.{sum, oneIfEnded, oneIfAlive, endedOf, usedOf, World, world}
 use Rattle.transfer.specs.Receive.{isSome, isEnded}
 use Rattle.transfer.proofs.Lens.{length-heldBytes, read-back}
-use Rattle.tally.specs.Block.{placed}
-use Rattle.tally.specs.Tally.{Tally, Stream, sound, taken, accepted, blocksOf, known, claimed, one, used, endedIn, streamAt, withStream, withFault}
-use Rattle.tally.proofs.Views.{view}
-use Rattle.tally.proofs.Shapes.{Proper, kind, kind-stands, kind-used, kind-ended}
-use Rattle.tally.proofs.Streams.{AllProper}
+use Rattle.transfer.specs.Block.{placed}
+use Rattle.transfer.specs.Tally.{Tally, Stream, sound, taken, accepted, blocksOf, known, claimed, one, used, endedIn, streamAt, withStream, withFault}
+use Rattle.transfer.proofs.Views.{view}
+use Rattle.transfer.proofs.Shapes.{Proper, kind, kind-stands, kind-used, kind-ended}
+use Rattle.transfer.proofs.Streams.{AllProper}
 
 -- ---- the transfer, the file and the ledger of a tally
 

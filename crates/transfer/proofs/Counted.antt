@@ -5,8 +5,8 @@ use mathlib.Core.Bool.{Bool, true, false, cond}
 use mathlib.Core.List.{List, [], _∷_, _++_}
 use native.Mathlib.Omega.{arith}
 use Rattle.eblock.specs.Header.{thirdOf}
 use Rattle.transfer.specs.Header.{isCount}
-use Rattle.tally.specs.Block.{Block, countsIn}
+use Rattle.transfer.specs.Block.{Block, countsIn}
 
 pub counts-append : (a b : List Block) → countsIn (a ++ b) ≡ countsIn a ++ countsIn b
 unfolding countsIn

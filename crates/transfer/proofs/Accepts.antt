@@ -12,22 +12,22 @@ use Rattle.ledger.proofs.Joined.{join-ends}
 use Rattle.ledger.proofs.Shared.{shares-none}
 use Rattle.ledger.proofs.Lents.{pairsOf-lent}
 use Rattle.eblock.specs.Header.{countLimit, secondOf, thirdOf}
 use Rattle.transfer.specs.Channel.{channelCount, heldLimit, putCount}
 use Rattle.transfer.specs.Transfer.{withTransfer, endedOf}
 use Rattle.transfer.specs.Header.{isCount, endsChannel, payloadLength}
 use Rattle.transfer.specs.Receive.{opens, claimsRange, isSome, isEnded}
-use Rattle.tally.specs.Block.{Block, block, placeOf, sizeOf, cut, countsIn, claim, claimsOf, hasEnd, placed}
-use Rattle.tally.specs.Tally.{Tally, Stream, sound, taken, accepted, blocksOf, countsOf, known, claimed, one, used, streamAt, withStream, keeps}
-use Rattle.tally.proofs.Claimed.{hitBy, cover, claims-ruled, claims-holds, claims-insert}
-use Rattle.tally.proofs.Counted.{counts-without, counts-first}
-use Rattle.tally.proofs.Placed.{placed-insert}
-use Rattle.tally.proofs.Cuts.{flat, Done, cuts-header}
-use Rattle.tally.proofs.Views.{view}
-use Rattle.tally.proofs.Shapes.{in-header, kind, kind-ended, view-header, hit-nothing}
-use Rattle.tally.proofs.Streams.{proper-set, Split, split, sum-set}
-use Rattle.tally.proofs.States.{transferOf, worldOf, put-is, put-count-is, ended-is}
-use Rattle.tally.proofs.Invariant.{Count, unknown, announced, sound-set, Invariant, opens-block, cover-insert}
-use Rattle.tally.proofs.Follows.{Follows, world-is, isSome-append, tipOf, Opened, opened, opens-on}
+use Rattle.transfer.specs.Block.{Block, block, placeOf, sizeOf, cut, countsIn, claim, claimsOf, hasEnd, placed}
+use Rattle.transfer.specs.Tally.{Tally, Stream, sound, taken, accepted, blocksOf, countsOf, known, claimed, one, used, streamAt, withStream, keeps}
+use Rattle.transfer.proofs.Claimed.{hitBy, cover, claims-ruled, claims-holds, claims-insert}
+use Rattle.transfer.proofs.Counted.{counts-without, counts-first}
+use Rattle.transfer.proofs.Placed.{placed-insert}
+use Rattle.transfer.proofs.Cuts.{flat, Done, cuts-header}
+use Rattle.transfer.proofs.Views.{view}
+use Rattle.transfer.proofs.Shapes.{in-header, kind, kind-ended, view-header, hit-nothing}
+use Rattle.transfer.proofs.Streams.{proper-set, Split, split, sum-set}
+use Rattle.transfer.proofs.States.{transferOf, worldOf, put-is, put-count-is, ended-is}
+use Rattle.transfer.proofs.Invariant.{Count, unknown, announced, sound-set, Invariant, opens-block, cover-insert}
+use Rattle.transfer.proofs.Follows.{Follows, world-is, isSome-append, tipOf, Opened, opened, opens-on}
 
 claim-none : (x : Block) (ps : Pairs) → sizeOf x ≡ 0 → claim x ps ≡ ps
 unfolding claim

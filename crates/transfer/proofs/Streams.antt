@@ -4,13 +4,13 @@ use mathlib.Core.Path.{_≡_, refl, sym, ap, _∙_}
 use mathlib.Core.List.{List, [], _∷_, _++_, append-assoc}
 use native.Mathlib.Omega.{arith}
 use lib.ListN.{length, getD, set}
 use Rattle.transfer.specs.Transfer.{sum}
 use Rattle.transfer.specs.Receive.{isSome}
-use Rattle.tally.specs.Block.{Block}
-use Rattle.tally.specs.Tally.{Stream, sound, taken, accepted, blocksOf}
-use Rattle.tally.proofs.Placed.{Bodies, bodies-append}
-use Rattle.tally.proofs.Views.{view}
-use Rattle.tally.proofs.Shapes.{no-byte, Proper, kind, kind-bodies}
+use Rattle.transfer.specs.Block.{Block}
+use Rattle.transfer.specs.Tally.{Stream, sound, taken, accepted, blocksOf}
+use Rattle.transfer.proofs.Placed.{Bodies, bodies-append}
+use Rattle.transfer.proofs.Views.{view}
+use Rattle.transfer.proofs.Shapes.{no-byte, Proper, kind, kind-bodies}
 
 abbrev pub AllProper : List Stream → Type 0
 AllProper [] = Unit

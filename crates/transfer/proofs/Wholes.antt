@@ -6,17 +6,17 @@ use mathlib.Core.Bool.{Bool}
 use mathlib.Core.List.{List, [], _∷_, _++_}
 use native.Mathlib.Omega.{arith}
 use lib.ListN.{length, getD}
 use Rattle.transfer.specs.Channel.{State}
 use Rattle.transfer.specs.Transfer.{sum}
 use Rattle.transfer.specs.Receive.{isSome, isEnded}
-use Rattle.tally.specs.Block.{Block, block, placeOf, sizeOf}
-use Rattle.tally.specs.Tally.{Stream, taken, accepted, blocksOf, one, used, endedIn}
-use Rattle.tally.specs.AfterList.{Has, Stand}
-use Rattle.tally.proofs.Cuts.{Done}
-use Rattle.tally.proofs.Views.{view}
-use Rattle.tally.proofs.Shapes.{Kind, untouched, heading, filling, finished, kind, kind-ended}
-use Rattle.tally.proofs.Streams.{AllProper}
-use Rattle.tally.proofs.Invariant.{ended-used, ended-le}
+use Rattle.transfer.specs.Block.{Block, block, placeOf, sizeOf}
+use Rattle.transfer.specs.Tally.{Stream, taken, accepted, blocksOf, one, used, endedIn}
+use Rattle.transfer.specs.AfterList.{Has, Stand}
+use Rattle.transfer.proofs.Cuts.{Done}
+use Rattle.transfer.proofs.Views.{view}
+use Rattle.transfer.proofs.Shapes.{Kind, untouched, heading, filling, finished, kind, kind-ended}
+use Rattle.transfer.proofs.Streams.{AllProper}
+use Rattle.transfer.proofs.Invariant.{ended-used, ended-le}
 
 abbrev pub AllWhole : List Block → Type 0
 AllWhole [] = Unit

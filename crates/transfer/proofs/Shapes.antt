@@ -10,17 +10,17 @@ use lib.ListN.{length}
 use Rattle.ledger.specs.Pairs.{hit}
 use Rattle.ledger.proofs.Places.{hit-in, Where, under, within, past, stand}
 use Rattle.eblock.specs.Header.{headerLength, thirdOf}
 use Rattle.transfer.specs.Channel.{heldLimit, State, unused, header, payload, ended, stateNumber, nextNumber, leftNumber}
 use Rattle.transfer.specs.Transfer.{sum}
 use Rattle.transfer.specs.Header.{endsChannel, payloadLength}
 use Rattle.transfer.specs.Receive.{isSome, isEnded}
 use Rattle.transfer.proofs.Lens.{Stands}
-use Rattle.tally.specs.Block.{Block, block, sizeOf, isWhole, cut, cutBy, over, closes, hasEnd, bytesIn}
-use Rattle.tally.specs.Tally.{Stream, sound, spoilt, taken, accepted, one}
-use Rattle.tally.proofs.Claimed.{sum-append, hitBy, cover}
-use Rattle.tally.proofs.Placed.{Bodies, bodies-append}
-use Rattle.tally.proofs.Cuts.{flat, Done, bodies-done, cuts-header, cuts-payload}
-use Rattle.tally.proofs.Views.{tip, view, viewOn-done, viewOn-last, hasEnd-done, hasEnd-last}
+use Rattle.transfer.specs.Block.{Block, block, sizeOf, isWhole, cut, cutBy, over, closes, hasEnd, bytesIn}
+use Rattle.transfer.specs.Tally.{Stream, sound, spoilt, taken, accepted, one}
+use Rattle.transfer.proofs.Claimed.{sum-append, hitBy, cover}
+use Rattle.transfer.proofs.Placed.{Bodies, bodies-append}
+use Rattle.transfer.proofs.Cuts.{flat, Done, bodies-done, cuts-header, cuts-payload}
+use Rattle.transfer.proofs.Views.{tip, view, viewOn-done, viewOn-last, hasEnd-done, hasEnd-last}
 
 pub data Shape (bs : List ℕ) : Type 0 where
   no-byte : bs ≡ [] → Shape bs

@@ -7,9 +7,9 @@ use native.Mathlib.Omega.{arith}
 use lib.ListN.{length, set}
 use lib.Seq.{sets, length-sets, set-comm}
 use Rattle.ledger.proofs.Places.{hit-in, Where, under, within, past, stand}
 use Rattle.transfer.specs.Transfer.{sum}
-use Rattle.tally.specs.Block.{Block, block, placeOf, sizeOf, placed}
-use Rattle.tally.proofs.Claimed.{sum-append, hitBy, cover}
+use Rattle.transfer.specs.Block.{Block, block, placeOf, sizeOf, placed}
+use Rattle.transfer.proofs.Claimed.{sum-append, hitBy, cover}
 
 sets-snoc : (f : List ℕ) (o : ℕ) (p : List ℕ) (b : ℕ) → sets f o (p ++ b ∷ []) ≡ set (sets f o p) (o + length p) b
 sets-snoc f o [] b = ap (λ k. set f k b) (omega arith)

@@ -8,22 +8,22 @@ use lib.ListN.{length, getD, set, length-append, length-set}
 use Rattle.ledger.specs.Pairs.{Pairs}
 use Rattle.ledger.specs.Ledger.{lent}
 use Rattle.eblock.specs.Header.{headerLength, thirdOf}
 use Rattle.transfer.specs.Channel.{channelCount}
 use Rattle.transfer.specs.Transfer.{world}
 use Rattle.transfer.specs.Header.{endsChannel, payloadLength}
 use Rattle.transfer.specs.Receive.{stores, isSome, isEnded}
-use Rattle.tally.specs.Block.{Block, block, cut, countsIn, claimsOf, hasEnd, placed}
-use Rattle.tally.specs.Tally.{Tally, Stream, sound, taken, accepted, blocksOf, countsOf, claimed, one, used, streamAt, withStream, keeps}
-use Rattle.tally.proofs.Claimed.{cover, claims-same}
-use Rattle.tally.proofs.Counted.{counts-same}
-use Rattle.tally.proofs.Placed.{Bodies, bodies-left, placed-extend}
-use Rattle.tally.proofs.Cuts.{flat, Done, cuts-payload}
-use Rattle.tally.proofs.Views.{view}
-use Rattle.tally.proofs.Shapes.{in-payload, kind, kind-ended, view-payload}
-use Rattle.tally.proofs.Streams.{proper-set, proper-bodies, Split, split, sum-set}
-use Rattle.tally.proofs.States.{transferOf, worldOf, put-is, ended-is}
-use Rattle.tally.proofs.Invariant.{sound-set, Invariant, adds-byte, cover-same}
-use Rattle.tally.proofs.Follows.{Follows, world-is, isSome-append, tipOf, Opened, opened, opens-on}
+use Rattle.transfer.specs.Block.{Block, block, cut, countsIn, claimsOf, hasEnd, placed}
+use Rattle.transfer.specs.Tally.{Tally, Stream, sound, taken, accepted, blocksOf, countsOf, claimed, one, used, streamAt, withStream, keeps}
+use Rattle.transfer.proofs.Claimed.{cover, claims-same}
+use Rattle.transfer.proofs.Counted.{counts-same}
+use Rattle.transfer.proofs.Placed.{Bodies, bodies-left, placed-extend}
+use Rattle.transfer.proofs.Cuts.{flat, Done, cuts-payload}
+use Rattle.transfer.proofs.Views.{view}
+use Rattle.transfer.proofs.Shapes.{in-payload, kind, kind-ended, view-payload}
+use Rattle.transfer.proofs.Streams.{proper-set, proper-bodies, Split, split, sum-set}
+use Rattle.transfer.proofs.States.{transferOf, worldOf, put-is, ended-is}
+use Rattle.transfer.proofs.Invariant.{sound-set, Invariant, adds-byte, cover-same}
+use Rattle.transfer.proofs.Follows.{Follows, world-is, isSome-append, tipOf, Opened, opened, opens-on}
 
 module _ (F R : ℕ) (before : Pairs) (file : List ℕ) where
   pub fills : (t : Tally) (c : ℕ) (bs : List ℕ) (done : List Block) (h p : List ℕ) (b : ℕ) → Invariant F R before t → t .fault ≡ 0 → c < channelCount → streamAt t c ≡ sound bs

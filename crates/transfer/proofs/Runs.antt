@@ -10,22 +10,22 @@ use borrow.Author.Tests.{lt-ltb, leb-false}
 use lib.Dec.{leb, ltb, eqb}
 use lib.ListN.{length}
 use Rattle.ledger.specs.Pairs.{Pairs, Ruled}
 use Rattle.transfer.specs.Channel.{channelCount, stateAt}
 use Rattle.transfer.specs.Transfer.{World, guess, result, broken, isFinal, verdictOf}
 use Rattle.transfer.specs.Receive.{Took, byteOf, Answer, refused, bytesBy, isGuess, isEnded, isSome, refusalOf, receiveOf}
 use Rattle.transfer.specs.Fit.{pairLimit}
 use Rattle.transfer.specs.Calls.{Call, receive, callOf, runBy}
 use Rattle.transfer.proofs.Rowed.{goes-on, stops-there, leaves-it}
-use Rattle.tally.specs.Block.{Block, hasEnd}
-use Rattle.tally.specs.Tally.{Tally, taken, accepted, blocksOf, countsOf, known, used, endedIn, verdict, streamAt, byteOf as tallyByteOf, refusalOf as tallyRefusalOf, callOf as tallyCallOf}
-use Rattle.tally.proofs.Views.{view}
-use Rattle.tally.proofs.Shapes.{kind, kind-ended}
-use Rattle.tally.proofs.Streams.{proper-at}
-use Rattle.tally.proofs.States.{transferOf, worldOf, state-is, ended-is}
-use Rattle.tally.proofs.Invariant.{Count, unknown, announced, Invariant, Grows}
-use Rattle.tally.proofs.Follows.{Follows, both-go, both-stop, both-leave}
-use Rattle.tally.proofs.Steps.{step}
-use Rattle.tally.proofs.Fits.{fits-always}
+use Rattle.transfer.specs.Block.{Block, hasEnd}
+use Rattle.transfer.specs.Tally.{Tally, taken, accepted, blocksOf, countsOf, known, used, endedIn, verdict, streamAt, byteOf as tallyByteOf, refusalOf as tallyRefusalOf, callOf as tallyCallOf}
+use Rattle.transfer.proofs.Views.{view}
+use Rattle.transfer.proofs.Shapes.{kind, kind-ended}
+use Rattle.transfer.proofs.Streams.{proper-at}
+use Rattle.transfer.proofs.States.{transferOf, worldOf, state-is, ended-is}
+use Rattle.transfer.proofs.Invariant.{Count, unknown, announced, Invariant, Grows}
+use Rattle.transfer.proofs.Follows.{Follows, both-go, both-stop, both-leave}
+use Rattle.transfer.proofs.Steps.{step}
+use Rattle.transfer.proofs.Fits.{fits-always}
 
 -- the blocks grew, byte by byte
 pub data Grown : List Block → List Block → Type 0 where

@@ -9,12 +9,12 @@ use mathlib.Core.List.{List, [], _∷_, _++_}
 use lib.ListN.{length, getD}
 use Rattle.ledger.specs.Pairs.{Pairs, none, total}
 use Rattle.ledger.specs.Ledger.{roomOf, obeys, lent}
 use Rattle.transfer.specs.Transfer.{World, guess, result, broken, verdictOf, storedOf, startNumber}
 use Rattle.transfer.specs.Receive.{Answer}
 use Rattle.transfer.specs.Fit.{fits}
 use Rattle.transfer.specs.Calls.{Call, runBy, begun, answersOf, after}
-use Rattle.tally.specs.Block.{Block, placeOf, sizeOf, placed, bytesIn}
-use Rattle.tally.specs.Tally.{Tally, blocksOf, countsOf, known, claimed, endedIn, empty, callOf}
+use Rattle.transfer.specs.Block.{Block, placeOf, sizeOf, placed, bytesIn}
+use Rattle.transfer.specs.Tally.{Tally, blocksOf, countsOf, known, claimed, endedIn, empty, callOf}
 
 -- the world w is what an accepted start leaves, with a file and a ledger of R pairs that holds these ranges
 pub data Begun : World → List ℕ → ℕ → Pairs → Type 0 where

@@ -7,17 +7,17 @@ use native.Mathlib.Omega.{arith}
 use lib.Dec.{eqb}
 use lib.ListN.{length, getD, set, length-set}
 use Rattle.ledger.specs.Pairs.{Pairs, size, holds, endsBy}
 use Rattle.transfer.specs.Channel.{channelCount, State, unused, header, payload, ended, stateNumber}
 use Rattle.transfer.specs.Transfer.{sum}
 use Rattle.transfer.specs.Receive.{isSome, isEnded}
 use Rattle.eblock.specs.Header.{countLimit}
-use Rattle.tally.specs.Block.{Block, hasEnd}
-use Rattle.tally.specs.Tally.{Tally, Stream, sound, spoilt, taken, accepted, blocksOf, countsOf, claimed, one, used, endedIn, streamAt, withStream, withFault}
-use Rattle.tally.proofs.Claimed.{sum-append, hitBy, cover}
-use Rattle.tally.proofs.Placed.{longer}
-use Rattle.tally.proofs.Views.{view}
-use Rattle.tally.proofs.Shapes.{Proper, kind, kind-ended, kind-used}
-use Rattle.tally.proofs.Streams.{AllProper, proper-set, Split, split, sum-set}
+use Rattle.transfer.specs.Block.{Block, hasEnd}
+use Rattle.transfer.specs.Tally.{Tally, Stream, sound, spoilt, taken, accepted, blocksOf, countsOf, claimed, one, used, endedIn, streamAt, withStream, withFault}
+use Rattle.transfer.proofs.Claimed.{sum-append, hitBy, cover}
+use Rattle.transfer.proofs.Placed.{longer}
+use Rattle.transfer.proofs.Views.{view}
+use Rattle.transfer.proofs.Shapes.{Proper, kind, kind-ended, kind-used}
+use Rattle.transfer.proofs.Streams.{AllProper, proper-set, Split, split, sum-set}
 
 -- no count, or one that the sender may announce and that is not less than the channels used
 pub data Count (cs : List ℕ) (u : ℕ) : Type 0 where

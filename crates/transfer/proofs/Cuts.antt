@@ -8,10 +8,10 @@ use borrow.Author.Tests.{lt-ltb, le-ltb}
 use lib.ListN.{length, length-append, drop-of-length-le}
 use lib.Seq.{take-at, drop-at, take-all}
 use Rattle.eblock.specs.Header.{headerLength}
 use Rattle.transfer.specs.Channel.{heldLimit}
 use Rattle.transfer.specs.Header.{endsChannel, payloadLength}
-use Rattle.tally.specs.Block.{Block, block, sizeOf, cutBy, overBy}
-use Rattle.tally.proofs.Placed.{Bodies}
+use Rattle.transfer.specs.Block.{Block, block, sizeOf, cutBy, overBy}
+use Rattle.transfer.proofs.Placed.{Bodies}
 
 -- the bytes of blocks
 unfoldable pub flat : List Block → List ℕ

@@ -9,17 +9,17 @@ use lib.Dec.{ltb, eqb}
 use lib.ListN.{length, replicate}
 use Rattle.ledger.specs.Pairs.{none, size, holds, endsBy}
 use Rattle.ledger.specs.Ledger.{entryLimit, lengthWrong, roomOf, lent}
 use Rattle.transfer.specs.Channel.{channelCount, stateNumber, heldNumber, nextNumber, leftNumber, heldBytes, numbersOf}
 use Rattle.transfer.specs.Transfer.{sum, world, fresh, startNumber, startOf, startLeaves}
 use Rattle.transfer.specs.Fit.{pairLimit}
 use Rattle.transfer.specs.Calls.{begun}
-use Rattle.tally.specs.Block.{cutBy, countsIn, claimsOf, placed}
-use Rattle.tally.specs.Tally.{sound, accepted, blocksOf, empty}
-use Rattle.tally.proofs.Views.{view}
-use Rattle.tally.proofs.Shapes.{no-byte}
-use Rattle.tally.proofs.Streams.{AllProper}
-use Rattle.tally.proofs.States.{rowOf, headsOf, transferOf, worldOf}
-use Rattle.tally.proofs.Invariant.{unknown, no-fault, AllSound, Invariant}
+use Rattle.transfer.specs.Block.{cutBy, countsIn, claimsOf, placed}
+use Rattle.transfer.specs.Tally.{sound, accepted, blocksOf, empty}
+use Rattle.transfer.proofs.Views.{view}
+use Rattle.transfer.proofs.Shapes.{no-byte}
+use Rattle.transfer.proofs.Streams.{AllProper}
+use Rattle.transfer.proofs.States.{rowOf, headsOf, transferOf, worldOf}
+use Rattle.transfer.proofs.Invariant.{unknown, no-fault, AllSound, Invariant}
 
 proper-empty : (n : ℕ) → AllProper (replicate n (sound []))
 proper-empty zero = tt

@@ -12,8 +12,8 @@ use Rattle.ledger.proofs.Places.{Where, under, within, past, stand, hit-le}
 use Rattle.ledger.proofs.Joined.{join-holds, join-ruled}
 use Rattle.ledger.proofs.Unique.{ruled-unique}
 use Rattle.ledger.proofs.Shared.{join-total}
 use Rattle.transfer.specs.Transfer.{sum}
-use Rattle.tally.specs.Block.{Block, placeOf, sizeOf, claim, claimsOf}
+use Rattle.transfer.specs.Block.{Block, placeOf, sizeOf, claim, claimsOf}
 
 pub sum-append {ℓ} : {A : Type ℓ} (f : A → ℕ) (a b : List A) → sum f (a ++ b) ≡ sum f a + sum f b
 unfolding sum

@@ -15,23 +15,23 @@ use Rattle.ledger.proofs.Places.{hit-in}
 use Rattle.ledger.proofs.Shared.{held-inside}
 use Rattle.ledger.proofs.Lents.{length-lent, rule-lent}
 use Rattle.eblock.specs.Header.{countLimit, thirdOf}
 use Rattle.transfer.specs.declared.state.Channel.{Channel}
 use Rattle.transfer.specs.Channel.{channelCount, heldLimit, State, payload, stateNumber, heldNumber, nextNumber, leftNumber, heldBytes, numbersOf}
 use Rattle.transfer.specs.Transfer.{sum}
 use Rattle.transfer.specs.Header.{endsChannel, payloadLength}
 use Rattle.transfer.specs.Receive.{isSome}
 use Rattle.transfer.specs.Fit.{pairLimit, idle, heldFits, restFits, channelFits, channelsFit, apart, apartFrom, restsApart, countFits, faultFits, fitsLedger, fits}
 use Rattle.transfer.proofs.Lens.{length-heldBytes}
-use Rattle.tally.specs.Block.{Block, block, placed}
-use Rattle.tally.specs.Tally.{Tally, Stream, taken, accepted, blocksOf, countsOf, known, claimed, used}
-use Rattle.tally.proofs.Claimed.{sum-append, hitBy, cover, claims-ruled, claims-holds}
-use Rattle.tally.proofs.Placed.{length-placed}
-use Rattle.tally.proofs.Views.{view}
-use Rattle.tally.proofs.Shapes.{Kind, untouched, heading, filling, finished, kind, kind-stands, kind-rest}
-use Rattle.tally.proofs.Streams.{AllProper}
-use Rattle.tally.proofs.States.{rowOf, headsOf, transferOf, worldOf, length-headsOf, used-is}
-use Rattle.tally.proofs.Invariant.{Count, unknown, announced, Fault, no-fault, fault-of, Invariant}
-use Rattle.tally.proofs.Accepts.{pairs-are}
+use Rattle.transfer.specs.Block.{Block, block, placed}
+use Rattle.transfer.specs.Tally.{Tally, Stream, taken, accepted, blocksOf, countsOf, known, claimed, used}
+use Rattle.transfer.proofs.Claimed.{sum-append, hitBy, cover, claims-ruled, claims-holds}
+use Rattle.transfer.proofs.Placed.{length-placed}
+use Rattle.transfer.proofs.Views.{view}
+use Rattle.transfer.proofs.Shapes.{Kind, untouched, heading, filling, finished, kind, kind-stands, kind-rest}
+use Rattle.transfer.proofs.Streams.{AllProper}
+use Rattle.transfer.proofs.States.{rowOf, headsOf, transferOf, worldOf, length-headsOf, used-is}
+use Rattle.transfer.proofs.Invariant.{Count, unknown, announced, Fault, no-fault, fault-of, Invariant}
+use Rattle.transfer.proofs.Accepts.{pairs-are}
 
 zeros-replicate : (n : ℕ) → zeros (replicate n 0) ≡ true
 unfolding zeros

@@ -7,12 +7,12 @@ use native.Mathlib.Omega.{arith}
 use borrow.Author.Tests.{le-ltb}
 use lib.Dec.{ltb}
 use lib.ListN.{length}
 use Rattle.transfer.specs.Channel.{State, unused, header, payload, ended}
 use Rattle.transfer.specs.Header.{endsChannel}
 use Rattle.transfer.specs.Receive.{isSome}
-use Rattle.tally.specs.Block.{Block, placeOf, sizeOf, cut, over, closes, hasEnd}
-use Rattle.tally.specs.Tally.{Stream, sound, spoilt, allButLast}
-use Rattle.tally.proofs.Cuts.{Done}
+use Rattle.transfer.specs.Block.{Block, placeOf, sizeOf, cut, over, closes, hasEnd}
+use Rattle.transfer.specs.Tally.{Stream, sound, spoilt, allButLast}
+use Rattle.transfer.proofs.Cuts.{Done}
 
 -- by the last block and the header begun behind it
 unfoldable pub tip : Block → List ℕ → State

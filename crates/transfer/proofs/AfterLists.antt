@@ -11,27 +11,27 @@ use lib.ListN.{length, getD}
 use Rattle.ledger.specs.Pairs.{Pairs, none, total, Ruled}
 use Rattle.ledger.specs.Ledger.{obeys, roomOf}
 use Rattle.ledger.proofs.Lents.{rule-lent}
 use Rattle.transfer.specs.Channel.{numbersOf}
 use Rattle.transfer.specs.Transfer.{sum, leftOf, World, Verdict, guess, result, broken, verdictOf, storedOf}
 use Rattle.transfer.specs.Receive.{isSome}
 use Rattle.transfer.specs.Fit.{pairLimit}
 use Rattle.transfer.specs.Calls.{Call, callOf, runBy, after}
-use Rattle.tally.specs.Block.{Block, sizeOf, bytesIn}
-use Rattle.tally.specs.Tally.{Tally, Stream, taken, accepted, blocksOf, countsOf, known, claimed, used, endedIn, verdict, empty, callOf as tallyCallOf}
-use Rattle.tally.specs.AfterList.{Begun, fresh-start, tallyOf, Complete, Has, AfterList, EveryList}
-use Rattle.tally.proofs.Claimed.{sum-append, claims-ruled, claims-holds, claims-total}
-use Rattle.tally.proofs.Placed.{length-placed}
-use Rattle.tally.proofs.Views.{view}
-use Rattle.tally.proofs.Shapes.{kind, kind-left}
-use Rattle.tally.proofs.Streams.{AllProper, proper-bodies}
-use Rattle.tally.proofs.States.{rowOf, transferOf, worldOf}
-use Rattle.tally.proofs.Invariant.{Count, unknown, announced, Invariant}
-use Rattle.tally.proofs.Accepts.{pairs-are}
-use Rattle.tally.proofs.Fits.{fits-always}
-use Rattle.tally.proofs.Runs.{Grown, verdict-is, run}
-use Rattle.tally.proofs.Stored.{has-cover, has-placed, none-placed, holds-below-end, grown-has, grown-bytes}
-use Rattle.tally.proofs.Wholes.{whole-all, whole-stand}
-use Rattle.tally.proofs.Begins.{invariant-empty, begun-is}
+use Rattle.transfer.specs.Block.{Block, sizeOf, bytesIn}
+use Rattle.transfer.specs.Tally.{Tally, Stream, taken, accepted, blocksOf, countsOf, known, claimed, used, endedIn, verdict, empty, callOf as tallyCallOf}
+use Rattle.transfer.specs.AfterList.{Begun, fresh-start, tallyOf, Complete, Has, AfterList, EveryList}
+use Rattle.transfer.proofs.Claimed.{sum-append, claims-ruled, claims-holds, claims-total}
+use Rattle.transfer.proofs.Placed.{length-placed}
+use Rattle.transfer.proofs.Views.{view}
+use Rattle.transfer.proofs.Shapes.{kind, kind-left}
+use Rattle.transfer.proofs.Streams.{AllProper, proper-bodies}
+use Rattle.transfer.proofs.States.{rowOf, transferOf, worldOf}
+use Rattle.transfer.proofs.Invariant.{Count, unknown, announced, Invariant}
+use Rattle.transfer.proofs.Accepts.{pairs-are}
+use Rattle.transfer.proofs.Fits.{fits-always}
+use Rattle.transfer.proofs.Runs.{Grown, verdict-is, run}
+use Rattle.transfer.proofs.Stored.{has-cover, has-placed, none-placed, holds-below-end, grown-has, grown-bytes}
+use Rattle.transfer.proofs.Wholes.{whole-all, whole-stand}
+use Rattle.transfer.proofs.Begins.{invariant-empty, begun-is}
 
 -- ---- the verdict
 

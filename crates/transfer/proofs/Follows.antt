@@ -11,19 +11,19 @@ use lib.ListN.{length, set}
 use lib.Seq.{getD-set-same}
 use Rattle.ledger.specs.Pairs.{Pairs}
 use Rattle.eblock.specs.Header.{headerLength, thirdOf}
 use Rattle.transfer.specs.declared.state.Transfer.{Transfer}
 use Rattle.transfer.specs.Channel.{channelCount, State, header, payload, ended, putState}
 use Rattle.transfer.specs.Transfer.{endedOf, World, world, withTransfer, isFinal}
 use Rattle.transfer.specs.Header.{endsChannel, payloadLength}
 use Rattle.transfer.specs.Receive.{Took, goes, stops, leaves, ends, opens, isSome, isEnded}
-use Rattle.tally.specs.Block.{Block, block, cut, hasEnd}
-use Rattle.tally.specs.Tally.{Tally, Stream, sound, taken, accepted, blocksOf, countsOf, known, one, used, endedIn, streamAt, withStream, keeps}
-use Rattle.tally.proofs.Cuts.{flat, Done, done-append, flat-append, cuts-payload}
-use Rattle.tally.proofs.Views.{view}
-use Rattle.tally.proofs.Shapes.{Shape, in-header, in-payload, at-end, Proper, kind, kind-ended, view-header, view-payload, view-end}
-use Rattle.tally.proofs.Streams.{sum-set}
-use Rattle.tally.proofs.States.{transferOf, worldOf, put-is}
-use Rattle.tally.proofs.Invariant.{Count, unknown, announced, sound-set, Invariant, Grows, stays, ended-lt, same-blocks, kept-same}
+use Rattle.transfer.specs.Block.{Block, block, cut, hasEnd}
+use Rattle.transfer.specs.Tally.{Tally, Stream, sound, taken, accepted, blocksOf, countsOf, known, one, used, endedIn, streamAt, withStream, keeps}
+use Rattle.transfer.proofs.Cuts.{flat, Done, done-append, flat-append, cuts-payload}
+use Rattle.transfer.proofs.Views.{view}
+use Rattle.transfer.proofs.Shapes.{Shape, in-header, in-payload, at-end, Proper, kind, kind-ended, view-header, view-payload, view-end}
+use Rattle.transfer.proofs.Streams.{sum-set}
+use Rattle.transfer.proofs.States.{transferOf, worldOf, put-is}
+use Rattle.transfer.proofs.Invariant.{Count, unknown, announced, sound-set, Invariant, Grows, stays, ended-lt, same-blocks, kept-same}
 
 -- the receiver's x and the tally's y are the same step from t₀: both go on, both stop, or both leave the byte
 pub data Follows (F R : ℕ) (before : Pairs) (file : List ℕ) (t₀ : Tally) (c : ℕ) (x : Took World) (y : Took Tally) : Type 0 where
