@@ -111,7 +111,7 @@ pub(crate) fn full(ledger: &[u64], spot: Spot) -> bool
     0 < ledger[2 * room - 1]
 }
 
-// Whether the range from start to end can be claimed.
+// Whether the range from start to end can be claimed. Open for an empty range and an odd length too: no claim is made of either.
 pub fn judge(ledger: &[u64], start: u64, end: u64) -> Room
     ensures { λ r. ⌜ (obeys (now (ledger .entry)) ≡ true → start < end → 2 * roomOf (now (ledger .entry)) ≡ length (now (ledger .entry)) → r ≡ judged (roomOf (now (ledger .entry))) start end (pairsOf (now (ledger .entry)))) ⌝ }
 {

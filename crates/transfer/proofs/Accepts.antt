@@ -24,9 +24,9 @@ use Rattle.transfer.proofs.Placed.{placed-insert}
 use Rattle.transfer.proofs.Cuts.{flat, Done, cuts-header}
 use Rattle.transfer.proofs.Views.{view}
 use Rattle.transfer.proofs.Shapes.{in-header, kind, kind-ended, view-header, hit-nothing}
-use Rattle.transfer.proofs.Streams.{proper-set, Split, split, sum-set}
+use Rattle.transfer.proofs.Streams.{proper-set, Split, split}
 use Rattle.transfer.proofs.States.{transferOf, worldOf, put-is, put-count-is, ended-is}
-use Rattle.transfer.proofs.Invariant.{Count, unknown, announced, sound-set, Invariant, opens-block, cover-insert}
+use Rattle.transfer.proofs.Invariant.{Count, unknown, announced, sound-set, Invariant, opens-block, used-same, cover-insert}
 use Rattle.transfer.proofs.Follows.{Follows, world-is, isSome-append, tipOf, Opened, opened, opens-on}
 
 claim-none : (x : Block) (ps : Pairs) → sizeOf x ≡ 0 → claim x ps ≡ ps
@@ -105,9 +105,7 @@ module _ (F R : ℕ) (before : Pairs) (file : List ℕ) (ruled : Ruled 0 before)
         ∙ ap one (kind-ended (view (sound bs)) (accepted (sound bs)) (isSome bs) (kind (sound bs) (in-header done r d (omega arith) u g)) ∙ ap isEnded (view-header bs done r d (omega arith) u g))
 
     same-used : used next ≡ used (t .streams)
-    same-used =
-        let o : one (isSome (bs ++ b ∷ [])) ≡ 1 = ap one (isSome-append bs b) in
-        omega (arith, o, used-now, sum-set (λ (s : Stream). one (isSome (taken s))) (t .streams) c (sound (bs ++ b ∷ [])) h′)
+    same-used = used-same t c (sound (bs ++ b ∷ [])) h′ used-now (isSome-append bs b)
 
     kept : ((o : ℕ) → hitBy o x + cover o (blocksOf (t .streams)) + holds o before ≤ 1) → endsBy F (claim x (claimed before (t .streams))) ≡ true → size (claim x (claimed before (t .streams))) ≤ R
         → Count (countsOf next) (used (t .streams)) → Invariant F R before (withStream t c (sound (bs ++ b ∷ [])))

@@ -13,16 +13,16 @@ use Rattle.transfer.specs.Transfer.{world}
 use Rattle.transfer.specs.Header.{endsChannel, payloadLength}
 use Rattle.transfer.specs.Receive.{stores, isSome, isEnded}
 use Rattle.transfer.specs.Block.{Block, block, cut, countsIn, claimsOf, hasEnd, placed}
-use Rattle.transfer.specs.Tally.{Tally, Stream, sound, taken, accepted, blocksOf, countsOf, claimed, one, used, streamAt, withStream, keeps}
+use Rattle.transfer.specs.Tally.{Tally, sound, taken, accepted, blocksOf, countsOf, claimed, one, used, streamAt, withStream, keeps}
 use Rattle.transfer.proofs.Claimed.{cover, claims-same}
 use Rattle.transfer.proofs.Counted.{counts-same}
 use Rattle.transfer.proofs.Placed.{Bodies, bodies-left, placed-extend}
 use Rattle.transfer.proofs.Cuts.{flat, Done, cuts-payload}
 use Rattle.transfer.proofs.Views.{view}
 use Rattle.transfer.proofs.Shapes.{in-payload, kind, kind-ended, view-payload}
-use Rattle.transfer.proofs.Streams.{proper-set, proper-bodies, Split, split, sum-set}
+use Rattle.transfer.proofs.Streams.{proper-set, proper-bodies, Split, split}
 use Rattle.transfer.proofs.States.{transferOf, worldOf, put-is, ended-is}
-use Rattle.transfer.proofs.Invariant.{sound-set, Invariant, adds-byte, cover-same}
+use Rattle.transfer.proofs.Invariant.{sound-set, Invariant, adds-byte, used-same, cover-same}
 use Rattle.transfer.proofs.Follows.{Follows, world-is, isSome-append, tipOf, Opened, opened, opens-on}
 
 module _ (F R : ℕ) (before : Pairs) (file : List ℕ) where
@@ -106,9 +106,7 @@ module _ (F R : ℕ) (before : Pairs) (file : List ℕ) where
           ∙ ap one (kind-ended (view (sound bs)) (accepted (sound bs)) (isSome bs) (kind (sound bs) (in-payload done h p d y q u g)) ∙ ap isEnded (view-payload bs done h p d y q u g))
 
       same-used : used (set (t .streams) c (sound (bs ++ b ∷ []))) ≡ used (t .streams)
-      same-used =
-          let o : one (isSome (bs ++ b ∷ [])) ≡ 1 = ap one (isSome-append bs b) in
-          omega (arith, o, used-now, sum-set (λ (s : Stream). one (isSome (taken s))) (t .streams) c (sound (bs ++ b ∷ [])) h′)
+      same-used = used-same t c (sound (bs ++ b ∷ [])) h′ used-now (isSome-append bs b)
 
       kept : Invariant F R before (withStream t c (sound (bs ++ b ∷ [])))
       kept =

@@ -21,9 +21,8 @@ use Rattle.transfer.specs.Tally.{Tally, Stream, sound, taken, accepted, 
 use Rattle.transfer.proofs.Cuts.{flat, Done, done-append, flat-append, cuts-payload}
 use Rattle.transfer.proofs.Views.{view}
 use Rattle.transfer.proofs.Shapes.{Shape, in-header, in-payload, at-end, Proper, kind, kind-ended, view-header, view-payload, view-end}
-use Rattle.transfer.proofs.Streams.{sum-set}
 use Rattle.transfer.proofs.States.{transferOf, worldOf, put-is}
-use Rattle.transfer.proofs.Invariant.{Count, unknown, announced, sound-set, Invariant, Grows, stays, ended-lt, same-blocks, kept-same}
+use Rattle.transfer.proofs.Invariant.{Count, unknown, announced, sound-set, Invariant, Grows, stays, ended-lt, used-same, same-blocks, kept-same}
 
 -- the receiver's x and the tally's y are the same step from t₀: both go on, both stop, or both leave the byte
 pub data Follows (F R : ℕ) (before : Pairs) (file : List ℕ) (t₀ : Tally) (c : ℕ) (x : Took World) (y : Took Tally) : Type 0 where
@@ -107,16 +106,11 @@ module _ (F R : ℕ) (before : Pairs) (file : List ℕ) where
       → n ≡ known (set (t .streams) c (sound bs)) → e ≡ endedIn (t .streams) → (ltb 0 n && eqb e n) ≡ false
   no-twenty t c bs n e i h u j p q k g = go (j .count)
     where
-      used-same : used (set (t .streams) c (sound bs)) ≡ used (t .streams)
-      used-same =
-          let w : one (isSome bs) ≡ 1 = ap one u in
-          omega (arith, w, p, sum-set (λ (s : Stream). one (isSome (taken s))) (t .streams) c (sound bs) h)
-
       go : Count (countsOf (set (t .streams) c (sound bs))) (used (set (t .streams) c (sound bs))) → (ltb 0 n && eqb e n) ≡ false
       go (unknown z) = let y : n ≡ 0 = k ∙ rw z in rw (le-ltb 0 n (omega arith))
       go (announced m z a b d) =
           let y : n ≡ m = k ∙ rw z in
-          rw (lt-ltb 0 n (omega arith), ne-eqb e n (λ x. omega (arith, ended-lt (t .streams) c (i .proper) h p q, used-same)))
+          rw (lt-ltb 0 n (omega arith), ne-eqb e n (λ x. omega (arith, ended-lt (t .streams) c (i .proper) h p q, used-same t c (sound bs) h p u)))
 
   pub opens-on : (t : Tally) (c : ℕ) (bs : List ℕ) → Invariant F R before t → t .fault ≡ 0 → c < channelCount → isSome bs ≡ true → Proper (sound bs) → Invariant F R before (withStream t c (sound bs))
       → one (isSome (taken (streamAt t c))) ≡ 1 → one (hasEnd (accepted (streamAt t c))) ≡ 0

@@ -82,6 +82,13 @@ ended-lt [] c a h p q = absurd (omega arith)
 ended-lt (s ∷ ss) zero a h p q = omega (arith, ended-le ss (a .1))
 ended-lt (s ∷ ss) (suc c) a h p q = omega (arith, ended-lt ss c (a .1) (omega arith) p q, ended-used s (a .0))
 
+-- a channel that was used and is used counts the same
+pub used-same : (t : Tally) (c : ℕ) (s : Stream) → c < length (t .streams) → one (isSome (taken (streamAt t c))) ≡ 1 → isSome (taken s) ≡ true
+    → used (set (t .streams) c s) ≡ used (t .streams)
+used-same t c s h p u =
+    let w : one (isSome (taken s)) ≡ 1 = ap one u in
+    omega (arith, w, p, sum-set (λ (s : Stream). one (isSome (taken s))) (t .streams) c s h)
+
 -- ---- cover
 
 pub cover-same : (q : ℕ) (a : List Block) (x y : Block) (b : List Block) → x .head ≡ y .head → cover q (a ++ x ∷ b) ≡ cover q (a ++ y ∷ b)
@@ -127,8 +134,7 @@ module _ (F R : ℕ) (before : Pairs) where
   kept-spoilt t c bs k i h o e u g g′ =
       let h′ : c < length (t .streams) = omega (arith, i .number) in
       let b : blocksOf (set (t .streams) c (spoilt bs)) ≡ blocksOf (t .streams) = same-blocks t c (spoilt bs) h′ e in
-      let w : one (isSome (taken (spoilt bs))) ≡ 1 = ap one (o .1) in
-      let v : used (set (t .streams) c (spoilt bs)) ≡ used (t .streams) = omega (arith, w, u, sum-set (λ (s : Stream). one (isSome (taken s))) (t .streams) c (spoilt bs) h′) in
+      let v : used (set (t .streams) c (spoilt bs)) ≡ used (t .streams) = used-same t c (spoilt bs) h′ u (o .1) in
       record {
         number = length-set (t .streams) c (spoilt bs) ∙ i .number;
         proper = proper-set (t .streams) c (spoilt bs) (i .proper) o;

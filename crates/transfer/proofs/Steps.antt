@@ -24,7 +24,7 @@ use Rattle.transfer.proofs.Shapes.{Shape, no-byte, in-header, in-payloa
 use Rattle.transfer.proofs.Streams.{proper-at, sum-set}
 use Rattle.transfer.proofs.States.{transferOf, worldOf, state-is, put-is, fault-is, used-is}
 use Rattle.transfer.proofs.Asked.{Judgement, claim-judged, claim-accepted, Asking, for-fault, for-count, for-nothing, for-claim, asked}
-use Rattle.transfer.proofs.Invariant.{Count, unknown, announced, sound-at, Invariant, stays, same-blocks, kept-fault, kept-spoilt}
+use Rattle.transfer.proofs.Invariant.{Count, unknown, announced, sound-at, Invariant, stays, used-same, same-blocks, kept-fault, kept-spoilt}
 use Rattle.transfer.proofs.Follows.{Follows, both-stop, both-leave, world-is, isSome-append, goes-on}
 use Rattle.transfer.proofs.Fills.{fills}
 use Rattle.transfer.proofs.Accepts.{pairs-are, accepts-count, accepts-nothing, accepts-claim}
@@ -151,9 +151,7 @@ module _ (F R : ℕ) (before : Pairs) (file : List ℕ) (ruled : Ruled 0 before)
           longer-by = omega (arith, length-append r (b ∷ []))
 
           same-used : used (set (t .streams) c (sound (bs ++ b ∷ []))) ≡ used (t .streams)
-          same-used =
-              let x : one (isSome (bs ++ b ∷ [])) ≡ 1 = ap one (isSome-append bs b) in
-              omega (arith, x, ap (λ s. one (isSome (taken s))) e ∙ ap one u, sum-set (λ (s : Stream). one (isSome (taken s))) (t .streams) c (sound (bs ++ b ∷ [])) h′)
+          same-used = used-same t c (sound (bs ++ b ∷ [])) h′ (ap (λ s. one (isSome (taken s))) e ∙ ap one u) (isSome-append bs b)
 
           sized : Dec (length r < heldLimit) → Follows F R before file t c (byteOn (stateAt (transferOf F R t) c) (worldOf F R before file t) c b) (tallyByteOn F R before t c bs b)
           sized (yes y) =
