@@ -16,13 +16,13 @@ use Rattle.transfer.specs.Channel.{channelCount, heldLimit, putCount}
 use Rattle.transfer.specs.Transfer.{withTransfer, endedOf}
 use Rattle.transfer.specs.Header.{isCount, endsChannel, payloadLength}
 use Rattle.transfer.specs.Receive.{opens, claimsRange, isSome, isEnded}
-use Rattle.transfer.specs.Block.{Block, block, placeOf, sizeOf, cut, countsIn, claim, claimsOf, hasEnd, placed}
+use Rattle.transfer.specs.Block.{Block, block, placeOf, sizeOf, cut, countsIn, claim, claimsOf, hasEnd, placed, flat}
 use Rattle.transfer.specs.Tally.{Tally, Stream, sound, taken, accepted, blocksOf, countsOf, known, claimed, one, used, streamAt, withStream, keeps}
 use Rattle.transfer.proofs.Claimed.{hitBy, cover, claims-ruled, claims-holds, claims-insert}
 use Rattle.transfer.proofs.Counted.{counts-without, counts-first}
 use Rattle.transfer.proofs.Placed.{placed-insert}
-use Rattle.transfer.proofs.Cuts.{flat, Done, cuts-header}
-use Rattle.transfer.proofs.Views.{view}
+use Rattle.transfer.proofs.Cuts.{Done, cuts-header}
+use Rattle.transfer.specs.View.{view}
 use Rattle.transfer.proofs.Shapes.{in-header, kind, kind-ended, view-header, hit-nothing}
 use Rattle.transfer.proofs.Streams.{proper-set, Split, split}
 use Rattle.transfer.proofs.States.{transferOf, worldOf, put-is, put-count-is, ended-is}

@@ -21,7 +21,7 @@ use Rattle.transfer.specs.Tally.{Tally, Stream, taken, accepted, blocksO
 use Rattle.transfer.specs.AfterList.{Begun, fresh-start, tallyOf, Complete, Has, AfterList, EveryList}
 use Rattle.transfer.proofs.Claimed.{sum-append, claims-ruled, claims-holds, claims-total}
 use Rattle.transfer.proofs.Placed.{length-placed}
-use Rattle.transfer.proofs.Views.{view}
+use Rattle.transfer.specs.View.{view}
 use Rattle.transfer.proofs.Shapes.{kind, kind-left}
 use Rattle.transfer.proofs.Streams.{AllProper, proper-bodies}
 use Rattle.transfer.proofs.States.{rowOf, transferOf, worldOf}

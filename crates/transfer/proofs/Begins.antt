@@ -15,7 +15,7 @@ use Rattle.transfer.specs.Fit.{pairLimit}
 use Rattle.transfer.specs.Calls.{begun}
 use Rattle.transfer.specs.Block.{cutBy, countsIn, claimsOf, placed}
 use Rattle.transfer.specs.Tally.{sound, accepted, blocksOf, empty}
-use Rattle.transfer.proofs.Views.{view}
+use Rattle.transfer.specs.View.{view}
 use Rattle.transfer.proofs.Shapes.{no-byte}
 use Rattle.transfer.proofs.Streams.{AllProper}
 use Rattle.transfer.proofs.States.{rowOf, headsOf, transferOf, worldOf}

@@ -10,13 +10,8 @@ use lib.Seq.{take-at, drop-at, take-all}
 use Rattle.eblock.specs.Header.{headerLength}
 use Rattle.transfer.specs.Channel.{heldLimit}
 use Rattle.transfer.specs.Header.{endsChannel, payloadLength}
-use Rattle.transfer.specs.Block.{Block, block, sizeOf, cutBy, overBy}
+use Rattle.transfer.specs.Block.{Block, block, sizeOf, flat, cutBy, overBy}
 use Rattle.transfer.proofs.Placed.{Bodies}
-
--- the bytes of blocks
-unfoldable pub flat : List Block → List ℕ
-flat [] = []
-flat (x ∷ xs) = x .head ++ (x .body ++ flat xs)
 
 pub flat-append : (a b : List Block) → flat (a ++ b) ≡ flat a ++ flat b
 unfolding flat

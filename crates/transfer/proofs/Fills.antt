@@ -12,13 +12,13 @@ use Rattle.transfer.specs.Channel.{channelCount}
 use Rattle.transfer.specs.Transfer.{world}
 use Rattle.transfer.specs.Header.{endsChannel, payloadLength}
 use Rattle.transfer.specs.Receive.{stores, isSome, isEnded}
-use Rattle.transfer.specs.Block.{Block, block, cut, countsIn, claimsOf, hasEnd, placed}
+use Rattle.transfer.specs.Block.{Block, block, cut, countsIn, claimsOf, hasEnd, placed, flat}
 use Rattle.transfer.specs.Tally.{Tally, sound, taken, accepted, blocksOf, countsOf, claimed, one, used, streamAt, withStream, keeps}
 use Rattle.transfer.proofs.Claimed.{cover, claims-same}
 use Rattle.transfer.proofs.Counted.{counts-same}
 use Rattle.transfer.proofs.Placed.{Bodies, bodies-left, placed-extend}
-use Rattle.transfer.proofs.Cuts.{flat, Done, cuts-payload}
-use Rattle.transfer.proofs.Views.{view}
+use Rattle.transfer.proofs.Cuts.{Done, cuts-payload}
+use Rattle.transfer.specs.View.{view}
 use Rattle.transfer.proofs.Shapes.{in-payload, kind, kind-ended, view-payload}
 use Rattle.transfer.proofs.Streams.{proper-set, proper-bodies, Split, split}
 use Rattle.transfer.proofs.States.{transferOf, worldOf, put-is, ended-is}

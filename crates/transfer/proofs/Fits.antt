@@ -26,7 +26,7 @@ use Rattle.transfer.specs.Block.{Block, block, placed}
 use Rattle.transfer.specs.Tally.{Tally, Stream, taken, accepted, blocksOf, countsOf, known, claimed, used}
 use Rattle.transfer.proofs.Claimed.{sum-append, hitBy, cover, claims-ruled, claims-holds}
 use Rattle.transfer.proofs.Placed.{length-placed}
-use Rattle.transfer.proofs.Views.{view}
+use Rattle.transfer.specs.View.{view}
 use Rattle.transfer.proofs.Shapes.{Kind, untouched, heading, filling, finished, kind, kind-stands, kind-rest}
 use Rattle.transfer.proofs.Streams.{AllProper}
 use Rattle.transfer.proofs.States.{rowOf, headsOf, transferOf, worldOf, length-headsOf, used-is}

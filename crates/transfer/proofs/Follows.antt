@@ -16,10 +16,10 @@ use Rattle.transfer.specs.Channel.{channelCount, State, header, payload,
 use Rattle.transfer.specs.Transfer.{endedOf, World, world, withTransfer, isFinal}
 use Rattle.transfer.specs.Header.{endsChannel, payloadLength}
 use Rattle.transfer.specs.Receive.{Took, goes, stops, leaves, ends, opens, isSome, isEnded}
-use Rattle.transfer.specs.Block.{Block, block, cut, hasEnd}
+use Rattle.transfer.specs.Block.{Block, block, cut, hasEnd, flat}
 use Rattle.transfer.specs.Tally.{Tally, Stream, sound, taken, accepted, blocksOf, countsOf, known, one, used, endedIn, streamAt, withStream, keeps}
-use Rattle.transfer.proofs.Cuts.{flat, Done, done-append, flat-append, cuts-payload}
-use Rattle.transfer.proofs.Views.{view}
+use Rattle.transfer.proofs.Cuts.{Done, done-append, flat-append, cuts-payload}
+use Rattle.transfer.specs.View.{view}
 use Rattle.transfer.proofs.Shapes.{Shape, in-header, in-payload, at-end, Proper, kind, kind-ended, view-header, view-payload, view-end}
 use Rattle.transfer.proofs.States.{transferOf, worldOf, put-is}
 use Rattle.transfer.proofs.Invariant.{Count, unknown, announced, sound-set, Invariant, Grows, stays, ended-lt, used-same, same-blocks, kept-same}

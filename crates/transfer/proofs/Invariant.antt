@@ -15,7 +15,7 @@ use Rattle.transfer.specs.Block.{Block, hasEnd}
 use Rattle.transfer.specs.Tally.{Tally, Stream, sound, spoilt, taken, accepted, blocksOf, countsOf, claimed, one, used, endedIn, streamAt, withStream, withFault}
 use Rattle.transfer.proofs.Claimed.{sum-append, hitBy, cover}
 use Rattle.transfer.proofs.Placed.{longer}
-use Rattle.transfer.proofs.Views.{view}
+use Rattle.transfer.specs.View.{view}
 use Rattle.transfer.proofs.Shapes.{Proper, kind, kind-ended, kind-used}
 use Rattle.transfer.proofs.Streams.{AllProper, proper-set, Split, split, sum-set}
 

@@ -18,7 +18,7 @@ use Rattle.transfer.specs.Calls.{Call, receive, callOf, runBy}
 use Rattle.transfer.proofs.Rowed.{goes-on, stops-there, leaves-it}
 use Rattle.transfer.specs.Block.{Block, hasEnd}
 use Rattle.transfer.specs.Tally.{Tally, taken, accepted, blocksOf, countsOf, known, used, endedIn, verdict, streamAt, byteOf as tallyByteOf, refusalOf as tallyRefusalOf, callOf as tallyCallOf}
-use Rattle.transfer.proofs.Views.{view}
+use Rattle.transfer.specs.View.{view}
 use Rattle.transfer.proofs.Shapes.{kind, kind-ended}
 use Rattle.transfer.proofs.Streams.{proper-at}
 use Rattle.transfer.proofs.States.{transferOf, worldOf, state-is, ended-is}

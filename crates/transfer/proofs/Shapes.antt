@@ -15,12 +15,13 @@ use Rattle.transfer.specs.Transfer.{sum}
 use Rattle.transfer.specs.Header.{endsChannel, payloadLength}
 use Rattle.transfer.specs.Receive.{isSome, isEnded}
 use Rattle.transfer.proofs.Lens.{Stands}
-use Rattle.transfer.specs.Block.{Block, block, sizeOf, isWhole, cut, cutBy, over, closes, hasEnd, bytesIn}
+use Rattle.transfer.specs.Block.{Block, block, sizeOf, isWhole, cut, cutBy, over, closes, hasEnd, bytesIn, flat}
 use Rattle.transfer.specs.Tally.{Stream, sound, spoilt, taken, accepted, one}
 use Rattle.transfer.proofs.Claimed.{sum-append, hitBy, cover}
 use Rattle.transfer.proofs.Placed.{Bodies, bodies-append}
-use Rattle.transfer.proofs.Cuts.{flat, Done, bodies-done, cuts-header, cuts-payload}
-use Rattle.transfer.proofs.Views.{tip, view, viewOn-done, viewOn-last, hasEnd-done, hasEnd-last}
+use Rattle.transfer.proofs.Cuts.{Done, bodies-done, cuts-header, cuts-payload}
+use Rattle.transfer.specs.View.{tip, view}
+use Rattle.transfer.proofs.Views.{viewOn-done, viewOn-last, hasEnd-done, hasEnd-last}
 
 pub data Shape (bs : List ℕ) : Type 0 where
   no-byte : bs ≡ [] → Shape bs

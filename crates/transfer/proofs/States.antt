@@ -17,7 +17,7 @@ use Rattle.transfer.specs.Receive.{isSome, isEnded}
 use Rattle.transfer.proofs.Lens.{length-heldBytes, read-back}
 use Rattle.transfer.specs.Block.{placed}
 use Rattle.transfer.specs.Tally.{Tally, Stream, sound, taken, accepted, blocksOf, known, claimed, one, used, endedIn, streamAt, withStream, withFault}
-use Rattle.transfer.proofs.Views.{view}
+use Rattle.transfer.specs.View.{view}
 use Rattle.transfer.proofs.Shapes.{Proper, kind, kind-stands, kind-used, kind-ended}
 use Rattle.transfer.proofs.Streams.{AllProper}
 

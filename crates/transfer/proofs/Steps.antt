@@ -16,10 +16,11 @@ use Rattle.transfer.specs.Channel.{channelCount, heldLimit, unused, head
 use Rattle.transfer.specs.Transfer.{usedOf, withTransfer}
 use Rattle.transfer.specs.Header.{endsChannel, payloadLength, Asks, counts, claims, nothing, faulty, askedOf, claimFault}
 use Rattle.transfer.specs.Receive.{goes, stops, leaves, opens, claimsRange, faults, heeds, judges, heads, byteOn, byteOf, isSome, isEnded}
-use Rattle.transfer.specs.Block.{Block, block, cut, cutBy, over, overBy, countsIn, claimsOf, placed}
+use Rattle.transfer.specs.Block.{Block, block, cut, cutBy, over, overBy, countsIn, claimsOf, placed, flat}
 use Rattle.transfer.specs.Tally.{Tally, Stream, sound, spoilt, taken, allButLast, accepted, blocksOf, countsOf, known, claimed, one, used, streamAt, withStream, withFault, keeps, judgedBy, faultIn, byteOn as tallyByteOn, byteOf as tallyByteOf}
-use Rattle.transfer.proofs.Cuts.{flat, Done, cuts-header, cuts-payload}
-use Rattle.transfer.proofs.Views.{view, allButLast-last}
+use Rattle.transfer.proofs.Cuts.{Done, cuts-header, cuts-payload}
+use Rattle.transfer.specs.View.{view}
+use Rattle.transfer.proofs.Views.{allButLast-last}
 use Rattle.transfer.proofs.Shapes.{Shape, no-byte, in-header, in-payload, at-end, Proper, view-header, view-payload, view-end}
 use Rattle.transfer.proofs.Streams.{proper-at, sum-set}
 use Rattle.transfer.proofs.States.{transferOf, worldOf, state-is, put-is, fault-is, used-is}

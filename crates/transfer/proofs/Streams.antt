@@ -9,7 +9,7 @@ use Rattle.transfer.specs.Receive.{isSome}
 use Rattle.transfer.specs.Block.{Block}
 use Rattle.transfer.specs.Tally.{Stream, sound, taken, accepted, blocksOf}
 use Rattle.transfer.proofs.Placed.{Bodies, bodies-append}
-use Rattle.transfer.proofs.Views.{view}
+use Rattle.transfer.specs.View.{view}
 use Rattle.transfer.proofs.Shapes.{no-byte, Proper, kind, kind-bodies}
 
 abbrev pub AllProper : List Stream → Type 0

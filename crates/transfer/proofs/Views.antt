@@ -1,33 +1,17 @@
--- A channel's state as a function of its bytes, and when they end it.
-use Prim.Native.Nat.{ℕ, _+_, _-_}
+-- The state that a channel's bytes make, and when they end it.
+use Prim.Native.Nat.{ℕ}
 use mathlib.Core.Path.{_≡_, refl, ap}
-use mathlib.Core.Bool.{false, cond, _||_, or-false}
+use mathlib.Core.Bool.{false, _||_, or-false}
 use mathlib.Core.List.{List, [], _∷_, _++_}
 use native.Mathlib.Omega.{arith}
 use borrow.Author.Tests.{le-ltb}
-use lib.Dec.{ltb}
 use lib.ListN.{length}
-use Rattle.transfer.specs.Channel.{State, unused, header, payload, ended}
+use Rattle.transfer.specs.Channel.{header}
 use Rattle.transfer.specs.Header.{endsChannel}
-use Rattle.transfer.specs.Receive.{isSome}
-use Rattle.transfer.specs.Block.{Block, placeOf, sizeOf, cut, over, closes, hasEnd}
-use Rattle.transfer.specs.Tally.{Stream, sound, spoilt, allButLast}
+use Rattle.transfer.specs.Block.{Block, sizeOf, closes, hasEnd}
+use Rattle.transfer.specs.Tally.{allButLast}
+use Rattle.transfer.specs.View.{tip, viewOn}
 use Rattle.transfer.proofs.Cuts.{Done}
-
--- by the last block and the header begun behind it
-unfoldable pub tip : Block → List ℕ → State
-tip x r =
-    let come = length (x .body) in
-    cond (ltb come (sizeOf x)) (payload (placeOf x + come) (sizeOf x - come) (endsChannel (x .head))) (cond (endsChannel (x .head)) ended (header r))
-
-unfoldable pub viewOn : List Block → List ℕ → State
-viewOn [] r = header r
-viewOn (x ∷ []) r = tip x r
-viewOn (x ∷ y ∷ xs) r = viewOn (y ∷ xs) r
-
-unfoldable pub view : Stream → State
-view (sound bs) = cond (isSome bs) (viewOn (cut bs) (over bs)) unused
-view (spoilt bs) = header []
 
 pub viewOn-done : (xs : List Block) (r : List ℕ) → Done xs → viewOn xs r ≡ header r
 unfolding viewOn tip

@@ -13,7 +13,7 @@ use Rattle.transfer.specs.Block.{Block, block, placeOf, sizeOf}
 use Rattle.transfer.specs.Tally.{Stream, taken, accepted, blocksOf, one, used, endedIn}
 use Rattle.transfer.specs.AfterList.{Has, Stand}
 use Rattle.transfer.proofs.Cuts.{Done}
-use Rattle.transfer.proofs.Views.{view}
+use Rattle.transfer.specs.View.{view}
 use Rattle.transfer.proofs.Shapes.{Kind, untouched, heading, filling, finished, kind, kind-ended}
 use Rattle.transfer.proofs.Streams.{AllProper}
 use Rattle.transfer.proofs.Invariant.{ended-used, ended-le}

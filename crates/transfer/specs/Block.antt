@@ -1,7 +1,7 @@
 -- A channel's bytes cut into blocks (document 01, "The tally").
 use Prim.Native.Nat.{ℕ, zero, suc, _+_}
 use mathlib.Core.Bool.{Bool, false, cond, _&&_, _||_}
-use mathlib.Core.List.{List, [], _∷_}
+use mathlib.Core.List.{List, [], _∷_, _++_}
 use lib.Dec.{leb, ltb, eqb}
 use lib.ListN.{length, take, drop}
 use lib.Seq.{sets}
@@ -27,6 +27,11 @@ sizeOf x = payloadLength (x .head)
 
 unfoldable pub isWhole : Block → Bool
 isWhole x = leb (sizeOf x) (length (x .body))
+
+-- the bytes of blocks, one after the other
+unfoldable pub flat : List Block → List ℕ
+flat [] = []
+flat (x ∷ xs) = x .head ++ (x .body ++ flat xs)
 
 -- ---- cutting
 

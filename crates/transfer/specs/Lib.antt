@@ -8,4 +8,5 @@ pub mod ProvedSet
 pub mod Rows
 pub mod Block
 pub mod Tally
+pub mod View
 pub mod AfterList

@@ -17,11 +17,15 @@ pub data Took {ℓ} (W : Type ℓ) : Type ℓ where
   stops : W → Took W
   leaves : W → Took W
 
--- ---- the end of a channel, and the beginning of a payload
+-- ---- a fault, the end of a channel, and the beginning of a payload
+
+-- a fault clears the channel's held bytes and stops the call; nothing else changes
+unfoldable pub faults : World → ℕ → ℕ → Took World
+faults w c k = stops (withTransfer w (putFault (putState (w .t) c (header [])) k c))
 
 -- the channel's last byte is taken: fault 20 where as many as announced have ended already
 unfoldable pub ends : World → ℕ → Took World
-ends w c = stops (withTransfer w (cond (isFinal (w .t)) (putFault (w .t) 20 c) (putState (w .t) c ended)))
+ends w c = cond (isFinal (w .t)) (faults w c 20) (stops (withTransfer w (putState (w .t) c ended)))
 
 -- n payload bytes from the place p are to come, after which the channel ends or not
 unfoldable pub opens : World → ℕ → ℕ → ℕ → Bool → Took World
@@ -30,10 +34,6 @@ opens w c p zero false = goes (withTransfer w (putState (w .t) c (header [])))
 opens w c p (suc n) e = goes (withTransfer w (putState (w .t) c (payload p (suc n) e)))
 
 -- ---- a header's 17th byte
-
--- a fault clears the channel's held bytes and stops the call; nothing else changes
-unfoldable pub faults : World → ℕ → ℕ → Took World
-faults w c k = stops (withTransfer w (putFault (putState (w .t) c (header [])) k c))
 
 unfoldable pub claimsRange : World → ℕ → ℕ → World
 claimsRange w s e =

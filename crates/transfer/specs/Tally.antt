@@ -92,7 +92,7 @@ unfoldable pub keeps : Tally → ℕ → List ℕ → Took Tally
 keeps t c bs =
     let next = withStream t c (sound bs) in
     cond (hasEnd (cut bs))
-    (stops (cond (ltb 0 (known (lives next)) && eqb (endedIn (lives t)) (known (lives next))) (withFault t 20 c) next))
+    (stops (cond (ltb 0 (known (lives next)) && eqb (endedIn (lives t)) (known (lives next))) (withFault next 20 c) next))
     (goes next)
 
 -- the last of the bytes bs made a header whole, which is judged k
