@@ -51,6 +51,18 @@ none-shares s e lo (pair a b ps) h c d = go (none-shares s e (suc b) ps h (c .2)
     go on (yes x) (yes y) =
         absurd (omega (arith, d (max s a), hit-in s e (max s a) (omega arith) (omega arith), hit-in a b (max s a) (omega arith) (omega (arith, c .1))))
 
+-- a place that a range shares with the pairs
+pub shares-some : (s e lo : ℕ) (ps : Pairs) → s < e → Ruled lo ps → shares s e ps ≡ true → (p : ℕ) × (s ≤ p) × (p < e) × (holds p ps ≡ 1)
+unfolding shares holds
+shares-some s e lo none h c q = absurd (true≢false (sym q))
+shares-some s e lo (pair a b ps) h c q = go (decLt s b) (decLt a e) q (λ y. shares-some s e (suc b) ps h (c .2) y)
+  where
+    go : Dec (s < b) → Dec (a < e) → ((ltb s b && ltb a e) || shares s e ps) ≡ true
+        → (shares s e ps ≡ true → (p : ℕ) × (s ≤ p) × (p < e) × (holds p ps ≡ 1)) → (p : ℕ) × (s ≤ p) × (p < e) × (max (hit a b p) (holds p ps) ≡ 1)
+    go (yes x) (yes y) z i = (max s a, omega arith, omega arith, omega (arith, hit-in a b (max s a) (omega arith) (omega (arith, c .1)), holds-le (max s a) ps))
+    go (yes x) (no y) z i = let r = i (rw (lt-ltb s b x, le-ltb a e (omega arith)) at z) in (r .0, r .1, r .2, omega (arith, r .3, hit-le a b (r .0)))
+    go (no x) k z i = let r = i (rw (le-ltb s b (omega arith)) at z) in (r .0, r .1, r .2, omega (arith, r .3, hit-le a b (r .0)))
+
 -- ---- lying inside one pair is that every place is held
 
 pub held-inside : (s e lo : ℕ) (ps : Pairs) → s < e → Ruled lo ps → ((p : ℕ) → s ≤ p → p < e → holds p ps ≡ 1) → inside s e ps ≡ true

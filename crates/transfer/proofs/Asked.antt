@@ -1,33 +1,35 @@
--- What the answer of a header's first judgement says, and which fault numbers there are.
+-- A header's judgement: every header has its case, and the answer is the only one; which fault numbers there are.
 use Prim.Native.Nat.{ℕ, _+_, _≤_, _<_}
 use mathlib.Core.Path.{_≡_, refl}
-use mathlib.Core.Logic.{_⊎_, inl, inr, _≢_}
+use mathlib.Core.Logic.{_⊎_, inl, inr, ⊎-elim, _≢_}
 use mathlib.Core.Bool.{Bool, true, false, cond, _||_, true≢false}
 use mathlib.Core.List.{List}
 use native.Mathlib.Omega.{arith}
-use borrow.Author.Tests.{ltb-true, ltb-false, eqb-true, eqb-false}
+use native.Mathlib.Decide.{decLt, ℕ-discrete}
+use borrow.Author.Tests.{lt-ltb, le-ltb, eq-eqb, ne-eqb, ltb-true, ltb-false, eqb-true, eqb-false}
 use lib.Dec.{ltb, eqb}
 use Rattle.ledger.specs.Pairs.{Pairs, size, join, shares}
 use Rattle.eblock.specs.Descriptor.{has, endOfRecord, restartMarker, closesEarly, suspectsCount, faultOf}
 use Rattle.eblock.specs.Header.{countLimit, descriptorOf, secondOf, thirdOf}
 use Rattle.transfer.specs.Header.{isCount, Asks, counts, claims, nothing, faulty, askedOf, claimFault}
+use Rattle.transfer.specs.Judgement.{Asked, by-descriptor, by-14, by-15, for-count, for-nothing, by-16, for-claim}
 
 -- none, or from 11 to 18
-abbrev pub Judgement : ℕ → Type 0
-Judgement k = (k ≡ 0) ⊎ ((11 ≤ k) × (k ≤ 18))
+abbrev pub Numbered : ℕ → Type 0
+Numbered k = (k ≡ 0) ⊎ ((11 ≤ k) × (k ≤ 18))
 
-either : (t : Bool) (a b : ℕ) → Judgement a → Judgement b → Judgement (cond t a b)
+either : (t : Bool) (a b : ℕ) → Numbered a → Numbered b → Numbered (cond t a b)
 either true a b x y = x
 either false a b x y = y
 
-descriptor-judged : (d : ℕ) → Judgement (faultOf d)
+descriptor-judged : (d : ℕ) → Numbered (faultOf d)
 unfolding faultOf
 descriptor-judged d =
     either (has 1 d || has 2 d) 11 _ (inr (omega arith))
     (either (has endOfRecord d || has restartMarker d) 12 _ (inr (omega arith))
     (either (closesEarly d || suspectsCount d) 13 0 (inr (omega arith)) (inl refl)))
 
-pub claim-judged : (R : ℕ) (ps : Pairs) (s e : ℕ) → Judgement (claimFault R ps s e)
+pub claim-judged : (R : ℕ) (ps : Pairs) (s e : ℕ) → Numbered (claimFault R ps s e)
 unfolding claimFault
 claim-judged R ps s e =
     either (shares s e ps) 17 _ (inr (omega arith)) (either (ltb R (size (join s e ps))) 18 0 (inr (omega arith)) (inl refl))
@@ -42,55 +44,96 @@ claim-accepted R ps s e z = go (shares s e ps) (ltb R (size (join s e ps))) refl
     go false true p q z = absurd (omega arith)
     go false false p q z = (p, ltb-false R (size (join s e ps)) q)
 
-pub data Asking (F known used : ℕ) (h : List ℕ) : Asks → Type 0 where
-  for-fault : (k : ℕ) → 11 ≤ k → k ≤ 18 → Asking F known used h (faulty k)
-  for-count : isCount h ≡ true → known ≡ 0 → 0 < thirdOf h → thirdOf h ≤ countLimit → used ≤ thirdOf h → Asking F known used h (counts (thirdOf h))
-  for-nothing : isCount h ≡ false → secondOf h ≡ 0 → Asking F known used h nothing
-  for-claim : isCount h ≡ false → 0 < secondOf h → thirdOf h + secondOf h ≤ F → Asking F known used h (claims (thirdOf h) (thirdOf h + secondOf h))
-
 or-false : (a b : Bool) → (a || b) ≡ false → (a ≡ false) × (b ≡ false)
 or-false true b e = absurd (true≢false e)
 or-false false b e = (refl, e)
 
+or-true : (a b : Bool) → (a || b) ≡ true → (a ≡ true) ⊎ (b ≡ true)
+or-true true b e = inl refl
+or-true false b e = inr e
+
 module _ (F known used : ℕ) (h : List ℕ) where
   abbrev Says : Asks → Type 0
-  Says a = Asking F known used h a
+  Says a = Asked F known used h a
 
-  count-asked : isCount h ≡ true
+  outside : (eqb (thirdOf h) 0 || (ltb countLimit (thirdOf h) || ltb (thirdOf h) used)) ≡ true → (thirdOf h ≡ 0) ⊎ ((countLimit < thirdOf h) ⊎ (thirdOf h < used))
+  outside e =
+      ⊎-elim (λ (x : eqb (thirdOf h) 0 ≡ true). inl (eqb-true (thirdOf h) 0 x))
+      (λ (x : (ltb countLimit (thirdOf h) || ltb (thirdOf h) used) ≡ true).
+      inr (⊎-elim (λ (y : ltb countLimit (thirdOf h) ≡ true). inl (ltb-true countLimit (thirdOf h) y)) (λ (y : ltb (thirdOf h) used ≡ true). inr (ltb-true (thirdOf h) used y)) (or-true _ _ x)))
+      (or-true _ _ e)
+
+  count-asked : faultOf (descriptorOf h) ≡ 0 → isCount h ≡ true
       → Says (cond (ltb 0 known) (faulty 14) (cond (eqb (thirdOf h) 0 || (ltb countLimit (thirdOf h) || ltb (thirdOf h) used)) (faulty 15) (counts (thirdOf h))))
-  count-asked q = go (ltb 0 known) (eqb (thirdOf h) 0 || (ltb countLimit (thirdOf h) || ltb (thirdOf h) used)) refl refl
+  count-asked d q = go (ltb 0 known) (eqb (thirdOf h) 0 || (ltb countLimit (thirdOf h) || ltb (thirdOf h) used)) refl refl
     where
       go : (u v : Bool) → ltb 0 known ≡ u → (eqb (thirdOf h) 0 || (ltb countLimit (thirdOf h) || ltb (thirdOf h) used)) ≡ v → Says (cond u (faulty 14) (cond v (faulty 15) (counts (thirdOf h))))
-      go true v x y = for-fault 14 (omega arith) (omega arith)
-      go false true x y = for-fault 15 (omega arith) (omega arith)
+      go true v x y = by-14 d q (ltb-true 0 known x)
+      go false true x y = by-15 d q (omega (arith, ltb-false 0 known x)) (outside y)
       go false false x y =
           let a = or-false _ _ y in
           let b = or-false _ _ (a .1) in
           let n : thirdOf h ≢ 0 = eqb-false (thirdOf h) 0 (a .0) in
-          for-count q (omega (arith, ltb-false 0 known x)) (omega arith) (ltb-false countLimit (thirdOf h) (b .0)) (ltb-false (thirdOf h) used (b .1))
+          for-count d q (omega (arith, ltb-false 0 known x)) (omega arith) (ltb-false countLimit (thirdOf h) (b .0)) (ltb-false (thirdOf h) used (b .1))
 
-  range-asked : isCount h ≡ false
+  range-asked : faultOf (descriptorOf h) ≡ 0 → isCount h ≡ false
       → Says (cond (eqb (secondOf h) 0) nothing (cond (ltb F (thirdOf h + secondOf h)) (faulty 16) (claims (thirdOf h) (thirdOf h + secondOf h))))
-  range-asked q = go (eqb (secondOf h) 0) (ltb F (thirdOf h + secondOf h)) refl refl
+  range-asked d q = go (eqb (secondOf h) 0) (ltb F (thirdOf h + secondOf h)) refl refl
     where
       go : (u v : Bool) → eqb (secondOf h) 0 ≡ u → ltb F (thirdOf h + secondOf h) ≡ v
           → Says (cond u nothing (cond v (faulty 16) (claims (thirdOf h) (thirdOf h + secondOf h))))
-      go true v x y = for-nothing q (eqb-true (secondOf h) 0 x)
-      go false true x y = for-fault 16 (omega arith) (omega arith)
-      go false false x y =
-          let n : secondOf h ≢ 0 = eqb-false (secondOf h) 0 x in
-          for-claim q (omega arith) (ltb-false F (thirdOf h + secondOf h) y)
+      go true v x y = for-nothing d q (eqb-true (secondOf h) 0 x)
+      go false true x y = let n : secondOf h ≢ 0 = eqb-false (secondOf h) 0 x in by-16 d q (omega arith) (ltb-true F (thirdOf h + secondOf h) y)
+      go false false x y = let n : secondOf h ≢ 0 = eqb-false (secondOf h) 0 x in for-claim d q (omega arith) (ltb-false F (thirdOf h + secondOf h) y)
 
   pub asked : Says (askedOf F known used h)
   unfolding askedOf
-  asked = go (ltb 0 (faultOf (descriptorOf h))) (isCount h) refl refl (descriptor-judged (descriptorOf h))
+  asked = go (ltb 0 (faultOf (descriptorOf h))) (isCount h) refl refl
     where
-      go : (u v : Bool) → ltb 0 (faultOf (descriptorOf h)) ≡ u → isCount h ≡ v → Judgement (faultOf (descriptorOf h))
+      go : (u v : Bool) → ltb 0 (faultOf (descriptorOf h)) ≡ u → isCount h ≡ v
           → Says (cond u (faulty (faultOf (descriptorOf h)))
           (cond v
           (cond (ltb 0 known) (faulty 14) (cond (eqb (thirdOf h) 0 || (ltb countLimit (thirdOf h) || ltb (thirdOf h) used)) (faulty 15) (counts (thirdOf h))))
           (cond (eqb (secondOf h) 0) nothing (cond (ltb F (thirdOf h + secondOf h)) (faulty 16) (claims (thirdOf h) (thirdOf h + secondOf h))))))
-      go true v x y (inl z) = absurd (omega (arith, ltb-true 0 (faultOf (descriptorOf h)) x))
-      go true v x y (inr z) = for-fault (faultOf (descriptorOf h)) (z .0) (z .1)
-      go false true x y z = count-asked y
-      go false false x y z = range-asked y
+      go true v x y = by-descriptor (ltb-true 0 (faultOf (descriptorOf h)) x)
+      go false true x y = count-asked (omega (arith, ltb-false 0 (faultOf (descriptorOf h)) x)) y
+      go false false x y = range-asked (omega (arith, ltb-false 0 (faultOf (descriptorOf h)) x)) y
+
+  abbrev InRange : Asks → Type 0
+  InRange (counts n) = Unit {0}
+  InRange (claims s e) = Unit {0}
+  InRange nothing = Unit {0}
+  InRange (faulty k) = (11 ≤ k) × (k ≤ 18)
+
+  pub in-range : (a : Asks) → Says a → InRange a
+  in-range _ (by-descriptor d) = go (descriptor-judged (descriptorOf h))
+    where
+      go : Numbered (faultOf (descriptorOf h)) → (11 ≤ faultOf (descriptorOf h)) × (faultOf (descriptorOf h) ≤ 18)
+      go (inl z) = absurd (omega (arith, d, z))
+      go (inr z) = z
+  in-range _ (by-14 d q k) = (omega arith, omega arith)
+  in-range _ (by-15 d q k z) = (omega arith, omega arith)
+  in-range _ (for-count d q k n₀ n₁ n₂) = tt
+  in-range _ (for-nothing d q z) = tt
+  in-range _ (by-16 d q l f) = (omega arith, omega arith)
+  in-range _ (for-claim d q l f) = tt
+
+  -- no other
+  pub asked-only : (a : Asks) → Says a → a ≡ askedOf F known used h
+  unfolding askedOf
+  asked-only _ (by-descriptor d) = rw (lt-ltb 0 (faultOf (descriptorOf h)) d)
+  asked-only _ (by-14 d q k) = rw (d, q, lt-ltb 0 known k)
+  asked-only _ (by-15 d q k (inl z)) = rw (d, q, k, eq-eqb (thirdOf h) 0 z)
+  asked-only _ (by-15 d q k (inr (inl z))) = rw (d, q, k, ne-eqb (thirdOf h) 0 (λ y. omega arith), lt-ltb countLimit (thirdOf h) z)
+  asked-only _ (by-15 d q k (inr (inr z))) = rw (d, q, k) (third (ℕ-discrete (thirdOf h) 0) (decLt countLimit (thirdOf h)))
+    where
+      third : Dec (thirdOf h ≡ 0) → Dec (countLimit < thirdOf h)
+          → faulty 15 ≡ cond (eqb (thirdOf h) 0 || (ltb countLimit (thirdOf h) || ltb (thirdOf h) used)) (faulty 15) (counts (thirdOf h))
+      third (yes a) b = rw (eq-eqb (thirdOf h) 0 a)
+      third (no a) (yes b) = rw (ne-eqb (thirdOf h) 0 a, lt-ltb countLimit (thirdOf h) b)
+      third (no a) (no b) = rw (ne-eqb (thirdOf h) 0 a, le-ltb countLimit (thirdOf h) (omega arith), lt-ltb (thirdOf h) used z)
+  asked-only _ (for-count d q k n₀ n₁ n₂) =
+      rw (d, q, k, ne-eqb (thirdOf h) 0 (λ y. omega arith), le-ltb countLimit (thirdOf h) n₁, le-ltb (thirdOf h) used n₂)
+  asked-only _ (for-nothing d q z) = rw (d, q, eq-eqb (secondOf h) 0 z)
+  asked-only _ (by-16 d q l f) = rw (d, q, ne-eqb (secondOf h) 0 (λ y. omega arith), lt-ltb F (thirdOf h + secondOf h) f)
+  asked-only _ (for-claim d q l f) = rw (d, q, ne-eqb (secondOf h) 0 (λ y. omega arith), le-ltb F (thirdOf h + secondOf h) f)

@@ -6,11 +6,14 @@ pub mod Claimed
 pub mod Counted
 pub mod Placed
 pub mod Cuts
+pub mod Cutting
 pub mod Views
 pub mod Shapes
 pub mod Streams
 pub mod States
+pub mod Starts
 pub mod Asked
+pub mod Judged
 pub mod Invariant
 pub mod Follows
 pub mod Fills

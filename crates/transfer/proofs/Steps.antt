@@ -15,6 +15,7 @@ use Rattle.eblock.specs.Header.{secondOf, thirdOf}
 use Rattle.transfer.specs.Channel.{channelCount, heldLimit, unused, header, stateAt, putState, putFault}
 use Rattle.transfer.specs.Transfer.{usedOf, withTransfer}
 use Rattle.transfer.specs.Header.{endsChannel, payloadLength, Asks, counts, claims, nothing, faulty, askedOf, claimFault}
+use Rattle.transfer.specs.Judgement.{Asked, for-count, for-nothing, for-claim}
 use Rattle.transfer.specs.Receive.{goes, stops, leaves, opens, claimsRange, faults, heeds, judges, heads, byteOn, byteOf, isSome, isEnded}
 use Rattle.transfer.specs.Block.{Block, block, cut, cutBy, over, overBy, countsIn, claimsOf, placed, flat}
 use Rattle.transfer.specs.Tally.{Tally, Stream, sound, spoilt, taken, allButLast, accepted, blocksOf, countsOf, known, claimed, one, used, streamAt, withStream, withFault, keeps, judgedBy, faultIn, byteOn as tallyByteOn, byteOf as tallyByteOf}
@@ -24,7 +25,7 @@ use Rattle.transfer.proofs.Views.{allButLast-last}
 use Rattle.transfer.proofs.Shapes.{Shape, no-byte, in-header, in-payload, at-end, Proper, view-header, view-payload, view-end}
 use Rattle.transfer.proofs.Streams.{proper-at, sum-set}
 use Rattle.transfer.proofs.States.{transferOf, worldOf, state-is, put-is, fault-is, used-is}
-use Rattle.transfer.proofs.Asked.{Judgement, claim-judged, claim-accepted, Asking, for-fault, for-count, for-nothing, for-claim, asked}
+use Rattle.transfer.proofs.Asked.{Numbered, claim-judged, claim-accepted, asked, in-range}
 use Rattle.transfer.proofs.Invariant.{Count, unknown, announced, sound-at, Invariant, stays, used-same, same-blocks, kept-fault, kept-spoilt}
 use Rattle.transfer.proofs.Follows.{Follows, both-stop, both-leave, world-is, isSome-append, goes-on}
 use Rattle.transfer.proofs.Fills.{fills}
@@ -68,14 +69,14 @@ module _ (F R : ℕ) (before : Pairs) (file : List ℕ) (ruled : Ruled 0 before)
         same : blocksOf (set (t .streams) c (spoilt (bs ++ b ∷ []))) ≡ blocksOf (t .streams)
         same = same-blocks t c (spoilt (bs ++ b ∷ [])) (omega (arith, i .number)) (gone ∙ sym was)
 
-    heeded : (a : Asks) → Asking F (known (t .streams)) (used (t .streams)) head a
+    heeded : (a : Asks) → Asked F (known (t .streams)) (used (t .streams)) head a
         → Follows F R before file t c (heeds (worldOf F R before file t) c head a) (judgedBy t c (bs ++ b ∷ []) (faultIn R (claimed before (t .streams)) a))
     unfolding heeds judgedBy faultIn worldOf transferOf
-    heeded (faulty zero) (for-fault n a a′) = absurd (omega arith)
-    heeded (faulty (suc n)) (for-fault m a a′) = spoils (suc n) a a′
-    heeded (counts n) (for-count q k₀ n₀ n₁ n₂) = accepts-count F R before file ruled t c bs done r b i z k e d y u g q k₀ n₀ n₁ n₂
-    heeded nothing (for-nothing q q₀) = accepts-nothing F R before file ruled t c bs done r b i z k e d y u g q q₀
-    heeded (claims s f) (for-claim q q₀ q₁) = rw (pairs-are F R before file ruled t i) (go (claimFault R (claimed before (t .streams)) (thirdOf head) (thirdOf head + secondOf head)) refl)
+    heeded (faulty zero) a = absurd (omega (arith, in-range F (known (t .streams)) (used (t .streams)) head (faulty zero) a .0))
+    heeded (faulty (suc n)) a = let m = in-range F (known (t .streams)) (used (t .streams)) head (faulty (suc n)) a in spoils (suc n) (m .0) (m .1)
+    heeded (counts n) (for-count _ q k₀ n₀ n₁ n₂) = accepts-count F R before file ruled t c bs done r b i z k e d y u g q k₀ n₀ n₁ n₂
+    heeded nothing (for-nothing _ q q₀) = accepts-nothing F R before file ruled t c bs done r b i z k e d y u g q q₀
+    heeded (claims s f) (for-claim _ q q₀ q₁) = rw (pairs-are F R before file ruled t i) (go (claimFault R (claimed before (t .streams)) (thirdOf head) (thirdOf head + secondOf head)) refl)
       where
         go : (n : ℕ) → claimFault R (claimed before (t .streams)) (thirdOf head) (thirdOf head + secondOf head) ≡ n
             → Follows F R before file t c
@@ -87,7 +88,7 @@ module _ (F R : ℕ) (before : Pairs) (file : List ℕ) (ruled : Ruled 0 before)
             accepts-claim F R before file ruled t c bs done r b i z k e d y u g q q₀ q₁ (a .0) (a .1)
         go (suc n) w = rw (lt-ltb 0 (suc n) (omega arith)) (numbered (claim-judged R (claimed before (t .streams)) (thirdOf head) (thirdOf head + secondOf head)))
           where
-            numbered : Judgement (claimFault R (claimed before (t .streams)) (thirdOf head) (thirdOf head + secondOf head))
+            numbered : Numbered (claimFault R (claimed before (t .streams)) (thirdOf head) (thirdOf head + secondOf head))
                 → Follows F R before file t c (faults (worldOf F R before file t) c (suc n)) (stops (withFault (withStream t c (spoilt (bs ++ b ∷ []))) (suc n) c))
             numbered (inl l) = absurd (omega (arith, w))
             numbered (inr l) = spoils (suc n) (omega (arith, w, l .0)) (omega (arith, w, l .1))

@@ -1,0 +1,67 @@
+-- A header's judgement: the ledger's part, and the whole statement.
+use Prim.Native.Nat.{ℕ, _+_, _≤_, _<_}
+use mathlib.Core.Path.{_≡_, refl, sym, ap, _∙_}
+use mathlib.Core.Bool.{Bool, true, false, cond}
+use native.Mathlib.Omega.{arith}
+use borrow.Author.Tests.{lt-ltb, le-ltb, ltb-true, ltb-false}
+use lib.Dec.{ltb}
+use Rattle.ledger.specs.Pairs.{Pairs, size, hit, holds, Ruled, join, shares}
+use Rattle.ledger.proofs.Places.{hit-in, Where, under, within, past, stand, holds-le}
+use Rattle.ledger.proofs.Joined.{join-holds, join-ruled}
+use Rattle.ledger.proofs.Unique.{ruled-unique}
+use Rattle.ledger.proofs.Shared.{shares-none, none-shares, shares-some}
+use Rattle.eblock.specs.Descriptor.{has}
+use Rattle.transfer.specs.Header.{payloadLength, claimFault}
+use Rattle.transfer.specs.Judgement.{Union, Claim, by-17, by-18, is-claimed, Judgement}
+use Rattle.transfer.proofs.Asked.{asked, asked-only}
+
+module _ (R : ℕ) (ps : Pairs) (s e : ℕ) (h : s < e) (ruled : Ruled 0 ps) where
+  joined : Union s e ps (join s e ps)
+  joined = record { ruled = join-ruled s e 0 ps h (omega arith) ruled; places = λ p. join-holds s e 0 p ps h ruled }
+
+  only-joined : (m : Pairs) → Union s e ps m → size m ≡ size (join s e ps)
+  only-joined m u = ap size (ruled-unique 0 m (join s e ps) (u .ruled) (joined .ruled) (λ p. u .places p ∙ sym (joined .places p)))
+
+  free : shares s e ps ≡ false → (p : ℕ) → s ≤ p → p < e → holds p ps ≡ 0
+  free q p a b = omega (arith, shares-none s e p ps q, hit-in s e p a b)
+
+  not-shared : ((p : ℕ) → s ≤ p → p < e → holds p ps ≡ 0) → shares s e ps ≡ false
+  not-shared f = none-shares s e 0 ps h ruled (λ p. go p (stand s e p))
+    where
+      go : (p : ℕ) → Where s e p → hit s e p + holds p ps ≤ 1
+      go p (under x y) = omega (arith, holds-le p ps)
+      go p (within x y z) = omega (arith, f p x y)
+      go p (past x y z) = omega (arith, holds-le p ps)
+
+  claim-is : Claim R ps s e (claimFault R ps s e)
+  unfolding claimFault
+  claim-is = go (shares s e ps) (ltb R (size (join s e ps))) refl refl
+    where
+      go : (u v : Bool) → shares s e ps ≡ u → ltb R (size (join s e ps)) ≡ v → Claim R ps s e (cond u 17 (cond v 18 0))
+      go true v x y = let p = shares-some s e 0 ps h ruled x in by-17 (p .0) (p .1) (p .2) (p .3)
+      go false true x y = by-18 (free x) (join s e ps) joined (ltb-true R (size (join s e ps)) y)
+      go false false x y = is-claimed (free x) (join s e ps) joined (ltb-false R (size (join s e ps)) y)
+
+  claim-only : (k : ℕ) → Claim R ps s e k → k ≡ claimFault R ps s e
+  unfolding claimFault
+  claim-only _ (by-17 p a b q) = go (shares s e ps) refl
+    where
+      go : (u : Bool) → shares s e ps ≡ u → _≡_ {A = ℕ} 17 (cond u 17 (cond (ltb R (size (join s e ps))) 18 0))
+      go true x = refl
+      go false x = absurd (omega (arith, free x p a b, q))
+  claim-only _ (by-18 f m u l) = rw (not-shared f, lt-ltb R (size (join s e ps)) (omega (arith, only-joined m u)))
+  claim-only _ (is-claimed f m u l) = rw (not-shared f, le-ltb R (size (join s e ps)) (omega (arith, only-joined m u)))
+
+pub judgement : Judgement
+unfolding has payloadLength
+judgement =
+    record {
+      asked-is = asked;
+      asked-only = asked-only;
+      claim-is = claim-is;
+      claim-only = λ R ps s e k h ruled c. claim-only R ps s e h ruled k c;
+      nine-end = λ r. refl;
+      nine-count = λ r. refl;
+      none-follow = λ h q. rw q;
+      so-many-follow = λ h q. rw q;
+    }

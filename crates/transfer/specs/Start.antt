@@ -1,0 +1,20 @@
+-- What start answers and leaves (document 01, "One transfer", number 5).
+use Prim.Native.Nat.{ℕ, _/_, _%_, _≤_, _<_}
+use mathlib.Core.Path.{_≡_}
+use mathlib.Core.Logic.{_≢_}
+use mathlib.Core.List.{List}
+use lib.ListN.{length, replicate}
+use Rattle.ledger.specs.Ledger.{entryLimit}
+use Rattle.transfer.specs.declared.state.Transfer.{Transfer}
+use Rattle.transfer.specs.Transfer.{fresh, startNumber, startOf, startLeaves}
+
+-- the number, 0 where start is accepted; the transfer; the ledger
+abbrev pub Leaves : ℕ → List ℕ → ℕ → Transfer → List ℕ → Type 0
+Leaves f ledger number t after = (startNumber ledger ≡ number) × (startOf f ledger ≡ t) × (startLeaves ledger ≡ after)
+
+pub record Start : Type 0 where
+  -- whole pairs, and not too many: a fresh transfer, and the ledger zeroed
+  pub accepted : (f : ℕ) (ledger : List ℕ) → length ledger % 2 ≡ 0 → length ledger ≤ entryLimit → Leaves f ledger 0 (fresh f (length ledger / 2)) (replicate (length ledger) 0)
+  -- 5: the ledger is left as it was, and the transfer is that of no bytes and no pairs
+  pub odd : (f : ℕ) (ledger : List ℕ) → length ledger % 2 ≢ 0 → Leaves f ledger 5 (fresh 0 0) ledger
+  pub long : (f : ℕ) (ledger : List ℕ) → entryLimit < length ledger → Leaves f ledger 5 (fresh 0 0) ledger
