@@ -11,9 +11,10 @@ use Rattle.ledger.specs.Ledger.{pairsOf, lent}
 use Rattle.ledger.proofs.Joined.{join-ends}
 use Rattle.ledger.proofs.Shared.{shares-none}
 use Rattle.ledger.proofs.Lents.{pairsOf-lent}
-use Rattle.eblock.specs.Header.{countLimit, secondOf, thirdOf}
+use Rattle.eblock.specs.Descriptor.{faultOf}
+use Rattle.eblock.specs.Header.{countLimit, descriptorOf, secondOf, thirdOf}
 use Rattle.transfer.specs.Channel.{channelCount, heldLimit, putCount}
-use Rattle.transfer.specs.Transfer.{withTransfer, endedOf}
+use Rattle.transfer.specs.Transfer.{sum, withTransfer, endedOf}
 use Rattle.transfer.specs.Header.{isCount, endsChannel, payloadLength}
 use Rattle.transfer.specs.Receive.{opens, claimsRange, isSome, isEnded}
 use Rattle.transfer.specs.Block.{Block, block, placeOf, sizeOf, cut, countsIn, claim, claimsOf, hasEnd, placed, flat}
@@ -26,7 +27,7 @@ use Rattle.transfer.specs.View.{view}
 use Rattle.transfer.proofs.Shapes.{in-header, kind, kind-ended, view-header, hit-nothing}
 use Rattle.transfer.proofs.Streams.{proper-set, Split, split}
 use Rattle.transfer.proofs.States.{transferOf, worldOf, put-is, put-count-is, ended-is}
-use Rattle.transfer.proofs.Invariant.{Count, unknown, announced, sound-set, Invariant, opens-block, used-same, cover-insert}
+use Rattle.transfer.proofs.Invariant.{Count, unknown, announced, sound-set, headerFault, Invariant, opens-block, used-same, sum-insert}
 use Rattle.transfer.proofs.Follows.{Follows, world-is, isSome-append, tipOf, Opened, opened, opens-on}
 
 claim-none : (x : Block) (ps : Pairs) → sizeOf x ≡ 0 → claim x ps ≡ ps
@@ -43,7 +44,7 @@ module _ (F R : ℕ) (before : Pairs) (file : List ℕ) (ruled : Ruled 0 before)
   pairs-are t i = pairsOf-lent R 0 (claimed before (t .streams)) (claims-ruled (blocksOf (t .streams)) before ruled) (i .room)
 
   module _ (t : Tally) (c : ℕ) (bs : List ℕ) (done : List Block) (r : List ℕ) (b : ℕ) (i : Invariant F R before t) (z : t .fault ≡ 0) (k : c < channelCount) (e : streamAt t c ≡ sound bs)
-      (d : Done done) (y : length r ≡ heldLimit) (u : isSome bs ≡ true) (g : bs ≡ flat done ++ r) where
+      (d : Done done) (y : length r ≡ heldLimit) (u : isSome bs ≡ true) (g : bs ≡ flat done ++ r) (f₀ : faultOf (descriptorOf (r ++ b ∷ [])) ≡ 0) where
     abbrev head : List ℕ
     head = r ++ b ∷ []
 
@@ -91,7 +92,7 @@ module _ (F R : ℕ) (before : Pairs) (file : List ℕ) (ruled : Ruled 0 before)
     claims-are = ap (λ m. claimsOf m before) then ∙ claims-insert front x (around .back) before ruled ∙ ap (λ m. claim x (claimsOf m before)) (sym now)
 
     cover-is : (o : ℕ) → cover o (blocksOf next) ≡ hitBy o x + cover o (blocksOf (t .streams))
-    cover-is o = ap (cover o) then ∙ cover-insert o front x (around .back) ∙ ap (λ m. hitBy o x + cover o m) (sym now)
+    cover-is o = ap (cover o) then ∙ sum-insert (hitBy o) front x (around .back) ∙ ap (λ m. hitBy o x + cover o m) (sym now)
 
     same-file : placed (blocksOf next) file ≡ placed (blocksOf (t .streams)) file
     same-file = ap (λ m. placed m file) then ∙ placed-insert front x (around .back) file refl ∙ ap (λ m. placed m file) (sym now)
@@ -119,6 +120,7 @@ module _ (F R : ℕ) (before : Pairs) (file : List ℕ) (ruled : Ruled 0 before)
           room = rw claims-are p₃;
           count = rw same-used p₄;
           fault = i .fault;
+          headers = ap (sum headerFault) then ∙ sum-insert headerFault front x (around .back) ∙ omega (arith, f₀, ap (sum headerFault) (sym now), i .headers);
         }
 
     same-counts : isCount head ≡ false → countsOf next ≡ countsOf (t .streams)

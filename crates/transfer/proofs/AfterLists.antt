@@ -8,30 +8,30 @@ use native.Mathlib.Omega.{arith}
 use borrow.Author.Tests.{eq-eqb, ltb-true, ltb-false, eqb-true}
 use lib.Dec.{ltb, eqb}
 use lib.ListN.{length, getD}
-use Rattle.ledger.specs.Pairs.{Pairs, none, total, Ruled}
-use Rattle.ledger.specs.Ledger.{obeys, roomOf}
-use Rattle.ledger.proofs.Lents.{rule-lent}
+use Rattle.ledger.specs.Pairs.{Pairs, total, Ruled}
 use Rattle.transfer.specs.Channel.{numbersOf}
 use Rattle.transfer.specs.Transfer.{sum, leftOf, World, Verdict, guess, result, broken, verdictOf, storedOf}
 use Rattle.transfer.specs.Receive.{isSome}
 use Rattle.transfer.specs.Fit.{pairLimit}
-use Rattle.transfer.specs.Calls.{Call, callOf, runBy, after}
+use Rattle.transfer.specs.Calls.{Call, callOf, after}
 use Rattle.transfer.specs.Block.{Block, sizeOf, bytesIn}
 use Rattle.transfer.specs.Tally.{Tally, Stream, taken, accepted, blocksOf, countsOf, known, claimed, used, endedIn, verdict, empty, callOf as tallyCallOf}
-use Rattle.transfer.specs.AfterList.{Begun, fresh-start, tallyOf, Complete, Has, AfterList, EveryList}
-use Rattle.transfer.proofs.Claimed.{sum-append, claims-ruled, claims-holds, claims-total}
+use Rattle.transfer.specs.AfterList.{Begun, tallyOf, Complete, Has, AfterList, Unchanged, EveryList}
+use Rattle.transfer.proofs.Claimed.{sum-append, claims-holds, claims-total}
 use Rattle.transfer.proofs.Placed.{length-placed}
 use Rattle.transfer.specs.View.{view}
 use Rattle.transfer.proofs.Shapes.{kind, kind-left}
 use Rattle.transfer.proofs.Streams.{AllProper, proper-bodies}
-use Rattle.transfer.proofs.States.{rowOf, transferOf, worldOf}
+use Rattle.transfer.proofs.States.{rowOf, transferOf, worldOf, state-is}
 use Rattle.transfer.proofs.Invariant.{Count, unknown, announced, Invariant}
 use Rattle.transfer.proofs.Accepts.{pairs-are}
 use Rattle.transfer.proofs.Fits.{fits-always}
 use Rattle.transfer.proofs.Runs.{Grown, verdict-is, run}
 use Rattle.transfer.proofs.Stored.{has-cover, has-placed, none-placed, holds-below-end, grown-has, grown-bytes}
 use Rattle.transfer.proofs.Wholes.{whole-all, whole-stand}
-use Rattle.transfer.proofs.Begins.{invariant-empty, begun-is}
+use Rattle.transfer.proofs.Ledgers.{ledger-is}
+use Rattle.transfer.proofs.Along.{along, world-along}
+use Rattle.transfer.proofs.Rowed.{run-append, rows}
 
 -- ---- the verdict
 
@@ -121,17 +121,20 @@ module _ (F R : ℕ) (before : Pairs) (file : List ℕ) (ruled : Ruled 0 before)
         guess-is = says .2;
         file-taken = at-place;
         file-rest = λ p h. unfold worldOf in none-placed p (blocksOf (t .streams)) file h;
-        file-length = unfold worldOf in length-placed (blocksOf (t .streams)) file;
+        file-length = same-length;
         file-is = unfold worldOf in refl;
         bytes-are = stored-is t i;
         fault-is = unfold worldOf transferOf in (refl, refl);
         count-is = unfold worldOf transferOf in refl;
-        ledger-is = unfold worldOf in refl;
-        ledger-obeys = unfold worldOf obeys in rule-lent R 0 (claimed before (t .streams)) (claims-ruled (blocksOf (t .streams)) before ruled);
-        stands = λ c. whole-stand (worldOf F R before file t .lent .file) (blocksOf (t .streams)) (whole-all (t .streams) (i .proper) (all-ended c (i .count))) (λ p v h. at-place p v h .1);
+        ledger-is = unfold worldOf in ledger-is R before (blocksOf (t .streams)) ruled (i .apart) (i .room);
+        channels-are = λ c h. unfold worldOf in state-is F R t c (i .proper) (omega (arith, i .number));
+        stands = λ c. whole-stand (worldOf F R before file t .lent .file) (blocksOf (t .streams)) (whole-all (t .streams) (i .proper) (all-ended c (i .count))) (λ p v h. (omega (arith, at-place p v h .0, same-length), at-place p v h .1));
         fits-still = fits-always F R before file t ruled l r i;
       }
     where
+      same-length : length (worldOf F R before file t .lent .file) ≡ length file
+      same-length = unfold worldOf in length-placed (blocksOf (t .streams)) file
+
       -- a place with a payload byte is claimed, so it lies below F
       below : (p v : ℕ) → Has p v (blocksOf (t .streams)) → p < length file
       below p v h =
@@ -162,39 +165,34 @@ module _ (F R : ℕ) (before : Pairs) (file : List ℕ) (ruled : Ruled 0 before)
 
 -- ---- every list
 
-same : (w : World) (file : List ℕ) (R : ℕ) (before : Pairs) → Begun w file R before → (ks : List Call)
-    → (runBy callOf w ks ≡ (runBy (tallyCallOf (length file) R before) empty ks .0, worldOf (length file) R before file (tallyOf (length file) R before ks)))
-    × AfterList R before file (worldOf (length file) R before file (tallyOf (length file) R before ks)) (tallyOf (length file) R before ks)
-same w file R before (fresh-start f ledger e) ks =
-    let b = begun-is f ledger e in
-    let s = run (length f) (roomOf ledger) none f tt refl (b .0) ks empty (invariant-empty (length f) (roomOf ledger)) in
-    (ap (λ v. runBy callOf v ks) (b .1) ∙ s .out, after-tally (length f) (roomOf ledger) none f tt (tallyOf (length f) (roomOf ledger) none ks) refl (b .0) (s .kept))
-
--- the tally of a longer list is the tally of what comes behind, from that of the first part
-tally-append : (F R : ℕ) (before : Pairs) (t : Tally) (ks more : List Call)
-    → runBy (tallyCallOf F R before) t (ks ++ more) .1 ≡ runBy (tallyCallOf F R before) (runBy (tallyCallOf F R before) t ks .1) more .1
-unfolding runBy
-tally-append F R before t [] more = refl
-tally-append F R before t (k ∷ ks) more = tally-append F R before (tallyCallOf F R before t k .1) ks more
+after-list-is : (w : World) (file : List ℕ) (R : ℕ) (before : Pairs) → Begun w file R before → (ks : List Call) → AfterList R before file (after w ks) (tallyOf (length file) R before ks)
+after-list-is w file R before b ks =
+    let a = along w file R before b ks in
+    subst (λ v. AfterList R before file v (tallyOf (length file) R before ks)) (sym (world-along w file R before b ks))
+    (after-tally (length file) R before file (a .ruled) (tallyOf (length file) R before ks) refl (a .few) (a .kept))
 
 grew : (w : World) (file : List ℕ) (R : ℕ) (before : Pairs) → Begun w file R before → (ks more : List Call)
     → Grown (blocksOf (tallyOf (length file) R before ks .streams)) (blocksOf (tallyOf (length file) R before (ks ++ more) .streams))
-grew w file R before (fresh-start f ledger e) ks more =
-    let b = begun-is f ledger e in
-    let s = run (length f) (roomOf ledger) none f tt refl (b .0) ks empty (invariant-empty (length f) (roomOf ledger)) in
-    let m = run (length f) (roomOf ledger) none f tt refl (b .0) more (tallyOf (length f) (roomOf ledger) none ks) (s .kept) in
-    subst (λ u. Grown (blocksOf (tallyOf (length f) (roomOf ledger) none ks .streams)) (blocksOf (u .streams))) (sym (tally-append (length f) (roomOf ledger) none empty ks more)) (m .grown)
+grew w file R before b ks more =
+    let a = along w file R before b ks in
+    let t = tallyOf (length file) R before ks in
+    subst (λ u. Grown (blocksOf (t .streams)) (blocksOf (u .streams))) (sym (run-append (tallyCallOf (length file) R before) empty ks more))
+    (run (length file) R before file (a .ruled) refl (a .few) more t (a .kept) .grown)
 
-after-list-is : (w : World) (file : List ℕ) (R : ℕ) (before : Pairs) → Begun w file R before → (ks : List Call) → AfterList R before file (after w ks) (tallyOf (length file) R before ks)
-after-list-is w file R before b ks =
-    subst (λ v. AfterList R before file v (tallyOf (length file) R before ks)) (sym (ap (λ r. r .1) (same w file R before b ks .0))) (same w file R before b ks .1)
+-- a complete tally shows RESULT or BROKEN, and after either no call changes anything
+unchanged : (w : World) (file : List ℕ) (R : ℕ) (before : Pairs) → Begun w file R before → (ks : List Call) → Complete (tallyOf (length file) R before ks) → (more : List Call)
+    → Unchanged (after w ks) (after w (ks ++ more))
+unchanged w file R before b ks c more =
+    subst (Unchanged (after w ks)) (sym (run-append callOf w ks more ∙ rows .stays (after w ks) (λ g. after-list-is w file R before b ks .guess-is .0 g .1 c) more))
+    (record { verdict = refl; file = refl; ledger = refl; bytes = refl })
 
 pub every-list : EveryList
 every-list =
     record {
-      answers-are = λ w file R before b ks. ap (λ r. r .0) (same w file R before b ks .0);
+      answers-are = λ w file R before b ks. ap (λ r. r .0) (along w file R before b ks .out);
       after-list = after-list-is;
       kept = λ w file R before b ks more p v h. grown-has _ _ p v (grew w file R before b ks more) h;
       counted = λ w file R before b ks more.
           omega (arith, after-list-is w file R before b ks .bytes-are, after-list-is w file R before b (ks ++ more) .bytes-are, grown-bytes _ _ (grew w file R before b ks more));
+      final = unchanged;
     }

@@ -41,6 +41,7 @@ invariant-empty F R =
       room = zero-le;
       count = unknown refl;
       fault = no-fault refl refl;
+      headers = refl;
     }
 
 lent-none : (r : ℕ) → replicate (2 * r) 0 ≡ lent r none

@@ -9,12 +9,12 @@ use Rattle.ledger.specs.Pairs.{Pairs}
 use Rattle.ledger.specs.Ledger.{lent}
 use Rattle.eblock.specs.Header.{headerLength, thirdOf}
 use Rattle.transfer.specs.Channel.{channelCount}
-use Rattle.transfer.specs.Transfer.{world}
+use Rattle.transfer.specs.Transfer.{sum, world}
 use Rattle.transfer.specs.Header.{endsChannel, payloadLength}
 use Rattle.transfer.specs.Receive.{stores, isSome, isEnded}
 use Rattle.transfer.specs.Block.{Block, block, cut, countsIn, claimsOf, hasEnd, placed, flat}
 use Rattle.transfer.specs.Tally.{Tally, sound, taken, accepted, blocksOf, countsOf, claimed, one, used, streamAt, withStream, keeps}
-use Rattle.transfer.proofs.Claimed.{cover, claims-same}
+use Rattle.transfer.proofs.Claimed.{hitBy, cover, claims-same}
 use Rattle.transfer.proofs.Counted.{counts-same}
 use Rattle.transfer.proofs.Placed.{Bodies, bodies-left, placed-extend}
 use Rattle.transfer.proofs.Cuts.{Done, cuts-payload}
@@ -22,7 +22,7 @@ use Rattle.transfer.specs.View.{view}
 use Rattle.transfer.proofs.Shapes.{in-payload, kind, kind-ended, view-payload}
 use Rattle.transfer.proofs.Streams.{proper-set, proper-bodies, Split, split}
 use Rattle.transfer.proofs.States.{transferOf, worldOf, put-is, ended-is}
-use Rattle.transfer.proofs.Invariant.{sound-set, Invariant, adds-byte, used-same, cover-same}
+use Rattle.transfer.proofs.Invariant.{sound-set, Invariant, adds-byte, headerFault, used-same, sum-same}
 use Rattle.transfer.proofs.Follows.{Follows, world-is, isSome-append, tipOf, Opened, opened, opens-on}
 
 module _ (F R : ℕ) (before : Pairs) (file : List ℕ) where
@@ -88,7 +88,7 @@ module _ (F R : ℕ) (before : Pairs) (file : List ℕ) where
       same-claims = ap (λ m. claimsOf m before) then ∙ claims-same front (block h (p ++ b ∷ [])) (block h p) (r .back) before refl ∙ ap (λ m. claimsOf m before) (sym now)
 
       same-cover : (o : ℕ) → cover o (blocksOf (set (t .streams) c (sound (bs ++ b ∷ [])))) ≡ cover o (blocksOf (t .streams))
-      same-cover o = ap (cover o) then ∙ cover-same o front (block h (p ++ b ∷ [])) (block h p) (r .back) refl ∙ ap (cover o) (sym now)
+      same-cover o = ap (cover o) then ∙ sum-same (hitBy o) front (block h (p ++ b ∷ [])) (block h p) (r .back) refl ∙ ap (cover o) (sym now)
 
       one-store : placed (blocksOf (set (t .streams) c (sound (bs ++ b ∷ [])))) file ≡ set (placed (blocksOf (t .streams)) file) (thirdOf h + length p) b
       one-store =
@@ -119,4 +119,5 @@ module _ (F R : ℕ) (before : Pairs) (file : List ℕ) where
             room = rw same-claims (i .room);
             count = rw (same-counts, same-used) (i .count);
             fault = i .fault;
+            headers = ap (sum headerFault) then ∙ sum-same headerFault front (block h (p ++ b ∷ [])) (block h p) (r .back) refl ∙ ap (sum headerFault) (sym now) ∙ i .headers;
           }

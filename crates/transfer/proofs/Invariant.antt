@@ -10,10 +10,11 @@ use Rattle.ledger.specs.Pairs.{Pairs, size, holds, endsBy}
 use Rattle.transfer.specs.Channel.{channelCount, State, unused, header, payload, ended, stateNumber}
 use Rattle.transfer.specs.Transfer.{sum}
 use Rattle.transfer.specs.Receive.{isSome, isEnded}
-use Rattle.eblock.specs.Header.{countLimit}
+use Rattle.eblock.specs.Descriptor.{faultOf}
+use Rattle.eblock.specs.Header.{countLimit, descriptorOf}
 use Rattle.transfer.specs.Block.{Block, hasEnd}
 use Rattle.transfer.specs.Tally.{Tally, Stream, sound, spoilt, taken, accepted, blocksOf, countsOf, claimed, one, used, endedIn, streamAt, withStream, withFault}
-use Rattle.transfer.proofs.Claimed.{sum-append, hitBy, cover}
+use Rattle.transfer.proofs.Claimed.{sum-append, cover}
 use Rattle.transfer.proofs.Placed.{longer}
 use Rattle.transfer.specs.View.{view}
 use Rattle.transfer.proofs.Shapes.{Proper, kind, kind-ended, kind-used}
@@ -43,6 +44,9 @@ sound-set [] c bs a = tt
 sound-set (x ∷ ss) zero bs a = (refl, a .1)
 sound-set (x ∷ ss) (suc c) bs a = (a .0, sound-set ss c bs (a .1))
 
+abbrev pub headerFault : Block → ℕ
+headerFault x = faultOf (descriptorOf (x .head))
+
 pub record Invariant (F R : ℕ) (before : Pairs) (t : Tally) : Type 0 where
   pub number : length (t .streams) ≡ channelCount
   pub proper : AllProper (t .streams)
@@ -53,6 +57,8 @@ pub record Invariant (F R : ℕ) (before : Pairs) (t : Tally) : Type 0 where
   pub room : size (claimed before (t .streams)) ≤ R
   pub count : Count (countsOf (t .streams)) (used (t .streams))
   pub fault : Fault (t .fault) (t .on)
+  -- no accepted header has a fault of its descriptor
+  pub headers : sum headerFault (blocksOf (t .streams)) ≡ 0
 
 -- what a byte does to the accepted blocks
 pub data Grows (a b : List Block) : Type 0 where
@@ -89,15 +95,15 @@ used-same t c s h p u =
     let w : one (isSome (taken s)) ≡ 1 = ap one u in
     omega (arith, w, p, sum-set (λ (s : Stream). one (isSome (taken s))) (t .streams) c s h)
 
--- ---- cover
+-- ---- sums over blocks
 
-pub cover-same : (q : ℕ) (a : List Block) (x y : Block) (b : List Block) → x .head ≡ y .head → cover q (a ++ x ∷ b) ≡ cover q (a ++ y ∷ b)
+pub sum-same : (f : Block → ℕ) (a : List Block) (x y : Block) (b : List Block) → f x ≡ f y → sum f (a ++ x ∷ b) ≡ sum f (a ++ y ∷ b)
 unfolding sum
-cover-same q a x y b h = rw (sum-append (hitBy q) a (x ∷ b), sum-append (hitBy q) a (y ∷ b), h)
+sum-same f a x y b h = rw (sum-append f a (x ∷ b), sum-append f a (y ∷ b), h)
 
-pub cover-insert : (q : ℕ) (a : List Block) (x : Block) (b : List Block) → cover q (a ++ x ∷ b) ≡ hitBy q x + cover q (a ++ b)
+pub sum-insert : (f : Block → ℕ) (a : List Block) (x : Block) (b : List Block) → sum f (a ++ x ∷ b) ≡ f x + sum f (a ++ b)
 unfolding sum
-cover-insert q a x b = omega (arith, sum-append (hitBy q) a (x ∷ b), sum-append (hitBy q) a b)
+sum-insert f a x b = omega (arith, sum-append f a (x ∷ b), sum-append f a b)
 
 -- ---- kept
 
@@ -110,7 +116,7 @@ module _ (F R : ℕ) (before : Pairs) where
   -- with a fault
   pub kept-fault : (t : Tally) (k c : ℕ) → Invariant F R before t → 11 ≤ k → k ≤ 20 → c < channelCount → Invariant F R before (withFault t k c)
   kept-fault t k c i h g q =
-      record { number = i .number; proper = i .proper; clean = λ z. absurd (omega arith); apart = i .apart; ends = i .ends; room = i .room; count = i .count; fault = fault-of h g q }
+      record { number = i .number; proper = i .proper; clean = λ z. absurd (omega arith); apart = i .apart; ends = i .ends; room = i .room; count = i .count; fault = fault-of h g q; headers = i .headers }
 
   -- where a channel's bytes change and no block does
   pub kept-same : (t : Tally) (c : ℕ) (s : Stream) → Invariant F R before t → c < channelCount → Proper s → (t .fault ≡ 0 → AllSound (set (t .streams) c s)) → accepted s ≡ accepted (streamAt t c)
@@ -126,6 +132,7 @@ module _ (F R : ℕ) (before : Pairs) where
         room = rw b (i .room);
         count = rw b u;
         fault = i .fault;
+        headers = rw b (i .headers);
       }
 
   -- where a header is judged a fault
@@ -144,4 +151,5 @@ module _ (F R : ℕ) (before : Pairs) where
         room = rw b (i .room);
         count = rw (b, v) (i .count);
         fault = fault-of g g′ h;
+        headers = rw b (i .headers);
       }

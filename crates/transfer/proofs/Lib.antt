@@ -24,4 +24,7 @@ pub mod Runs
 pub mod Begins
 pub mod Stored
 pub mod Wholes
+pub mod Ledgers
+pub mod Along
 pub mod AfterLists
+pub mod EachCalls

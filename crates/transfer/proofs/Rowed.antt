@@ -4,13 +4,15 @@ use mathlib.Core.Path.{_≡_, refl, ap, _∙_}
 use mathlib.Core.Bool.{Bool, true, false, cond, _&&_}
 use mathlib.Core.List.{List, [], _∷_, _++_}
 use native.Mathlib.Omega.{arith}
-use borrow.Author.Tests.{lt-ltb, le-leb, lt-leb, leb-true, leb-false}
+use borrow.Author.Tests.{lt-ltb, eq-eqb, le-leb, lt-leb, leb-true, leb-false}
 use lib.Dec.{leb}
-use Rattle.transfer.specs.Channel.{channelCount, State, unused, header, payload, ended, stateAt}
-use Rattle.transfer.specs.Transfer.{World, Verdict, guess, result, broken, verdictOf}
-use Rattle.transfer.specs.Receive.{Took, goes, stops, leaves, Answer, refused, took, bytesBy, byteOf, isGuess, isEnded, isSome, refusalOf, receiveOf}
+use lib.ListN.{set}
+use Rattle.transfer.specs.Channel.{channelCount, State, unused, header, payload, ended, stateAt, putState, putFault}
+use Rattle.transfer.specs.Transfer.{endedOf, usedOf, World, world, withTransfer, Verdict, guess, result, broken, isFinal, verdictOf}
+use Rattle.transfer.specs.Receive.{stops, leaves, faults, ends, opens, stores, byteOn, Answer, refused, took, bytesBy, byteOf, isGuess, isEnded, isSome, refusalOf, receiveOf}
 use Rattle.transfer.specs.Fit.{fits}
 use Rattle.transfer.specs.Calls.{Call, receive, callOf, runBy, answersOf, after}
+use Rattle.transfer.proofs.Pieces.{bytes-goes, bytes-stops, bytes-leaves}
 use Rattle.transfer.specs.Rows.{Rows}
 
 not-guess : (v : Verdict) → (v ≡ guess → ⊥) → isGuess v ≡ false
@@ -59,19 +61,24 @@ first-row w c piece e = refuses w c piece 0 (unfold refusalOf in rw e)
 second-row : (w : World) (c : ℕ) (piece : List ℕ) → fits w ≡ true → channelCount ≤ c → receiveOf w c piece ≡ (refused 2, w)
 second-row w c piece e h = refuses w c piece 1 (unfold refusalOf in rw (e, le-leb channelCount c h))
 
--- ---- pieces and lists
+-- ---- 19 and 20
 
-pub goes-on : {W : Type 0} (f : W → ℕ → Took W) (w v : W) (b : ℕ) (bs : List ℕ) (k : ℕ) → f w b ≡ goes v → bytesBy f w (b ∷ bs) k ≡ bytesBy f v bs (suc k)
-unfolding bytesBy
-goes-on f w v b bs k e = rw (e, bytesBy)
+nineteen : (w : World) (c b : ℕ) → stateAt (w .t) c ≡ unused → 0 < w .t .count → usedOf (w .t) ≡ w .t .count → byteOf w c b ≡ leaves (withTransfer w (putFault (w .t) 19 c))
+unfolding byteOf byteOn
+nineteen w c b u n e = rw (u, lt-ltb 0 (w .t .count) n, eq-eqb (usedOf (w .t)) (w .t .count) e)
 
-pub stops-there : {W : Type 0} (f : W → ℕ → Took W) (w v : W) (b : ℕ) (bs : List ℕ) (k : ℕ) → f w b ≡ stops v → bytesBy f w (b ∷ bs) k ≡ (took (suc k), v)
-unfolding bytesBy
-stops-there f w v b bs k e = rw (e, bytesBy)
+twenty : (w : World) (c b p : ℕ) → stateAt (w .t) c ≡ payload p 1 true → 0 < w .t .count → endedOf (w .t) ≡ w .t .count
+    → byteOf w c b ≡ stops (world (putFault (putState (w .t) c (header [])) 20 c) (set (w .lent .file) p b) (w .lent .claimed))
+unfolding byteOf byteOn stores opens ends faults isFinal
+twenty w c b p s n e = rw (s, lt-ltb 0 (w .t .count) n, eq-eqb (endedOf (w .t)) (w .t .count) e)
 
-pub leaves-it : {W : Type 0} (f : W → ℕ → Took W) (w v : W) (b : ℕ) (bs : List ℕ) (k : ℕ) → f w b ≡ leaves v → bytesBy f w (b ∷ bs) k ≡ (took k, v)
-unfolding bytesBy
-leaves-it f w v b bs k e = rw (e, bytesBy)
+-- ---- lists of calls
+
+-- what two lists leave, one after the other
+pub run-append : {W : Type 0} (f : W → Call → Answer × W) (w : W) (ks more : List Call) → runBy f w (ks ++ more) .1 ≡ runBy f (runBy f w ks .1) more .1
+unfolding runBy
+run-append f w [] more = refl
+run-append f w (k ∷ ks) more = run-append f (f w k .1) ks more
 
 one-more-call : (w : World) (ks : List Call) (k : Call)
     → (after w (ks ++ k ∷ []) ≡ callOf (after w ks) k .1) × (answersOf w (ks ++ k ∷ []) ≡ answersOf w ks ++ (callOf (after w ks) k .0 ∷ []))
@@ -104,9 +111,11 @@ rows =
       row-4 = λ w c b bs e h v s. fourth-row w c e h b bs v s;
       row-empty = λ w c e h v. empty-row w c e h v;
       row-taken = λ w c b bs e h v s. taken-row w c e h b bs v s;
-      piece-goes = goes-on;
-      piece-stops = stops-there;
-      piece-leaves = leaves-it;
+      piece-goes = bytes-goes;
+      piece-stops = bytes-stops;
+      piece-leaves = bytes-leaves;
+      by-19 = nineteen;
+      by-20 = twenty;
       one-more = one-more-call;
       stays = stays-put;
     }

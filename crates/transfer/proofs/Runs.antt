@@ -15,7 +15,7 @@ use Rattle.transfer.specs.Transfer.{World, guess, result, broken, isFina
 use Rattle.transfer.specs.Receive.{Took, byteOf, Answer, refused, bytesBy, isGuess, isEnded, isSome, refusalOf, receiveOf}
 use Rattle.transfer.specs.Fit.{pairLimit}
 use Rattle.transfer.specs.Calls.{Call, receive, callOf, runBy}
-use Rattle.transfer.proofs.Rowed.{goes-on, stops-there, leaves-it}
+use Rattle.transfer.proofs.Pieces.{bytes-goes, bytes-stops, bytes-leaves}
 use Rattle.transfer.specs.Block.{Block, hasEnd}
 use Rattle.transfer.specs.Tally.{Tally, taken, accepted, blocksOf, countsOf, known, used, endedIn, verdict, streamAt, byteOf as tallyByteOf, refusalOf as tallyRefusalOf, callOf as tallyCallOf}
 use Rattle.transfer.specs.View.{view}
@@ -89,12 +89,12 @@ module _ (F R : ℕ) (before : Pairs) (file : List ℕ) (ruled : Ruled 0 before)
           → Same F R before file t′ Answer (bytesBy (λ v b. byteOf v c b) (worldOf F R before file t′) piece (suc k)) (bytesBy (λ v b. tallyByteOf F R before v c b) t′ piece (suc k)))
           → Same F R before file t Answer (bytesBy (λ v b. byteOf v c b) (worldOf F R before file t) (b ∷ piece) k) (bytesBy (λ v b. tallyByteOf F R before v c b) t (b ∷ piece) k)
       go (both-go t′ y x i′ g z′ o′) on =
-          rw (goes-on M (worldOf F R before file t) (worldOf F R before file t′) b piece k x, goes-on N t t′ b piece k y)
+          rw (bytes-goes M (worldOf F R before file t) (worldOf F R before file t′) b piece k x, bytes-goes N t t′ b piece k y)
           (let s = on t′ i′ z′ o′ in record { out = s .out; kept = s .kept; grown = once-more _ _ _ g (s .grown) })
       go (both-stop t′ y x i′ g) on =
-          rw (stops-there M (worldOf F R before file t) (worldOf F R before file t′) b piece k x, stops-there N t t′ b piece k y) (record { out = refl; kept = i′; grown = grew t′ g })
+          rw (bytes-stops M (worldOf F R before file t) (worldOf F R before file t′) b piece k x, bytes-stops N t t′ b piece k y) (record { out = refl; kept = i′; grown = grew t′ g })
       go (both-leave t′ y x i′ g) on =
-          rw (leaves-it M (worldOf F R before file t) (worldOf F R before file t′) b piece k x, leaves-it N t t′ b piece k y) (record { out = refl; kept = i′; grown = grew t′ g })
+          rw (bytes-leaves M (worldOf F R before file t) (worldOf F R before file t′) b piece k x, bytes-leaves N t t′ b piece k y) (record { out = refl; kept = i′; grown = grew t′ g })
 
   -- ---- a call
 

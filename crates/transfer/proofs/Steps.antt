@@ -74,9 +74,9 @@ module _ (F R : ℕ) (before : Pairs) (file : List ℕ) (ruled : Ruled 0 before)
     unfolding heeds judgedBy faultIn worldOf transferOf
     heeded (faulty zero) a = absurd (omega (arith, in-range F (known (t .streams)) (used (t .streams)) head (faulty zero) a .0))
     heeded (faulty (suc n)) a = let m = in-range F (known (t .streams)) (used (t .streams)) head (faulty (suc n)) a in spoils (suc n) (m .0) (m .1)
-    heeded (counts n) (for-count _ q k₀ n₀ n₁ n₂) = accepts-count F R before file ruled t c bs done r b i z k e d y u g q k₀ n₀ n₁ n₂
-    heeded nothing (for-nothing _ q q₀) = accepts-nothing F R before file ruled t c bs done r b i z k e d y u g q q₀
-    heeded (claims s f) (for-claim _ q q₀ q₁) = rw (pairs-are F R before file ruled t i) (go (claimFault R (claimed before (t .streams)) (thirdOf head) (thirdOf head + secondOf head)) refl)
+    heeded (counts n) (for-count f₀ q k₀ n₀ n₁ n₂) = accepts-count F R before file ruled t c bs done r b i z k e d y u g f₀ q k₀ n₀ n₁ n₂
+    heeded nothing (for-nothing f₀ q q₀) = accepts-nothing F R before file ruled t c bs done r b i z k e d y u g f₀ q q₀
+    heeded (claims s f) (for-claim f₀ q q₀ q₁) = rw (pairs-are F R before file ruled t i) (go (claimFault R (claimed before (t .streams)) (thirdOf head) (thirdOf head + secondOf head)) refl)
       where
         go : (n : ℕ) → claimFault R (claimed before (t .streams)) (thirdOf head) (thirdOf head + secondOf head) ≡ n
             → Follows F R before file t c
@@ -85,7 +85,7 @@ module _ (F R : ℕ) (before : Pairs) (file : List ℕ) (ruled : Ruled 0 before)
             (judgedBy t c (bs ++ b ∷ []) n)
         go zero w =
             let a = claim-accepted R (claimed before (t .streams)) (thirdOf head) (thirdOf head + secondOf head) w in
-            accepts-claim F R before file ruled t c bs done r b i z k e d y u g q q₀ q₁ (a .0) (a .1)
+            accepts-claim F R before file ruled t c bs done r b i z k e d y u g f₀ q q₀ q₁ (a .0) (a .1)
         go (suc n) w = rw (lt-ltb 0 (suc n) (omega arith)) (numbered (claim-judged R (claimed before (t .streams)) (thirdOf head) (thirdOf head + secondOf head)))
           where
             numbered : Numbered (claimFault R (claimed before (t .streams)) (thirdOf head) (thirdOf head + secondOf head))

@@ -1,11 +1,12 @@
 -- Where every used channel has ended, every accepted block is whole and stands in the file.
-use Prim.Native.Nat.{ℕ, _+_, _≤_}
-use mathlib.Core.Path.{_≡_, refl, ap}
+use Prim.Native.Nat.{ℕ, suc, _+_, _≤_, _<_}
+use mathlib.Core.Path.{_≡_, refl, sym, ap, _∙_}
 use mathlib.Core.Logic.{inl, inr}
 use mathlib.Core.Bool.{Bool}
 use mathlib.Core.List.{List, [], _∷_, _++_}
 use native.Mathlib.Omega.{arith}
-use lib.ListN.{length, getD}
+use lib.ListN.{length, getD, take, drop}
+use lib.Seq.{drop-cons}
 use Rattle.transfer.specs.Channel.{State}
 use Rattle.transfer.specs.Transfer.{sum}
 use Rattle.transfer.specs.Receive.{isSome, isEnded}
@@ -45,7 +46,17 @@ whole-all (s ∷ ss) a h =
     whole-append (accepted s) (blocksOf ss) (kind-whole (view s) (accepted s) (isSome (taken s)) k (omega (arith, e, ended-le ss (a .1), h)))
     (whole-all ss (a .1) (omega (arith, h, ended-used s (a .0))))
 
-pub whole-stand : (file : List ℕ) (xs : List Block) → AllWhole xs → ((p v : ℕ) → Has p v xs → getD file p 0 ≡ v) → Stand file xs
+-- a list that has all of these bytes from a place on has them as a part
+part : (file bs : List ℕ) (o : ℕ) → ((i : ℕ) → i < length bs → (o + i < length file) × (getD file (o + i) 0 ≡ getD bs i 0)) → take (length bs) (drop o file) ≡ bs
+part file [] o h = refl
+part file (b ∷ bs) o h =
+    let e : o + 0 ≡ o = omega arith in
+    let here = h 0 (omega arith) in
+    rw (drop-cons file o 0 (omega (arith, here .0)))
+    (ap {B = List ℕ} (λ v. v ∷ take (length bs) (drop (suc o) file)) (ap (λ q. getD file q 0) (sym e) ∙ here .1)
+    ∙ ap {B = List ℕ} (λ r. b ∷ r) (part file bs (suc o) (λ i k. let next = h (suc i) (omega arith) in let f : o + suc i ≡ suc o + i = omega arith in (omega (arith, next .0), ap (λ q. getD file q 0) (sym f) ∙ next .1))))
+
+pub whole-stand : (file : List ℕ) (xs : List Block) → AllWhole xs → ((p v : ℕ) → Has p v xs → (p < length file) × (getD file p 0 ≡ v)) → Stand file xs
 whole-stand file [] w h = tt
 whole-stand file (x ∷ xs) w h =
-    (w .0, (λ i k. h (placeOf x + i) (getD (x .body) i 0) (inl (i, omega (arith, w .0), refl, refl))), whole-stand file xs (w .1) (λ p v y. h p v (inr y)))
+    (w .0, rw (sym (w .0)) (part file (x .body) (placeOf x) (λ i k. h (placeOf x + i) (getD (x .body) i 0) (inl (i, k, refl, refl)))), whole-stand file xs (w .1) (λ p v y. h p v (inr y)))

@@ -1,20 +1,20 @@
--- What holds after every list of receive calls: the part of demand 3 that is proved so far, a field for each sentence.
---
--- That no call changes anything once the verdict is not GUESS is `stays` of transfer's Rows. Still to come: well-formed sendings and their arrivals.
-use Prim.Native.Nat.{ℕ, _+_, _≤_, _<_}
+-- What holds after every list of receive calls: demand 3 but for its last sentence, a field for each sentence.
+use Prim.Native.Nat.{ℕ, _+_, _*_, _≤_, _<_}
 use mathlib.Core.Path.{_≡_}
 use mathlib.Core.Logic.{_↔_, _⊎_}
 use mathlib.Core.Bool.{true}
 use mathlib.Core.List.{List, [], _∷_, _++_}
-use lib.ListN.{length, getD}
-use Rattle.ledger.specs.Pairs.{Pairs, none, total}
-use Rattle.ledger.specs.Ledger.{roomOf, obeys, lent}
+use lib.ListN.{length, getD, take, drop}
+use Rattle.ledger.specs.Pairs.{Pairs, none, total, holds}
+use Rattle.ledger.specs.Ledger.{roomOf, obeys, lent, Holds}
+use Rattle.transfer.specs.Channel.{channelCount, stateAt}
 use Rattle.transfer.specs.Transfer.{World, guess, result, broken, verdictOf, storedOf, startNumber}
 use Rattle.transfer.specs.Receive.{Answer}
 use Rattle.transfer.specs.Fit.{fits}
 use Rattle.transfer.specs.Calls.{Call, runBy, begun, answersOf, after}
-use Rattle.transfer.specs.Block.{Block, placeOf, sizeOf, placed, bytesIn}
-use Rattle.transfer.specs.Tally.{Tally, blocksOf, countsOf, known, claimed, endedIn, empty, callOf}
+use Rattle.transfer.specs.Block.{Block, placeOf, sizeOf, claimsOf, placed, bytesIn}
+use Rattle.transfer.specs.Tally.{Tally, blocksOf, countsOf, known, endedIn, empty, streamAt, callOf}
+use Rattle.transfer.specs.View.{view}
 
 -- the world w is what an accepted start leaves, with a file and a ledger of R pairs that holds these ranges
 pub data Begun : World → List ℕ → ℕ → Pairs → Type 0 where
@@ -36,10 +36,24 @@ abbrev pub Has : ℕ → ℕ → List Block → Type 0
 Has p v [] = ⊥
 Has p v (x ∷ xs) = ((i : ℕ) × (i < length (x .body)) × (p ≡ placeOf x + i) × (v ≡ getD (x .body) i 0)) ⊎ Has p v xs
 
--- each of the blocks is whole and stands in the file
+-- each of the blocks is whole, and its payload is that part of the file
 abbrev pub Stand : List ℕ → List Block → Type 0
 Stand file [] = Unit
-Stand file (x ∷ xs) = (length (x .body) ≡ sizeOf x) × ((i : ℕ) → i < sizeOf x → getD file (placeOf x + i) 0 ≡ getD (x .body) i 0) × Stand file xs
+Stand file (x ∷ xs) = (length (x .body) ≡ sizeOf x) × (take (sizeOf x) (drop (placeOf x) file) ≡ x .body) × Stand file xs
+
+-- one of the blocks claims the place p, arrived or not
+abbrev pub Claims : ℕ → List Block → Type 0
+Claims p [] = ⊥
+Claims p (x ∷ xs) = ((placeOf x ≤ p) × (p < placeOf x + sizeOf x)) ⊎ Claims p xs
+
+-- the ledger of R pairs with what these blocks claim and what was claimed before
+pub record LedgerIs (R : ℕ) (before : Pairs) (ledger : List ℕ) (xs : List Block) : Type 0 where
+  pub is : ledger ≡ lent R (claimsOf xs before)
+  -- it has 2R entries, obeys the rule and holds exactly the claimed places; no other does
+  pub entries : length ledger ≡ 2 * R
+  pub rule : obeys ledger ≡ true
+  pub places : (p : ℕ) → Holds p ledger ↔ (Claims p xs ⊎ (holds p before ≡ 1))
+  pub only : (m : List ℕ) → length m ≡ 2 * R → obeys m ≡ true → ((p : ℕ) → Holds p m ↔ (Claims p xs ⊎ (holds p before ≡ 1))) → m ≡ ledger
 
 -- w is the world after the list, t its tally
 pub record AfterList (R : ℕ) (before : Pairs) (file : List ℕ) (w : World) (t : Tally) : Type 0 where
@@ -60,12 +74,19 @@ pub record AfterList (R : ℕ) (before : Pairs) (file : List ℕ) (w : World) (t
   -- the fault's number and channel, the count and the ledger are the tally's
   pub fault-is : (w .t .fault ≡ t .fault) × (w .t .on ≡ t .on)
   pub count-is : w .t .count ≡ known (t .streams)
-  pub ledger-is : w .lent .claimed ≡ lent R (claimed before (t .streams))
-  pub ledger-obeys : obeys (w .lent .claimed) ≡ true
+  pub ledger-is : LedgerIs R before (w .lent .claimed) (blocksOf (t .streams))
+  -- each channel's state is that of its bytes; after a fault in its header nothing is held of that
+  pub channels-are : (c : ℕ) → c < channelCount → stateAt (w .t) c ≡ view (streamAt t c)
   -- from RESULT on every accepted payload stands whole in the file
   pub stands : Complete t → Stand (w .lent .file) (blocksOf (t .streams))
   -- transfer, file and ledger fit
   pub fits-still : fits w ≡ true
+
+pub record Unchanged (v w : World) : Type 0 where
+  pub verdict : verdictOf w ≡ verdictOf v
+  pub file : w .lent .file ≡ v .lent .file
+  pub ledger : w .lent .claimed ≡ v .lent .claimed
+  pub bytes : storedOf w ≡ storedOf v
 
 pub record EveryList : Type 0 where
   pub answers-are : (w : World) (file : List ℕ) (R : ℕ) (before : Pairs) → Begun w file R before → (ks : List Call) → answersOf w ks ≡ tallyAnswers (length file) R before ks
@@ -76,3 +97,6 @@ pub record EveryList : Type 0 where
       → Has p v (blocksOf (tallyOf (length file) R before ks .streams)) → Has p v (blocksOf (tallyOf (length file) R before (ks ++ more) .streams))
   pub counted : (w : World) (file : List ℕ) (R : ℕ) (before : Pairs) → Begun w file R before → (ks more : List Call)
       → storedOf (after w ks) ≤ storedOf (after w (ks ++ more))
+  -- from RESULT on no receive call changes verdict, file, ledger or byte count
+  pub final : (w : World) (file : List ℕ) (R : ℕ) (before : Pairs) → Begun w file R before → (ks : List Call) → Complete (tallyOf (length file) R before ks) → (more : List Call)
+      → Unchanged (after w ks) (after w (ks ++ more))

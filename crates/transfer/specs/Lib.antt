@@ -10,6 +10,7 @@ pub mod Block
 pub mod Tally
 pub mod View
 pub mod AfterList
+pub mod EachCall
 pub mod Start
 pub mod Judgement
 pub mod Cutting
