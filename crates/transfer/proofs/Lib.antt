@@ -28,3 +28,7 @@ pub mod Ledgers
 pub mod Along
 pub mod AfterLists
 pub mod EachCalls
+pub mod Taken
+pub mod Lived
+pub mod NoneLeftOut
+pub mod Examples

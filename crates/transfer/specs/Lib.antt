@@ -14,3 +14,7 @@ pub mod EachCall
 pub mod Start
 pub mod Judgement
 pub mod Cutting
+pub mod Fitting
+pub mod Sending
+pub mod Arrivals
+pub mod Example

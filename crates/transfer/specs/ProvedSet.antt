@@ -37,19 +37,19 @@ AllHold [] = Unit {0}
 AllHold (k ∷ ks) = Holds k × AllHold ks
 
 -- "plai" and "d123"
-abbrev plai : List ℕ
+abbrev pub plai : List ℕ
 plai = 112 ∷ 108 ∷ 97 ∷ 105 ∷ []
 
-abbrev d123 : List ℕ
+abbrev pub d123 : List ℕ
 d123 = 100 ∷ 49 ∷ 50 ∷ 51 ∷ []
 
-abbrev first : Call
+abbrev pub first : Call
 first = receive 0 (bytesOf 0 4 0 ++ plai)
 
-abbrev second : Call
+abbrev pub second : Call
 second = receive 1 (bytesOf 8 4 4 ++ d123)
 
-abbrev third : Call
+abbrev pub third : Call
 third = receive 0 (bytesOf 72 0 2)
 
 -- a case that ends in a fault, or goes on
@@ -78,6 +78,9 @@ cases =
     ∷ breaks 8 1 (receive 0 (bytesOf 0 4 0) ∷ receive 1 (bytesOf 0 2 3) ∷ []) (took 17 ∷ took 17 ∷ []) 17 1 0 (0 ∷ 4 ∷ [])
     ∷ goesOn 8 1 (receive 0 (bytesOf 0 4 0) ∷ receive 1 (bytesOf 0 2 4) ∷ []) (took 17 ∷ took 17 ∷ []) guess 0 (0 ∷ 6 ∷ [])
     ∷ breaks 8 1 (receive 0 (bytesOf 0 4 0) ∷ receive 1 (bytesOf 0 2 6) ∷ []) (took 17 ∷ took 17 ∷ []) 18 1 0 (0 ∷ 4 ∷ [])
+    -- past F and sharing bytes: 16; sharing bytes where pairs are lacking: 17
+    ∷ breaks 8 1 (receive 0 (bytesOf 0 4 0) ∷ receive 1 (bytesOf 0 6 3) ∷ []) (took 17 ∷ took 17 ∷ []) 16 1 0 (0 ∷ 4 ∷ [])
+    ∷ breaks 8 2 (receive 0 (bytesOf 0 2 0) ∷ receive 1 (bytesOf 0 2 6) ∷ receive 2 (bytesOf 0 3 4) ∷ []) (took 17 ∷ took 17 ∷ took 17 ∷ []) 17 2 0 (0 ∷ 2 ∷ 6 ∷ 8 ∷ [])
     -- descriptors
     ∷ breaks 8 1 (receive 0 (bytesOf 17 0 0) ∷ []) (took 17 ∷ []) 11 0 0 (0 ∷ 0 ∷ [])
     ∷ breaks 8 1 (receive 0 (bytesOf 144 0 0) ∷ []) (took 17 ∷ []) 12 0 0 (0 ∷ 0 ∷ [])

@@ -1,0 +1,26 @@
+-- No sending is left out: calls that are taken whole and end with RESULT are an arrival of a well-formed sending.
+use Prim.Native.Nat.{ℕ, _+_}
+use mathlib.Core.Path.{_≡_, sym, _∙_}
+use mathlib.Core.List.{List}
+use lib.ListN.{length}
+use Rattle.ledger.specs.Pairs.{Pairs, size}
+use Rattle.transfer.specs.Transfer.{World, result, verdictOf}
+use Rattle.transfer.specs.Calls.{Call, after}
+use Rattle.transfer.specs.AfterList.{Begun, tallyOf}
+use Rattle.transfer.specs.Sending.{Life, sentBlocks, nonEmpty, WellFormed, Arrival}
+use Rattle.transfer.specs.Arrivals.{AllTaken}
+use Rattle.transfer.proofs.Along.{along}
+use Rattle.transfer.proofs.AfterLists.{every-list}
+use Rattle.transfer.proofs.Taken.{pieces-taken}
+use Rattle.transfer.proofs.Lived.{lived, lived-bytes, lived-well}
+
+pub only-well-formed : (w : World) (file : List ℕ) (R : ℕ) (before : Pairs) → Begun w file R before → (ks : List Call) → AllTaken w ks → verdictOf (after w ks) ≡ result
+    → (s : List Life) × Arrival s ks × WellFormed (length file) (nonEmpty (sentBlocks s) + size before) before s
+only-well-formed w file R before b ks whole v =
+    let a = along w file R before b ks in
+    let t = tallyOf (length file) R before ks in
+    let c = every-list .after-list w file R before b ks .result-is .0 v in (
+      lived (length file) R before (a .ruled) t (a .kept) (c .0) (c .1),
+      (λ n. pieces-taken w file R before b ks whole n ∙ sym (lived-bytes (length file) R before (a .ruled) t (a .kept) (c .0) (c .1) n)),
+      lived-well (length file) R before (a .ruled) t (a .kept) (c .0) (c .1),
+    )
