@@ -3,4 +3,5 @@ pub mod Fields
 mod Placed
 pub mod RoundTrips
 pub mod Tables
+pub mod Weighed
 pub mod ProvedSets

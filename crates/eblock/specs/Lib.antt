@@ -1,5 +1,6 @@
 pub mod Descriptor
 pub mod Header
 pub mod Table
+pub mod Weights
 pub mod RoundTrip
 pub mod ProvedSet
