@@ -34,9 +34,19 @@ judged r s e ps = cond (shares s e ps) Shares (cond (ltb r (size (join s e ps)))
 
 -- ---- what the code reads, for any list and any spot
 
+-- where the search for the place of a range that starts at s ends. Callers know the law `place-is` alone, so a faster search may change
+-- this definition for lists that break the rule.
+unfoldable pub placeIn : ℕ → List ℕ → ℕ
+placeIn s ledger = below s (pairsOf ledger)
+
 -- the first pair at k or behind it that is unused or starts above e
 unfoldable pub pastFrom : ℕ → ℕ → List ℕ → ℕ
 pastFrom e k ledger = k + upTo e (pairsOf (drop (2 * k) ledger))
+
+unfoldable pub spotIn : ℕ → ℕ → List ℕ → Spot
+spotIn s e ledger =
+    let at = placeIn s ledger in
+    record { at = at; past = pastFrom e at ledger }
 
 -- one of the first n pairs of a list shares a place with the range from s to e
 unfoldable pub sharesIn : ℕ → ℕ → ℕ → List ℕ → Bool
@@ -46,6 +56,12 @@ sharesIn s e (suc n) l = (ltb s (getD l 1 0) && ltb (getD l 0 0) e) || sharesIn 
 -- there is no pair to become one with, and the last pair is used
 unfoldable pub isFull : Spot → List ℕ → Bool
 isFull spot ledger = eqb (spot .at) (spot .past) && (eqb (roomOf ledger) 0 || ltb 0 (getD ledger (2 * roomOf ledger - 1) 0))
+
+-- `judged` by what is read
+unfoldable pub judgedIn : ℕ → ℕ → List ℕ → Room
+judgedIn s e ledger =
+    let spot = spotIn s e ledger in
+    cond (sharesIn s e (spot .past - spot .at) (drop (2 * spot .at) ledger)) Shares (cond (isFull spot ledger) Full (At spot))
 
 -- ---- the change, as lists
 

@@ -1,16 +1,13 @@
 // Claiming a range in a ledger, in place: first the judgement, which only reads, then the change, which cannot fail.
-//
-// What a ledger that breaks its rule is answered is open wherever a contract here asks that it obeys: such a ledger has no order to
-// search by, and each entry that is lent one refuses it before it comes here.
 use crate::rule;
 use crate::shift;
 ghost use mathlib.Core.Path.{_≡_};
-ghost use mathlib.Core.Bool.{true, _&&_};
+ghost use mathlib.Core.Bool.{_&&_};
 ghost use lib.Dec.{ltb};
 ghost use Prim.Native.Nat.{_+_, _*_, _-_, _≤_, _<_, min, max};
-ghost use lib.ListN.{length, getD, set, drop};
-ghost use Rattle.ledger.specs.Ledger.{obeys, pairsOf, roomOf};
-ghost use Rattle.ledger.specs.Claim.{below, pastFrom, sharesIn, isFull, spotOf, judged, closed, putOf};
+ghost use lib.ListN.{getD, set, drop};
+ghost use Rattle.ledger.specs.Ledger.{roomOf};
+ghost use Rattle.ledger.specs.Claim.{placeIn, pastFrom, spotIn, sharesIn, isFull, judgedIn, closed, putOf};
 
 // Where a range goes: the pairs that it becomes one with stand from `at` up to `past`, counted in pairs.
 pub struct Spot {
@@ -27,7 +24,7 @@ pub enum Room {
 
 // The place for a range: the number of used pairs that end below its start.
 fn place(ledger: &[u64], start: u64) -> usize
-    ensures { λ r. ⌜ (r ≤ roomOf (now (ledger .entry))) × (obeys (now (ledger .entry)) ≡ true → r ≡ below start (pairsOf (now (ledger .entry)))) ⌝ }
+    ensures { λ r. ⌜ (r ≤ roomOf (now (ledger .entry))) × (r ≡ placeIn start (now (ledger .entry))) ⌝ }
 {
     let room = ledger.len() / 2;
     let mut k = 0;
@@ -65,7 +62,7 @@ fn reach(ledger: &[u64], at: usize, end: u64) -> usize
 
 // Where the range from start to end goes.
 pub(crate) fn locate(ledger: &[u64], start: u64, end: u64) -> Spot
-    ensures { λ r. ⌜ (r .at ≤ r .past) × (r .past ≤ roomOf (now (ledger .entry))) × (obeys (now (ledger .entry)) ≡ true → start < end → r ≡ spotOf start end (pairsOf (now (ledger .entry)))) ⌝ }
+    ensures { λ r. ⌜ (r .at ≤ r .past) × (r .past ≤ roomOf (now (ledger .entry))) × (r ≡ spotIn start end (now (ledger .entry))) ⌝ }
 {
     let at = place(ledger, start);
     let past = reach(ledger, at, end);
@@ -111,9 +108,9 @@ pub(crate) fn full(ledger: &[u64], spot: Spot) -> bool
     0 < ledger[2 * room - 1]
 }
 
-// Whether the range from start to end can be claimed. Open for an empty range and an odd length too: no claim is made of either.
+// Whether the range from start to end can be claimed.
 pub fn judge(ledger: &[u64], start: u64, end: u64) -> Room
-    ensures { λ r. ⌜ (obeys (now (ledger .entry)) ≡ true → start < end → 2 * roomOf (now (ledger .entry)) ≡ length (now (ledger .entry)) → r ≡ judged (roomOf (now (ledger .entry))) start end (pairsOf (now (ledger .entry)))) ⌝ }
+    ensures { λ r. ⌜ r ≡ judgedIn start end (now (ledger .entry)) ⌝ }
 {
     let spot = locate(ledger, start, end);
     let at = spot.at;

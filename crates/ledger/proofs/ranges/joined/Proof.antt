@@ -9,7 +9,7 @@ use Rattle.ledger.specs.Ledger.{pairsOf, roomOf}
 use Rattle.ledger.specs.Claim.{isFull, putOf}
 use Rattle.ledger.specs.RangeText.{fits, joinedTo}
 use Rattle.ledger.proofs.Answered.{ends-fit}
-use Rattle.ledger.proofs.Claims.{full-is, put-is}
+use Rattle.ledger.proofs.Claims.{spot-is, full-is, put-is}
 use Rattle.ledger.proofs.ranges.joined.Statement.{statement}
 use Rattle.ledger.proofs.ranges.joined.Tie as tie
 
@@ -20,7 +20,7 @@ filled c =
     let st = k .before .before .before in
     let x = st .args in
     let l = x .ledger .now in
-    c .full .ensures ∙ ap (λ z. isFull z l) (k .locate .ensures .2 (st .pre .1) (st .pre .2)) ∙ full-is (roomOf l) l (st .pre .1) (omega arith) (x .start) (x .end) (st .pre .2)
+    c .full .ensures ∙ ap (λ z. isFull z l) (k .locate .ensures .2 ∙ spot-is (x .start) (x .end) l (st .pre .1) (st .pre .2)) ∙ full-is (roomOf l) l (st .pre .1) (omega arith) (x .start) (x .end) (st .pre .2)
 
 locate-requires : tie.Need-locate-requires
 locate-requires c κs = search needs
@@ -59,7 +59,7 @@ returns-2 c =
       rw e,
       rw e
           (p .put .ensures
-          ∙ ap (λ z. putOf z (x .start) (x .end) l) (k .locate .ensures .2 (st .pre .1) (st .pre .2))
+          ∙ ap (λ z. putOf z (x .start) (x .end) l) (k .locate .ensures .2 ∙ spot-is (x .start) (x .end) l (st .pre .1) (st .pre .2))
           ∙ put-is (roomOf l) l (st .pre .1) (omega arith) (x .start) (x .end) (st .pre .2) b g),
     )
 
