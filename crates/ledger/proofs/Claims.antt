@@ -1,16 +1,16 @@
 -- A range claimed in a ledger that obeys its rule: what the code reads there and what it leaves are what the pairs say.
 use Prim.Native.Nat.{ℕ, suc, _+_, _*_, _-_, _≤_, _<_, min, max}
 use mathlib.Core.Path.{_≡_, refl, sym, ap, _∙_}
-use mathlib.Core.Bool.{true, _&&_, _||_}
+use mathlib.Core.Bool.{true, _&&_, _||_, not}
 use mathlib.Core.List.{List}
 use native.Mathlib.Omega.{arith}
 use native.Mathlib.Decide.{decLt, ℕ-discrete}
-use borrow.Author.Tests.{lt-ltb, le-ltb, eq-eqb, ne-eqb}
+use borrow.Author.Tests.{lt-ltb, le-ltb, ltb-false, eq-eqb, ne-eqb, not-true}
 use lib.Dec.{ltb, eqb}
 use lib.ListN.{length, getD, set, drop, length-drop}
 use Rattle.ledger.specs.Pairs.{pair, size, Ruled, join, shares, endsBy}
 use Rattle.ledger.specs.Ledger.{obeys, pairsOf, lent, roomOf}
-use Rattle.ledger.specs.Claim.{below, upTo, spotOf, judged, placeIn, pastFrom, spotIn, sharesIn, isFull, judgedIn, inserted, closed, largest, putOf}
+use Rattle.ledger.specs.Claim.{below, upTo, spotOf, judged, placeIn, pastFrom, spotIn, sharesIn, isFull, judgedIn, inserted, closed, largest, putOf, joinsIn, joinedIn}
 use Rattle.ledger.proofs.Lents.{rule-ruled, lent-pairsOf, size-pairsOf}
 use Rattle.ledger.proofs.Spots.{rest, splice, startAt, endAt, begun, ended, reached-some, join-is, upTo-le, below-le, upTo-rest, upTo-all, endAt-used, endAt-unused, shares-spot}
 use Rattle.ledger.proofs.Flats.{size-rest, size-splice, lent-start, lent-end, pairsOf-drop}
@@ -113,6 +113,10 @@ module _ (r : ℕ) (l : List ℕ) (o : obeys l ≡ true) (n : length l ≡ 2 * r
     unfolding judgedIn judged
     judged-is = rw (spot-is s e l o h, full-is) (unfold spotOf in rw shares-is)
 
+    pub joins-is : joinsIn s e l ≡ not (ltb r (size (join s e (pairsOf l))))
+    unfolding joinsIn
+    joins-is = rw (spot-is s e l o h, full-is)
+
     -- ---- the change
 
     -- the first unused pair is behind the used ones
@@ -175,3 +179,9 @@ module _ (r : ℕ) (l : List ℕ) (o : obeys l ≡ true) (n : length l ≡ 2 * r
           go : Dec (below s (pairsOf l) ≡ upTo e (pairsOf l)) → putOf (spotOf s e (pairsOf l)) s e l ≡ lent r (join s e (pairsOf l))
           go (yes x) = put-own x
           go (no x) = put-wide x
+
+    pub joined-is : endsBy largest (pairsOf l) ≡ true → joinsIn s e l ≡ true → joinedIn s e l ≡ lent r (join s e (pairsOf l))
+    unfolding joinedIn
+    joined-is b j =
+        let g = ltb-false r (size (join s e (pairsOf l))) (not-true (ltb r (size (join s e (pairsOf l)))) (sym joins-is ∙ j)) in
+        rw (j, spot-is s e l o h) (put-is b g)

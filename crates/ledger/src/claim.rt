@@ -7,7 +7,7 @@ ghost use lib.Dec.{ltb};
 ghost use Prim.Native.Nat.{_+_, _*_, _-_, _≤_, _<_, min, max};
 ghost use lib.ListN.{getD, set, drop};
 ghost use Rattle.ledger.specs.Ledger.{roomOf};
-ghost use Rattle.ledger.specs.Claim.{placeIn, pastFrom, spotIn, sharesIn, isFull, judgedIn, closed, putOf};
+ghost use Rattle.ledger.specs.Claim.{placeIn, pastFrom, spotIn, sharesIn, isFull, judgedIn, closed, putOf, joinsIn, joinedIn};
 
 // Where a range goes: the pairs that it becomes one with stand from `at` up to `past`, counted in pairs.
 pub struct Spot {
@@ -61,7 +61,7 @@ fn reach(ledger: &[u64], at: usize, end: u64) -> usize
 }
 
 // Where the range from start to end goes.
-pub(crate) fn locate(ledger: &[u64], start: u64, end: u64) -> Spot
+fn locate(ledger: &[u64], start: u64, end: u64) -> Spot
     ensures { λ r. ⌜ (r .at ≤ r .past) × (r .past ≤ roomOf (now (ledger .entry))) × (r ≡ spotIn start end (now (ledger .entry))) ⌝ }
 {
     let at = place(ledger, start);
@@ -95,7 +95,7 @@ fn overlaps(ledger: &[u64], at: usize, past: usize, start: u64, end: u64) -> boo
 }
 
 // Whether the ledger lacks a pair for a range that goes there.
-pub(crate) fn full(ledger: &[u64], spot: Spot) -> bool
+fn full(ledger: &[u64], spot: Spot) -> bool
     ensures { λ r. ⌜ r ≡ isFull spot (now (ledger .entry)) ⌝ }
 {
     if spot.at != spot.past {
@@ -170,4 +170,16 @@ pub fn put(ledger: &mut [u64], spot: Spot, start: u64, end: u64)
         return;
     }
     shift::insert(ledger, 2 * at, 2 * used, start, end);
+}
+
+// Joins the range from start to end to the ledger, whatever it shares, or answers false and leaves it, where it has no pair for that.
+pub fn join(ledger: &mut [u64], start: u64, end: u64) -> bool
+    ensures { λ r. ⌜ (r ≡ joinsIn start end (now (ledger .entry))) × (now (ledger .exit) ≡ joinedIn start end (now (ledger .entry))) ⌝ }
+{
+    let spot = locate(ledger, start, end);
+    if full(ledger, spot) {
+        return false;
+    }
+    put(ledger, spot, start, end);
+    true
 }
