@@ -1,9 +1,9 @@
 // Examples of document 01 that are run: a line for each, held against the file `stdout`. Bytes are printed in hexadecimal, none as '-'.
 use control::line;
 use control::line::Line;
-use ledger::answer::Loaded;
-use ledger::answer::Written;
-use ledger::saved;
+use forms::answer::Loaded;
+use forms::answer::Written;
+use forms::saved;
 use libc::STDOUT_FILENO;
 
 fn print_bytes(bytes: &[u8]) {

@@ -1,17 +1,16 @@
 -- A range claimed in a ledger that obeys its rule: what the code reads there and what it leaves are what the pairs say.
 use Prim.Native.Nat.{ℕ, suc, _+_, _*_, _-_, _≤_, _<_, min, max}
-use mathlib.Core.Path.{_≡_, sym, ap, _∙_}
-use mathlib.Core.Bool.{true, _&&_, _||_}
+use mathlib.Core.Path.{_≡_, refl, sym, ap, _∙_}
+use mathlib.Core.Bool.{true, _&&_, _||_, not}
 use mathlib.Core.List.{List}
 use native.Mathlib.Omega.{arith}
 use native.Mathlib.Decide.{decLt, ℕ-discrete}
-use borrow.Author.Tests.{lt-ltb, le-ltb, eq-eqb, ne-eqb}
+use borrow.Author.Tests.{lt-ltb, le-ltb, ltb-false, eq-eqb, ne-eqb, not-true}
 use lib.Dec.{ltb, eqb}
 use lib.ListN.{length, getD, set, drop, length-drop}
 use Rattle.ledger.specs.Pairs.{pair, size, Ruled, join, shares, endsBy}
 use Rattle.ledger.specs.Ledger.{obeys, pairsOf, lent, roomOf}
-use Rattle.ledger.specs.Claim.{below, upTo, pastFrom, sharesIn, isFull, spotOf, inserted, closed, largest, putOf}
-use Rattle.ledger.specs.declared.claim.Spot.{Spot}
+use Rattle.ledger.specs.Claim.{below, upTo, spotOf, judged, placeIn, pastFrom, spotIn, sharesIn, isFull, judgedIn, inserted, closed, largest, putOf, joinsIn, joinedIn}
 use Rattle.ledger.proofs.Lents.{rule-ruled, lent-pairsOf, size-pairsOf}
 use Rattle.ledger.proofs.Spots.{rest, splice, startAt, endAt, begun, ended, reached-some, join-is, upTo-le, below-le, upTo-rest, upTo-all, endAt-used, endAt-unused, shares-spot}
 use Rattle.ledger.proofs.Flats.{size-rest, size-splice, lent-start, lent-end, pairsOf-drop}
@@ -28,16 +27,19 @@ unfolding pastFrom
 past-room e k l h =
     omega (arith, upTo-le e (pairsOf (drop (2 * k) l)), size-pairsOf (drop (2 * k) l), length-drop (2 * k) l)
 
-pub past-is : (s e : ℕ) (l : List ℕ) → obeys l ≡ true → s < e → pastFrom e (below s (pairsOf l)) l ≡ upTo e (pairsOf l)
+past-is : (s e : ℕ) (l : List ℕ) → obeys l ≡ true → s < e → pastFrom e (below s (pairsOf l)) l ≡ upTo e (pairsOf l)
 unfolding pastFrom obeys
 past-is s e l o h =
     let b = below-le s e 0 (pairsOf l) h (rule-ruled 0 l o) in
     rw (pairsOf-drop (below s (pairsOf l)) l (omega (arith, upTo-le e (pairsOf l)))) (upTo-rest e (below s (pairsOf l)) (pairsOf l) b)
 
-pub spot-is : (at past s e : ℕ) (l : List ℕ) → obeys l ≡ true → s < e → at ≡ below s (pairsOf l) → past ≡ pastFrom e at l
-    → _≡_ {A = Spot} (record { at = at; past = past }) (spotOf s e (pairsOf l))
-unfolding spotOf
-spot-is at past s e l o h a p = rw (p, a, past-is s e l o h)
+pub place-is : (s : ℕ) (l : List ℕ) → obeys l ≡ true → placeIn s l ≡ below s (pairsOf l)
+unfolding placeIn
+place-is s l o = refl
+
+pub spot-is : (s e : ℕ) (l : List ℕ) → obeys l ≡ true → s < e → spotIn s e l ≡ spotOf s e (pairsOf l)
+unfolding spotIn spotOf
+spot-is s e l o h = rw (place-is s l o, past-is s e l o h)
 
 -- ---- the judgement
 
@@ -61,13 +63,13 @@ module _ (r : ℕ) (l : List ℕ) (o : obeys l ≡ true) (n : length l ≡ 2 * r
     at-past : below s (pairsOf l) ≤ upTo e (pairsOf l)
     at-past = below-le s e 0 (pairsOf l) h ruled
 
-    pub shares-is : sharesIn s e (upTo e (pairsOf l) - below s (pairsOf l)) (drop (2 * below s (pairsOf l)) l) ≡ shares s e (pairsOf l)
+    shares-is : sharesIn s e (upTo e (pairsOf l) - below s (pairsOf l)) (drop (2 * below s (pairsOf l)) l) ≡ shares s e (pairsOf l)
     shares-is =
         ap (λ z. sharesIn s e (upTo e (pairsOf l) - below s (pairsOf l)) (drop (2 * below s (pairsOf l)) z)) form
         ∙ shares-spot s e r 0 (pairsOf l) h fits ruled
 
     -- how many pairs it needs
-    pub size-joined : size (join s e (pairsOf l)) ≡ below s (pairsOf l) + suc (size (pairsOf l) - upTo e (pairsOf l))
+    size-joined : size (join s e (pairsOf l)) ≡ below s (pairsOf l) + suc (size (pairsOf l) - upTo e (pairsOf l))
     unfolding size
     size-joined =
         let ps = pairsOf l in
@@ -106,6 +108,14 @@ module _ (r : ℕ) (l : List ℕ) (o : obeys l ≡ true) (n : length l ≡ 2 * r
               lt-ltb 0 (endAt (r - 1) (pairsOf l)) u,
             )
             (sym (lt-ltb r (size (join s e (pairsOf l))) (omega (arith, size-joined, upTo-le e (pairsOf l)))))
+
+    pub judged-is : judgedIn s e l ≡ judged r s e (pairsOf l)
+    unfolding judgedIn judged
+    judged-is = rw (spot-is s e l o h, full-is) (unfold spotOf in rw shares-is)
+
+    pub joins-is : joinsIn s e l ≡ not (ltb r (size (join s e (pairsOf l))))
+    unfolding joinsIn
+    joins-is = rw (spot-is s e l o h, full-is)
 
     -- ---- the change
 
@@ -169,3 +179,9 @@ module _ (r : ℕ) (l : List ℕ) (o : obeys l ≡ true) (n : length l ≡ 2 * r
           go : Dec (below s (pairsOf l) ≡ upTo e (pairsOf l)) → putOf (spotOf s e (pairsOf l)) s e l ≡ lent r (join s e (pairsOf l))
           go (yes x) = put-own x
           go (no x) = put-wide x
+
+    pub joined-is : endsBy largest (pairsOf l) ≡ true → joinsIn s e l ≡ true → joinedIn s e l ≡ lent r (join s e (pairsOf l))
+    unfolding joinedIn
+    joined-is b j =
+        let g = ltb-false r (size (join s e (pairsOf l))) (not-true (ltb r (size (join s e (pairsOf l)))) (sym joins-is ∙ j)) in
+        rw (j, spot-is s e l o h) (put-is b g)

@@ -1,11 +1,11 @@
 -- A pair of entries at a place of the lent list: what the rule, the used pairs and the zeros say there.
 use Prim.Native.Nat.{ℕ, suc, _+_, _*_, _-_, _≤_, _<_}
 use mathlib.Core.Path.{_≡_, refl, sym}
-use mathlib.Core.Bool.{Bool, true, false, cond, _&&_, _||_, and-true, and-false}
+use mathlib.Core.Bool.{Bool, true, false, cond, _&&_, _||_, and-true, and-false, and-assoc, and-eq-true-iff}
 use mathlib.Core.List.{List, [], _∷_}
 use native.Mathlib.Omega.{arith}
 use native.Mathlib.Numerals.{add-one, add-two}
-use borrow.Author.Tests.{lt-ltb, le-ltb, le-leb, lt-leb, eq-eqb, ne-eqb}
+use borrow.Author.Tests.{le-leb, lt-leb, ltb-true, eq-eqb, ne-eqb}
 use lib.Dec.{leb, ltb, eqb}
 use lib.ListN.{length, getD, drop, length-drop}
 use lib.Seq.{drop-cons, drop-drop, getD-drop}
@@ -44,12 +44,15 @@ pairs-over l i h = go (drop i l) (omega (arith, length-drop i l))
 abbrev pub lowest : ℕ → ℕ
 lowest end = cond (eqb end 0) 0 (suc end)
 
-pub lowest-follows : (end a : ℕ) → leb (lowest end) a ≡ follows end a
-lowest-follows end a = go (eqb end 0) refl
+pub lowest-follows : (end a b : ℕ) → (leb (lowest end) a && ltb a b) ≡ follows end a b
+lowest-follows end a b = go (eqb end 0) refl
   where
-    go : (t : Bool) → eqb end 0 ≡ t → leb (lowest end) a ≡ follows end a
-    go true e = rw e (le-leb 0 a (omega arith))
+    go : (t : Bool) → eqb end 0 ≡ t → (leb (lowest end) a && ltb a b) ≡ follows end a b
+    go true e = rw (e, le-leb 0 a (omega arith))
     go false e = rw e
+
+pub follows-less : (end a b : ℕ) → follows end a b ≡ true → a < b
+follows-less end a b h = ltb-true a b (and-eq-true-iff (eqb end 0 || ltb end a) (ltb a b) .0 h .1)
 
 unfoldable pub sound : ℕ → ℕ → List ℕ → Bool
 sound lo f l = rule lo l && endsBy f (pairsOf l)
@@ -61,29 +64,31 @@ module _ (lo f : ℕ) (l : List ℕ) (i : ℕ) (h : i + 1 < length l) where
       rw (pairs-unused l i h e, two-of l i h, eq-eqb (getD l (i + 1) 0) 0 e) (and-true (eqb (getD l i 0) 0 && zeros (drop (i + 2) l)))
 
   module _ (n : getD l (i + 1) 0 ≡ 0 → ⊥) where
-    pub sound-low : leb lo (getD l i 0) ≡ false → sound lo f (drop i l) ≡ false
+    pub sound-not : (leb lo (getD l i 0) && ltb (getD l i 0) (getD l (i + 1) 0)) ≡ false → sound lo f (drop i l) ≡ false
     unfolding sound rule
-    sound-low e = rw (pairs-used l i h n, two-of l i h, ne-eqb (getD l (i + 1) 0) 0 n, e)
-
-    pub sound-empty : getD l (i + 1) 0 ≤ getD l i 0 → sound lo f (drop i l) ≡ false
-    unfolding sound rule
-    sound-empty e =
-        rw (pairs-used l i h n, two-of l i h, ne-eqb (getD l (i + 1) 0) 0 n, le-ltb (getD l i 0) (getD l (i + 1) 0) e, and-false (leb lo (getD l i 0)))
+    sound-not e =
+        rw (
+          pairs-used l i h n,
+          two-of l i h,
+          ne-eqb (getD l (i + 1) 0) 0 n,
+          ← and-assoc (leb lo (getD l i 0)) (ltb (getD l i 0) (getD l (i + 1) 0)) (rule (suc (getD l (i + 1) 0)) (drop (i + 2) l)),
+          e,
+        )
 
     pub sound-above : f < getD l (i + 1) 0 → sound lo f (drop i l) ≡ false
     unfolding sound endsBy
     sound-above e = rw (pairs-used l i h n, lt-leb (getD l (i + 1) 0) f e) (and-false (rule lo (drop i l)))
 
-    pub sound-on : leb lo (getD l i 0) ≡ true → getD l i 0 < getD l (i + 1) 0 → getD l (i + 1) 0 ≤ f
+    pub sound-on : (leb lo (getD l i 0) && ltb (getD l i 0) (getD l (i + 1) 0)) ≡ true → getD l (i + 1) 0 ≤ f
         → sound lo f (drop i l) ≡ sound (suc (getD l (i + 1) 0)) f (drop (i + 2) l)
     unfolding sound rule endsBy
-    sound-on e k g =
+    sound-on e g =
         rw (
           pairs-used l i h n,
           two-of l i h,
           ne-eqb (getD l (i + 1) 0) 0 n,
+          ← and-assoc (leb lo (getD l i 0)) (ltb (getD l i 0) (getD l (i + 1) 0)) (rule (suc (getD l (i + 1) 0)) (drop (i + 2) l)),
           e,
-          lt-ltb (getD l i 0) (getD l (i + 1) 0) k,
           le-leb (getD l (i + 1) 0) f g,
         )
 

@@ -1,12 +1,15 @@
--- The number of a ledger's entries, refused or not.
-use Prim.Native.Nat.{ℕ, _%_, _≤_}
+-- The number of a ledger's entries, refused or not, and how large they are.
+use Prim.Native.Nat.{ℕ, suc, _%_, _≤_, _<_}
 use mathlib.Core.Path.{_≡_, refl, sym}
-use mathlib.Core.Bool.{Bool, true, false, false≢true}
-use mathlib.Core.List.{List}
-use borrow.Author.Tests.{le-ltb, eq-eqb, eqb-true, ltb-false}
+use mathlib.Core.Bool.{Bool, true, false, cond, false≢true}
+use mathlib.Core.List.{List, [], _∷_}
+use native.Mathlib.Omega.{arith}
+use borrow.Author.Tests.{le-ltb, le-leb, eq-eqb, eqb-true, ltb-false}
 use lib.Dec.{ltb, eqb}
-use lib.ListN.{length}
-use Rattle.ledger.specs.Ledger.{entryLimit, lengthWrong}
+use lib.ListN.{length, getD}
+use Rattle.ledger.specs.Pairs.{none, pair, endsBy}
+use Rattle.ledger.specs.Ledger.{entryLimit, lengthWrong, pairsOf}
+use Rattle.ledger.specs.Claim.{largest}
 
 pub length-right : (l : List ℕ) → length l % 2 ≡ 0 → length l ≤ entryLimit → lengthWrong l ≡ false
 unfolding lengthWrong
@@ -20,3 +23,14 @@ length-fits l h = go (eqb (length l % 2) 0) (ltb entryLimit (length l)) refl ref
     go true false e g = (eqb-true (length l % 2) 0 e, ltb-false entryLimit (length l) g)
     go true true e g = absurd (false≢true (sym (rw (e, g) at h)))
     go false t e g = absurd (false≢true (sym (rw e at h)))
+
+-- no end is above the largest number of 64 bits, where each entry is one
+pub ends-fit : (l : List ℕ) → ((i : ℕ) → getD l i 0 < 18446744073709551616) → endsBy largest (pairsOf l) ≡ true
+unfolding endsBy pairsOf
+ends-fit [] h = refl
+ends-fit (a ∷ []) h = refl
+ends-fit (a ∷ b ∷ rest) h = go (eqb b 0) (ends-fit rest (λ i. h (suc (suc i))))
+  where
+    go : (t : Bool) → endsBy largest (pairsOf rest) ≡ true → endsBy largest (cond t none (pair a b (pairsOf rest))) ≡ true
+    go true i = refl
+    go false i = rw (le-leb b largest (omega (arith, h 1)), i)

@@ -3,7 +3,7 @@
 --     pairs that end below its start   those it shares a place with or touches   pairs that start above its end
 --     0 .. at                          at .. past                                past ..
 use Prim.Native.Nat.{ℕ, zero, suc, _+_, _*_, _-_, min, max}
-use mathlib.Core.Bool.{Bool, false, cond, _&&_, _||_}
+use mathlib.Core.Bool.{Bool, false, cond, _&&_, _||_, not}
 use mathlib.Core.List.{List, _∷_, _++_}
 use lib.Dec.{leb, ltb, eqb}
 use lib.ListN.{getD, set, take, drop, replicate}
@@ -32,11 +32,28 @@ spotOf s e ps = record { at = below s ps; past = upTo e ps }
 unfoldable pub judged : ℕ → ℕ → ℕ → Pairs → Room
 judged r s e ps = cond (shares s e ps) Shares (cond (ltb r (size (join s e ps))) Full (At (spotOf s e ps)))
 
+-- the fault of a header whose range is so judged, 0 where there is none
+unfoldable pub roomNumber : Room → ℕ
+roomNumber Shares = 17
+roomNumber Full = 18
+roomNumber (At spot) = 0
+
 -- ---- what the code reads, for any list and any spot
+
+-- where the search for the place of a range that starts at s ends. Callers know the law `place-is` alone, so a faster search may change
+-- this definition for lists that break the rule.
+unfoldable pub placeIn : ℕ → List ℕ → ℕ
+placeIn s ledger = below s (pairsOf ledger)
 
 -- the first pair at k or behind it that is unused or starts above e
 unfoldable pub pastFrom : ℕ → ℕ → List ℕ → ℕ
 pastFrom e k ledger = k + upTo e (pairsOf (drop (2 * k) ledger))
+
+-- the spot that the search finds
+unfoldable pub spotIn : ℕ → ℕ → List ℕ → Spot
+spotIn s e ledger =
+    let at = placeIn s ledger in
+    record { at = at; past = pastFrom e at ledger }
 
 -- one of the first n pairs of a list shares a place with the range from s to e
 unfoldable pub sharesIn : ℕ → ℕ → ℕ → List ℕ → Bool
@@ -46,6 +63,12 @@ sharesIn s e (suc n) l = (ltb s (getD l 1 0) && ltb (getD l 0 0) e) || sharesIn 
 -- there is no pair to become one with, and the last pair is used
 unfoldable pub isFull : Spot → List ℕ → Bool
 isFull spot ledger = eqb (spot .at) (spot .past) && (eqb (roomOf ledger) 0 || ltb 0 (getD ledger (2 * roomOf ledger - 1) 0))
+
+-- `judged` by what is read
+unfoldable pub judgedIn : ℕ → ℕ → List ℕ → Room
+judgedIn s e ledger =
+    let spot = spotIn s e ledger in
+    cond (sharesIn s e (spot .past - spot .at) (drop (2 * spot .at) ledger)) Shares (cond (isFull spot ledger) Full (At spot))
 
 -- ---- the change, as lists
 
@@ -75,3 +98,10 @@ putOf spot s e l =
     let wide = set (set l (2 * at) (min (getD l (2 * at) 0) s)) (2 * at + 1) (max (getD l (2 * past - 1) 0) e) in
     cond (ltb past at || ltb (roomOf l) past) l
     (cond (eqb at past) (cond (eqb used (roomOf l)) l (inserted l (2 * at) (2 * used) s e)) (closed wide (2 * at + 2) (2 * past) (2 * used)))
+
+-- a range from s to e joined to any list: whether there is a pair for it, and what the list is then
+unfoldable pub joinsIn : ℕ → ℕ → List ℕ → Bool
+joinsIn s e ledger = not (isFull (spotIn s e ledger) ledger)
+
+unfoldable pub joinedIn : ℕ → ℕ → List ℕ → List ℕ
+joinedIn s e ledger = cond (joinsIn s e ledger) (putOf (spotIn s e ledger) s e ledger) ledger

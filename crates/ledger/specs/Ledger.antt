@@ -30,9 +30,9 @@ rule lo (a ∷ b ∷ rest) =
     let behind = rule (suc b) rest in
     cond (eqb b 0) (eqb a 0 && zeros rest) (leb lo a && (ltb a b && behind))
 
--- a pair that starts at a may stand behind one that ends at `end`, 0 where there is none before it
-abbrev pub follows : ℕ → ℕ → Bool
-follows end a = eqb end 0 || ltb end a
+-- the pair (a, b) may stand behind one that ends at `end`, 0 where there is none before it
+abbrev pub follows : ℕ → ℕ → ℕ → Bool
+follows end a b = (eqb end 0 || ltb end a) && ltb a b
 
 unfoldable pub obeys : List ℕ → Bool
 obeys ledger = rule 0 ledger

@@ -2,10 +2,4 @@ pub mod Pairs
 pub mod Ledger
 pub mod Means
 pub mod Claim
-pub mod Answer
-pub mod RangeText
-pub mod RangeLists
-pub mod Numbers
-pub mod Saved
-pub mod SavedTrip
 pub mod ProvedSet

@@ -1,52 +1,30 @@
--- The proved set of ledgers: the starred examples of document 01, "Examples on each side", with others of range lists, as one statement over a list of cases.
-use Prim.Native.Nat.{ℕ, _*_}
+-- The proved set of claims: the starred examples of document 01, "Examples on each side", as one statement over a list of cases.
+use Prim.Native.Nat.{ℕ}
 use mathlib.Core.Path.{_≡_}
 use mathlib.Core.List.{List, [], _∷_}
-use lib.ListN.{replicate}
 use Rattle.ledger.specs.Pairs.{Pairs, none, pair, join}
 use Rattle.ledger.specs.Claim.{spotOf, judged}
-use Rattle.ledger.specs.RangeText.{readRanges, rangesLeft}
 use Rattle.ledger.specs.declared.claim.Room.the-variants.{Shares, At}
-use Rattle.ledger.specs.declared.answer.Loaded.the-variants.{Done, Refused}
 
 pub data Case : Type 0 where
   -- with these pairs claimed, the range from s to e shares a place
   shared : Pairs → ℕ → ℕ → Case
   -- with these pairs claimed in a ledger of r pairs, the range from s to e is accepted and gives these
   claimed : ℕ → Pairs → ℕ → ℕ → Pairs → Case
-  -- in a ledger of r pairs the text gives these entries
-  gives : ℕ → List ℕ → List ℕ → Case
-  -- in a ledger of r pairs the text is refused with this number
-  refused : ℕ → List ℕ → ℕ → Case
-
--- a lent ledger of r pairs is full of sevens, of which nothing stays
-abbrev pub sevens : ℕ → List ℕ
-sevens r = replicate (2 * r) 7
 
 abbrev pub Holds : Case → Type 0
 Holds (shared ps s e) = judged 1 s e ps ≡ Shares
 Holds (claimed r ps s e qs) = (judged r s e ps ≡ At (spotOf s e ps)) × (join s e ps ≡ qs)
-Holds (gives r text ledger) = (readRanges text (sevens r) ≡ Done) × (rangesLeft text (sevens r) ≡ ledger)
-Holds (refused r text k) = (readRanges text (sevens r) ≡ Refused k) × (rangesLeft text (sevens r) ≡ replicate (2 * r) 0)
 
 abbrev pub AllHold : List Case → Type 0
 AllHold [] = Unit {0}
 AllHold (c ∷ cs) = Holds c × AllHold cs
 
--- bytes 0 to 3 are claimed: 3 to 4 shares one, 4 to 5 joins them. Then the texts, in this order:
--- 0-29,30-89 · 60-89,0-59,5-5 · 9-8 · none · 0-0,1-1,2-2 · 0-1,5-6x · 0-1,5-6,x · 0-0,2-2,1-1
+-- bytes 0 to 3 are claimed: 3 to 4 shares one, 4 to 5 joins them
 abbrev pub starred : List Case
 starred =
     shared (pair 0 4 none) 3 5
     ∷ claimed 1 (pair 0 4 none) 4 6 (pair 0 6 none)
-    ∷ gives 1 (48 ∷ 45 ∷ 50 ∷ 57 ∷ 44 ∷ 51 ∷ 48 ∷ 45 ∷ 56 ∷ 57 ∷ []) (0 ∷ 90 ∷ [])
-    ∷ gives 1 (54 ∷ 48 ∷ 45 ∷ 56 ∷ 57 ∷ 44 ∷ 48 ∷ 45 ∷ 53 ∷ 57 ∷ 44 ∷ 53 ∷ 45 ∷ 53 ∷ []) (0 ∷ 90 ∷ [])
-    ∷ refused 1 (57 ∷ 45 ∷ 56 ∷ []) 51
-    ∷ refused 1 [] 51
-    ∷ gives 1 (48 ∷ 45 ∷ 48 ∷ 44 ∷ 49 ∷ 45 ∷ 49 ∷ 44 ∷ 50 ∷ 45 ∷ 50 ∷ []) (0 ∷ 3 ∷ [])
-    ∷ refused 1 (48 ∷ 45 ∷ 49 ∷ 44 ∷ 53 ∷ 45 ∷ 54 ∷ 120 ∷ []) 51
-    ∷ refused 1 (48 ∷ 45 ∷ 49 ∷ 44 ∷ 53 ∷ 45 ∷ 54 ∷ 44 ∷ 120 ∷ []) 52
-    ∷ refused 1 (48 ∷ 45 ∷ 48 ∷ 44 ∷ 50 ∷ 45 ∷ 50 ∷ 44 ∷ 49 ∷ 45 ∷ 49 ∷ []) 52
     ∷ []
 
 abbrev pub ProvedSet : Type 0

@@ -1,16 +1,13 @@
 // Claiming a range in a ledger, in place: first the judgement, which only reads, then the change, which cannot fail.
-//
-// What a ledger that breaks its rule is answered is open wherever a contract here asks that it obeys: such a ledger has no order to
-// search by, and each entry that is lent one refuses it before it comes here.
 use crate::rule;
 use crate::shift;
 ghost use mathlib.Core.Path.{_≡_};
-ghost use mathlib.Core.Bool.{true, _&&_};
+ghost use mathlib.Core.Bool.{_&&_};
 ghost use lib.Dec.{ltb};
 ghost use Prim.Native.Nat.{_+_, _*_, _-_, _≤_, _<_, min, max};
-ghost use lib.ListN.{length, getD, set, drop};
-ghost use Rattle.ledger.specs.Ledger.{obeys, pairsOf, roomOf};
-ghost use Rattle.ledger.specs.Claim.{below, pastFrom, sharesIn, isFull, spotOf, judged, closed, putOf};
+ghost use lib.ListN.{getD, set, drop};
+ghost use Rattle.ledger.specs.Ledger.{roomOf};
+ghost use Rattle.ledger.specs.Claim.{placeIn, pastFrom, spotIn, sharesIn, isFull, judgedIn, closed, putOf, joinsIn, joinedIn};
 
 // Where a range goes: the pairs that it becomes one with stand from `at` up to `past`, counted in pairs.
 pub struct Spot {
@@ -27,7 +24,7 @@ pub enum Room {
 
 // The place for a range: the number of used pairs that end below its start.
 fn place(ledger: &[u64], start: u64) -> usize
-    ensures { λ r. ⌜ (r ≤ roomOf (now (ledger .entry))) × (obeys (now (ledger .entry)) ≡ true → r ≡ below start (pairsOf (now (ledger .entry)))) ⌝ }
+    ensures { λ r. ⌜ (r ≤ roomOf (now (ledger .entry))) × (r ≡ placeIn start (now (ledger .entry))) ⌝ }
 {
     let room = ledger.len() / 2;
     let mut k = 0;
@@ -64,8 +61,8 @@ fn reach(ledger: &[u64], at: usize, end: u64) -> usize
 }
 
 // Where the range from start to end goes.
-pub(crate) fn locate(ledger: &[u64], start: u64, end: u64) -> Spot
-    ensures { λ r. ⌜ (r .at ≤ r .past) × (r .past ≤ roomOf (now (ledger .entry))) × (obeys (now (ledger .entry)) ≡ true → start < end → r ≡ spotOf start end (pairsOf (now (ledger .entry)))) ⌝ }
+fn locate(ledger: &[u64], start: u64, end: u64) -> Spot
+    ensures { λ r. ⌜ (r .at ≤ r .past) × (r .past ≤ roomOf (now (ledger .entry))) × (r ≡ spotIn start end (now (ledger .entry))) ⌝ }
 {
     let at = place(ledger, start);
     let past = reach(ledger, at, end);
@@ -98,7 +95,7 @@ fn overlaps(ledger: &[u64], at: usize, past: usize, start: u64, end: u64) -> boo
 }
 
 // Whether the ledger lacks a pair for a range that goes there.
-pub(crate) fn full(ledger: &[u64], spot: Spot) -> bool
+fn full(ledger: &[u64], spot: Spot) -> bool
     ensures { λ r. ⌜ r ≡ isFull spot (now (ledger .entry)) ⌝ }
 {
     if spot.at != spot.past {
@@ -111,9 +108,9 @@ pub(crate) fn full(ledger: &[u64], spot: Spot) -> bool
     0 < ledger[2 * room - 1]
 }
 
-// Whether the range from start to end can be claimed. Open for an empty range and an odd length too: no claim is made of either.
+// Whether the range from start to end can be claimed.
 pub fn judge(ledger: &[u64], start: u64, end: u64) -> Room
-    ensures { λ r. ⌜ (obeys (now (ledger .entry)) ≡ true → start < end → 2 * roomOf (now (ledger .entry)) ≡ length (now (ledger .entry)) → r ≡ judged (roomOf (now (ledger .entry))) start end (pairsOf (now (ledger .entry)))) ⌝ }
+    ensures { λ r. ⌜ r ≡ judgedIn start end (now (ledger .entry)) ⌝ }
 {
     let spot = locate(ledger, start, end);
     let at = spot.at;
@@ -173,4 +170,16 @@ pub fn put(ledger: &mut [u64], spot: Spot, start: u64, end: u64)
         return;
     }
     shift::insert(ledger, 2 * at, 2 * used, start, end);
+}
+
+// Joins the range from start to end to the ledger, whatever it shares, or answers false and leaves it, where it has no pair for that.
+pub fn join(ledger: &mut [u64], start: u64, end: u64) -> bool
+    ensures { λ r. ⌜ (r ≡ joinsIn start end (now (ledger .entry))) × (now (ledger .exit) ≡ joinedIn start end (now (ledger .entry))) ⌝ }
+{
+    let spot = locate(ledger, start, end);
+    if full(ledger, spot) {
+        return false;
+    }
+    put(ledger, spot, start, end);
+    true
 }

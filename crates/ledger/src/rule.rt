@@ -34,10 +34,13 @@ fn all_zero(entries: &[u64]) -> bool
     true
 }
 
-// Whether a pair that starts at a may stand behind one that ends at end; an end of 0 says that there is none before it.
-pub(crate) fn may_follow(end: u64, a: u64) -> bool
-    ensures { λ r. ⌜ r ≡ follows end a ⌝ }
+// Whether the pair (a, b) may stand behind one that ends at end; an end of 0 says that there is none before it.
+pub fn may_follow(end: u64, a: u64, b: u64) -> bool
+    ensures { λ r. ⌜ r ≡ follows end a b ⌝ }
 {
+    if b <= a {
+        return false;
+    }
     if end == 0 {
         return true;
     }
@@ -56,10 +59,7 @@ pub fn obeys(ledger: &[u64], limit: u64) -> bool
         if b == 0 {
             return all_zero(&ledger[i..]);
         }
-        if !may_follow(end, a) {
-            return false;
-        }
-        if b <= a {
+        if !may_follow(end, a, b) {
             return false;
         }
         if limit < b {

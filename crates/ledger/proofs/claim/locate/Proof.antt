@@ -1,7 +1,8 @@
 -- `claim::locate`.
 use native.Mathlib.Omega.{arith}
 use borrow.Author.Needs.{needs}
-use Rattle.ledger.proofs.Claims.{past-at, past-room, spot-is}
+use Rattle.ledger.specs.Claim.{spotIn}
+use Rattle.ledger.proofs.Claims.{past-at, past-room}
 use Rattle.ledger.proofs.claim.locate.Statement.{statement}
 use Rattle.ledger.proofs.claim.locate.Tie as tie
 
@@ -12,6 +13,7 @@ reach-requires : tie.Need-reach-requires
 reach-requires c κs = search needs
 
 returns : tie.Need-returns
+unfolding spotIn
 returns c =
     let p = c .before in
     let x = p .before .before .args in
@@ -19,7 +21,7 @@ returns c =
     let k = p .place .result in (
       omega (arith, c .reach .ensures, past-at (x .end) k l),
       omega (arith, c .reach .ensures, past-room (x .end) k l (p .place .ensures .0)),
-      λ o h. spot-is k (c .reach .result) (x .start) (x .end) l o h (p .place .ensures .1 o) (c .reach .ensures),
+      rw (c .reach .ensures, p .place .ensures .1),
     )
 
 pub locate-spec : {M : Type 1} → statement M

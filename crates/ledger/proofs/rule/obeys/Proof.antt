@@ -1,14 +1,15 @@
 -- `rule::obeys`: the pairs passed obey the rule with no end above the limit; those that are left decide.
 use Prim.Native.Nat.{_+_, _-_, _≤_}
 use mathlib.Core.Path.{_≡_, refl, sym, ap, _∙_}
+use mathlib.Core.Bool.{_&&_}
 use native.Mathlib.Omega.{arith}
 use borrow.Author.Needs.{needs}
 use borrow.Author.Tests.{ne-eqb, not-true, not-false}
-use lib.Dec.{leb}
+use lib.Dec.{leb, ltb}
 use lib.ListN.{length, getD, drop, length-drop}
 use lib.Seq.{take-all}
 use Rattle.ledger.specs.Ledger.{zeros, obeys}
-use Rattle.ledger.proofs.Opened.{lowest, lowest-follows, sound, sound-unused, sound-low, sound-empty, sound-above, sound-on, sound-over}
+use Rattle.ledger.proofs.Opened.{lowest, lowest-follows, sound, sound-unused, sound-not, sound-above, sound-on, sound-over}
 use Rattle.ledger.proofs.rule.obeys.Statement.{statement}
 use Rattle.ledger.proofs.rule.obeys.Tie as tie
 
@@ -21,10 +22,12 @@ abbrev μ-loop : tie.MeasureT-loop
 
 -- whether the pair at hand may stand where it does
 start : (c : tie.After-may-follow Inv-loop μ-loop) → let l = c .before .before .before .before .before in
-    c .may-follow .result ≡ leb (lowest (l .loop .end)) (getD (l .before .before .args .ledger .now) (l .loop .i) 0)
+    let s = l .before .before .args .ledger .now in
+    c .may-follow .result ≡ (leb (lowest (l .loop .end)) (getD s (l .loop .i) 0) && ltb (getD s (l .loop .i) 0) (getD s (l .loop .i + 1) 0))
 start c =
     let l = c .before .before .before .before .before in
-    c .may-follow .ensures ∙ sym (lowest-follows (l .loop .end) (getD (l .before .before .args .ledger .now) (l .loop .i) 0))
+    let s = l .before .before .args .ledger .now in
+    c .may-follow .ensures ∙ sym (lowest-follows (l .loop .end) (getD s (l .loop .i) 0) (getD s (l .loop .i + 1) 0))
 
 loop-holds : tie.Need-loop-holds Inv-loop μ-loop
 loop-holds c = (omega arith, refl)
@@ -83,7 +86,7 @@ returns-2 c =
     let e = m .before in
     let l = e .before .before .before .before in
     let x = l .before .before .args in
-    sym (sym (l .loop .inv .1) ∙ sound-low (lowest (l .loop .end)) (x .limit) (x .ledger .now) (l .loop .i) (omega arith) (e .if1 .left) (sym (start m) ∙ not-true (m .may-follow .result) (c .if2 .taken)))
+    sym (sym (l .loop .inv .1) ∙ sound-not (lowest (l .loop .end)) (x .limit) (x .ledger .now) (l .loop .i) (omega arith) (e .if1 .left) (sym (start m) ∙ not-true (m .may-follow .result) (c .if2 .taken)))
 
 returns-3 : tie.Need-returns-3 Inv-loop μ-loop
 unfolding obeys sound
@@ -91,15 +94,7 @@ returns-3 c =
     let e = c .before .before .before in
     let l = e .before .before .before .before in
     let x = l .before .before .args in
-    sym (sym (l .loop .inv .1) ∙ sound-empty (lowest (l .loop .end)) (x .limit) (x .ledger .now) (l .loop .i) (omega arith) (e .if1 .left) (c .if3 .taken))
-
-returns-4 : tie.Need-returns-4 Inv-loop μ-loop
-unfolding obeys sound
-returns-4 c =
-    let e = c .before .before .before .before in
-    let l = e .before .before .before .before in
-    let x = l .before .before .args in
-    sym (sym (l .loop .inv .1) ∙ sound-above (lowest (l .loop .end)) (x .limit) (x .ledger .now) (l .loop .i) (omega arith) (e .if1 .left) (c .if4 .taken))
+    sym (sym (l .loop .inv .1) ∙ sound-above (lowest (l .loop .end)) (x .limit) (x .ledger .now) (l .loop .i) (omega arith) (e .if1 .left) (c .if3 .taken))
 
 add-i : tie.Need-add-i Inv-loop μ-loop
 add-i c = omega arith
@@ -109,18 +104,18 @@ loop-less c = omega arith
 
 loop-again : tie.Need-loop-again Inv-loop μ-loop
 loop-again c =
-    let m = c .before .before .before in
+    let m = c .before .before in
     let e = m .before in
     let l = e .before .before .before .before in
     let x = l .before .before .args in
     let s = x .ledger .now in
-    let g = sym (start m) ∙ not-false (m .may-follow .result) (c .before .before .if2 .left) in
-    let o = sound-on (lowest (l .loop .end)) (x .limit) s (l .loop .i) (omega arith) (e .if1 .left) g (c .before .if3 .left) (c .if4 .left) in
+    let g = sym (start m) ∙ not-false (m .may-follow .result) (c .before .if2 .left) in
+    let o = sound-on (lowest (l .loop .end)) (x .limit) s (l .loop .i) (omega arith) (e .if1 .left) g (c .if3 .left) in
     (omega arith, rw (ne-eqb (getD s (l .loop .i + 1) 0) 0 (e .if1 .left)) (sym o ∙ l .loop .inv .1))
 
-returns-5 : tie.Need-returns-5 Inv-loop μ-loop
+returns-4 : tie.Need-returns-4 Inv-loop μ-loop
 unfolding obeys sound
-returns-5 c =
+returns-4 c =
     let l = c .before in
     let x = l .before .before .args in
     sym (sym (l .loop .inv .1) ∙ sound-over (lowest (l .loop .end)) (x .limit) (x .ledger .now) (l .loop .i) (l .loop .inv .0) (omega arith))
@@ -147,8 +142,7 @@ obeys-spec =
     may-follow-requires
     returns-2
     returns-3
-    returns-4
     add-i
     loop-less
     loop-again
-    returns-5)
+    returns-4)
