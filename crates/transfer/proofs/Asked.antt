@@ -1,4 +1,4 @@
--- A header's judgement: every header has its case, and the answer is the only one; which fault numbers there are.
+-- A header's judgement by the transfer alone: every header has its case, and the answer is the only one; which fault numbers there are.
 use Prim.Native.Nat.{ℕ, _+_, _≤_, _<_}
 use mathlib.Core.Path.{_≡_, refl}
 use mathlib.Core.Logic.{_⊎_, inl, inr, ⊎-elim, _≢_}
@@ -8,41 +8,15 @@ use native.Mathlib.Omega.{arith}
 use native.Mathlib.Decide.{decLt, ℕ-discrete}
 use borrow.Author.Tests.{lt-ltb, le-ltb, eq-eqb, ne-eqb, ltb-true, ltb-false, eqb-true, eqb-false}
 use lib.Dec.{ltb, eqb}
-use Rattle.ledger.specs.Pairs.{Pairs, size, join, shares}
-use Rattle.eblock.specs.Descriptor.{has, endOfRecord, restartMarker, closesEarly, suspectsCount, faultOf}
+use Rattle.eblock.specs.Descriptor.{faultOf}
+use Rattle.eblock.proofs.Tables.{fault-numbers}
 use Rattle.eblock.specs.Header.{countLimit, descriptorOf, secondOf, thirdOf}
-use Rattle.transfer.specs.Header.{isCount, Asks, counts, claims, nothing, faulty, askedOf, claimFault}
+use Rattle.transfer.specs.Header.{isCount, Asks, counts, claims, nothing, faulty, askedOf}
 use Rattle.transfer.specs.Judgement.{Asked, by-descriptor, by-14, by-15, for-count, for-nothing, by-16, for-claim}
 
 -- none, or from 11 to 18
 abbrev pub Numbered : ℕ → Type 0
 Numbered k = (k ≡ 0) ⊎ ((11 ≤ k) × (k ≤ 18))
-
-either : (t : Bool) (a b : ℕ) → Numbered a → Numbered b → Numbered (cond t a b)
-either true a b x y = x
-either false a b x y = y
-
-descriptor-judged : (d : ℕ) → Numbered (faultOf d)
-unfolding faultOf
-descriptor-judged d =
-    either (has 1 d || has 2 d) 11 _ (inr (omega arith))
-    (either (has endOfRecord d || has restartMarker d) 12 _ (inr (omega arith))
-    (either (closesEarly d || suspectsCount d) 13 0 (inr (omega arith)) (inl refl)))
-
-pub claim-judged : (R : ℕ) (ps : Pairs) (s e : ℕ) → Numbered (claimFault R ps s e)
-unfolding claimFault
-claim-judged R ps s e =
-    either (shares s e ps) 17 _ (inr (omega arith)) (either (ltb R (size (join s e ps))) 18 0 (inr (omega arith)) (inl refl))
-
--- a claim without a fault shares no place, and the ledger has room for it
-pub claim-accepted : (R : ℕ) (ps : Pairs) (s e : ℕ) → claimFault R ps s e ≡ 0 → (shares s e ps ≡ false) × (size (join s e ps) ≤ R)
-unfolding claimFault
-claim-accepted R ps s e z = go (shares s e ps) (ltb R (size (join s e ps))) refl refl z
-  where
-    go : (u v : Bool) → shares s e ps ≡ u → ltb R (size (join s e ps)) ≡ v → _≡_ {A = ℕ} (cond u 17 (cond v 18 0)) 0 → (shares s e ps ≡ false) × (size (join s e ps) ≤ R)
-    go true v p q z = absurd (omega arith)
-    go false true p q z = absurd (omega arith)
-    go false false p q z = (p, ltb-false R (size (join s e ps)) q)
 
 or-false : (a b : Bool) → (a || b) ≡ false → (a ≡ false) × (b ≡ false)
 or-false true b e = absurd (true≢false e)
@@ -106,11 +80,11 @@ module _ (F known used : ℕ) (h : List ℕ) where
   InRange (faulty k) = (11 ≤ k) × (k ≤ 18)
 
   pub in-range : (a : Asks) → Says a → InRange a
-  in-range _ (by-descriptor d) = go (descriptor-judged (descriptorOf h))
+  in-range _ (by-descriptor d) = go (fault-numbers (descriptorOf h))
     where
-      go : Numbered (faultOf (descriptorOf h)) → (11 ≤ faultOf (descriptorOf h)) × (faultOf (descriptorOf h) ≤ 18)
+      go : (faultOf (descriptorOf h) ≡ 0) ⊎ ((11 ≤ faultOf (descriptorOf h)) × (faultOf (descriptorOf h) ≤ 13)) → (11 ≤ faultOf (descriptorOf h)) × (faultOf (descriptorOf h) ≤ 18)
       go (inl z) = absurd (omega (arith, d, z))
-      go (inr z) = z
+      go (inr z) = (z .0, omega (arith, z .1))
   in-range _ (by-14 d q k) = (omega arith, omega arith)
   in-range _ (by-15 d q k z) = (omega arith, omega arith)
   in-range _ (for-count d q k n₀ n₁ n₂) = tt

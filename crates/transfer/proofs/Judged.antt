@@ -1,6 +1,7 @@
 -- A header's judgement: the ledger's part, and the whole statement.
 use Prim.Native.Nat.{ℕ, _+_, _≤_, _<_}
 use mathlib.Core.Path.{_≡_, refl, sym, ap, _∙_}
+use mathlib.Core.Logic.{inl, inr}
 use mathlib.Core.Bool.{Bool, true, false, cond}
 use native.Mathlib.Omega.{arith}
 use borrow.Author.Tests.{lt-ltb, le-ltb, ltb-true, ltb-false}
@@ -13,7 +14,7 @@ use Rattle.ledger.proofs.Shared.{shares-none, none-shares, shares-some}
 use Rattle.eblock.specs.Descriptor.{has}
 use Rattle.transfer.specs.Header.{payloadLength, claimFault}
 use Rattle.transfer.specs.Judgement.{Union, Claim, by-17, by-18, is-claimed, Judgement}
-use Rattle.transfer.proofs.Asked.{asked, asked-only}
+use Rattle.transfer.proofs.Asked.{Numbered, asked, asked-only}
 
 module _ (R : ℕ) (ps : Pairs) (s e : ℕ) (h : s < e) (ruled : Ruled 0 ps) where
   joined : Union s e ps (join s e ps)
@@ -33,7 +34,7 @@ module _ (R : ℕ) (ps : Pairs) (s e : ℕ) (h : s < e) (ruled : Ruled 0 ps) whe
       go p (within x y z) = omega (arith, f p x y)
       go p (past x y z) = omega (arith, holds-le p ps)
 
-  claim-is : Claim R ps s e (claimFault R ps s e)
+  pub claim-is : Claim R ps s e (claimFault R ps s e)
   unfolding claimFault
   claim-is = go (shares s e ps) (ltb R (size (join s e ps))) refl refl
     where
@@ -51,6 +52,25 @@ module _ (R : ℕ) (ps : Pairs) (s e : ℕ) (h : s < e) (ruled : Ruled 0 ps) whe
       go false x = absurd (omega (arith, free x p a b, q))
   claim-only _ (by-18 f m u l) = rw (not-shared f, lt-ltb R (size (join s e ps)) (omega (arith, only-joined m u)))
   claim-only _ (is-claimed f m u l) = rw (not-shared f, le-ltb R (size (join s e ps)) (omega (arith, only-joined m u)))
+
+  -- ---- what its number says
+
+  pub claim-numbered : Numbered (claimFault R ps s e)
+  claim-numbered = go (claimFault R ps s e) claim-is
+    where
+      go : (k : ℕ) → Claim R ps s e k → Numbered k
+      go _ (by-17 p a b q) = inr (omega arith, omega arith)
+      go _ (by-18 f m u l) = inr (omega arith, omega arith)
+      go _ (is-claimed f m u l) = inl refl
+
+  -- a claim without a fault shares no place, and the ledger has room for it
+  pub claim-accepted : claimFault R ps s e ≡ 0 → (shares s e ps ≡ false) × (size (join s e ps) ≤ R)
+  claim-accepted z = go (claimFault R ps s e) claim-is z
+    where
+      go : (k : ℕ) → Claim R ps s e k → k ≡ 0 → (shares s e ps ≡ false) × (size (join s e ps) ≤ R)
+      go _ (by-17 p a b q) z = absurd (omega arith)
+      go _ (by-18 f m u l) z = absurd (omega arith)
+      go _ (is-claimed f m u l) z = (not-shared f, omega (arith, only-joined m u, l))
 
 pub judgement : Judgement
 unfolding has payloadLength

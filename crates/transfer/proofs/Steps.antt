@@ -19,13 +19,15 @@ use Rattle.transfer.specs.Judgement.{Asked, for-count, for-nothing, for-
 use Rattle.transfer.specs.Receive.{goes, stops, leaves, opens, claimsRange, faults, heeds, judges, heads, byteOn, byteOf, isSome, isEnded}
 use Rattle.transfer.specs.Block.{Block, block, cut, cutBy, over, overBy, countsIn, claimsOf, placed, flat}
 use Rattle.transfer.specs.Tally.{Tally, Stream, sound, spoilt, taken, allButLast, accepted, blocksOf, countsOf, known, claimed, one, used, streamAt, withStream, withFault, keeps, judgedBy, faultIn, byteOn as tallyByteOn, byteOf as tallyByteOf}
+use Rattle.transfer.proofs.Claimed.{claims-ruled}
 use Rattle.transfer.proofs.Cuts.{Done, cuts-header, cuts-payload}
 use Rattle.transfer.specs.View.{view}
 use Rattle.transfer.proofs.Views.{allButLast-last}
 use Rattle.transfer.proofs.Shapes.{Shape, no-byte, in-header, in-payload, at-end, Proper, view-header, view-payload, view-end}
 use Rattle.transfer.proofs.Streams.{proper-at, sum-set}
 use Rattle.transfer.proofs.States.{transferOf, worldOf, state-is, put-is, fault-is, used-is}
-use Rattle.transfer.proofs.Asked.{Numbered, claim-judged, claim-accepted, asked, in-range}
+use Rattle.transfer.proofs.Asked.{Numbered, asked, in-range}
+use Rattle.transfer.proofs.Judged.{claim-numbered, claim-accepted}
 use Rattle.transfer.proofs.Invariant.{Count, unknown, announced, sound-at, Invariant, stays, used-same, same-blocks, kept-fault, kept-spoilt}
 use Rattle.transfer.proofs.Follows.{Follows, both-stop, both-leave, world-is, isSome-append, goes-on}
 use Rattle.transfer.proofs.Fills.{fills}
@@ -84,9 +86,9 @@ module _ (F R : ℕ) (before : Pairs) (file : List ℕ) (ruled : Ruled 0 before)
             (opens (claimsRange (worldOf F R before file t) (thirdOf head) (thirdOf head + secondOf head)) c (thirdOf head) (payloadLength head) (endsChannel head)))
             (judgedBy t c (bs ++ b ∷ []) n)
         go zero w =
-            let a = claim-accepted R (claimed before (t .streams)) (thirdOf head) (thirdOf head + secondOf head) w in
+            let a = claim-accepted R (claimed before (t .streams)) (thirdOf head) (thirdOf head + secondOf head) (omega arith) (claims-ruled (blocksOf (t .streams)) before ruled) w in
             accepts-claim F R before file ruled t c bs done r b i z k e d y u g f₀ q q₀ q₁ (a .0) (a .1)
-        go (suc n) w = rw (lt-ltb 0 (suc n) (omega arith)) (numbered (claim-judged R (claimed before (t .streams)) (thirdOf head) (thirdOf head + secondOf head)))
+        go (suc n) w = rw (lt-ltb 0 (suc n) (omega arith)) (numbered (claim-numbered R (claimed before (t .streams)) (thirdOf head) (thirdOf head + secondOf head) (omega arith) (claims-ruled (blocksOf (t .streams)) before ruled)))
           where
             numbered : Numbered (claimFault R (claimed before (t .streams)) (thirdOf head) (thirdOf head + secondOf head))
                 → Follows F R before file t c (faults (worldOf F R before file t) c (suc n)) (stops (withFault (withStream t c (spoilt (bs ++ b ∷ []))) (suc n) c))
