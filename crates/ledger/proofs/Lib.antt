@@ -28,3 +28,4 @@ pub mod Loads
 pub mod Saves
 pub mod SavedTrips
 pub mod ProvedSets
+pub mod Indexed
