@@ -76,7 +76,7 @@ channels-fit ps (s ∷ ss) c a m =
 
 -- ---- rests
 
-apart-is : (j k : Channel) → ((x : ℕ) → hit (j .next) (j .next + j .left) x + hit (k .next) (k .next + k .left) x ≤ 1) → apart j k ≡ true
+pub apart-is : (j k : Channel) → ((x : ℕ) → hit (j .next) (j .next + j .left) x + hit (k .next) (k .next + k .left) x ≤ 1) → apart j k ≡ true
 unfolding apart
 apart-is j k d = go (ℕ-discrete (j .left) 0) (ℕ-discrete (k .left) 0) (decLe (j .next + j .left) (k .next)) (decLe (k .next + k .left) (j .next))
   where

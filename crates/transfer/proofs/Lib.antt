@@ -5,6 +5,7 @@ pub mod Rowed
 pub mod Claimed
 pub mod Counted
 pub mod Placed
+pub mod Sums
 pub mod Cuts
 pub mod Views
 pub mod Shapes
@@ -22,3 +23,6 @@ pub mod Begins
 pub mod Stored
 pub mod Wholes
 pub mod AfterLists
+pub mod Together
+pub mod FitTests
+pub mod FitUsed
