@@ -26,3 +26,4 @@ pub mod AfterLists
 pub mod Together
 pub mod FitTests
 pub mod FitUsed
+pub mod FitPuts
