@@ -85,12 +85,12 @@ steady-zero (header r) i h g =
 steady-zero (payload p n e) i h g = getD-replicate {A = ℕ} heldLimit i 0 0 g
 steady-zero ended i h g = getD-replicate {A = ℕ} heldLimit i 0 0 g
 
-module _ (w : World) (f : Together w) (c : ℕ) (h : c < channelCount) where
-  -- the count allows that channel c is in use
-  abbrev pub Room : Type 0
-  Room = 0 < w .t .count → usedOf (w .t) < w .t .count + oneIfUsed (channelAt (w .t) c)
+-- the count allows that channel c is in use
+abbrev pub Room : World → ℕ → Type 0
+Room w c = 0 < w .t .count → usedOf (w .t) < w .t .count + oneIfUsed (channelAt (w .t) c)
 
-  pub put-keeps : (x : State) → Steady x → Room
+module _ (w : World) (f : Together w) (c : ℕ) (h : c < channelCount) where
+  pub put-keeps : (x : State) → Steady x → Room w c
       → ((p : ℕ) → sum (waits p) (w .t .channels) + hit (nextNumber x) (nextNumber x + leftNumber x) p ≤ holds p (pairsOf (w .lent .claimed)) + waits p (channelAt (w .t) c))
       → Together (withTransfer w (putState (w .t) c x))
   unfolding putState

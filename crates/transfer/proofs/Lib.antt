@@ -27,3 +27,5 @@ pub mod Together
 pub mod FitTests
 pub mod FitUsed
 pub mod FitPuts
+pub mod FitKept
+pub mod Fitted
