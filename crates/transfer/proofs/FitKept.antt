@@ -1,7 +1,7 @@
 -- Every byte keeps FIT.
 use Prim.Native.Nat.{ℕ, zero, suc, _+_, _*_, _≤_, _<_}
-use mathlib.Core.Path.{_≡_, refl, ap, _∙_}
-use mathlib.Core.Logic.{_⊎_, inl, inr, _≢_}
+use mathlib.Core.Path.{_≡_, refl, ap}
+use mathlib.Core.Logic.{inl, inr, _≢_}
 use mathlib.Core.Bool.{Bool, true, false, cond, _&&_}
 use mathlib.Core.List.{List, [], _∷_, _++_}
 use native.Mathlib.Omega.{arith}
@@ -10,7 +10,7 @@ use lib.Dec.{ltb, eqb}
 use lib.ListN.{length, set, take, drop, length-take, length-append}
 use Rattle.ledger.specs.Pairs.{hit, holds}
 use Rattle.ledger.specs.Ledger.{pairsOf}
-use Rattle.ledger.proofs.Places.{hit-in, hit-le, Where, under, within, past, stand}
+use Rattle.ledger.proofs.Places.{hit-part}
 use Rattle.ledger.proofs.Shared.{shares-none}
 use Rattle.eblock.specs.Header.{secondOf, thirdOf}
 use Rattle.transfer.specs.Channel.{channelCount, heldLimit, State, unused, header, payload, ended, nextNumber, leftNumber, readState, stateAt, channelAt, putState, putFault, putCount}
@@ -21,15 +21,8 @@ use Rattle.transfer.proofs.Shapes.{hit-nothing}
 use Rattle.transfer.proofs.Asked.{Judgement, claim-judged, claim-accepted, Asking, for-fault, for-count, for-nothing, for-claim, asked}
 use Rattle.transfer.proofs.Together.{waits, held-within, CountSays, Together}
 use Rattle.transfer.proofs.FitUsed.{oneIfUsed}
-use Rattle.transfer.proofs.FitPuts.{Steady, Room, put-keeps, fault-keeps, count-keeps, store-keeps, claimed-holds, claim-keeps}
-
-hit-narrow : (a b c d p : ℕ) → c ≤ a → b ≤ d → hit a b p ≤ hit c d p
-hit-narrow a b c d p h g = go (stand a b p)
-  where
-    go : Where a b p → hit a b p ≤ hit c d p
-    go (under x y) = omega arith
-    go (within x y z) = omega (arith, hit-in c d p (omega arith) (omega arith))
-    go (past x y z) = omega arith
+use Rattle.transfer.proofs.Steady.{Steady}
+use Rattle.transfer.proofs.FitPuts.{Room, put-keeps, fault-keeps, count-keeps, store-keeps, claimed-holds, claim-keeps}
 
 module _ (c : ℕ) (h : c < channelCount) where
   -- ---- on a channel in use
@@ -72,6 +65,14 @@ module _ (c : ℕ) (h : c < channelCount) where
 
   -- ---- a header's 17th byte
 
+  claimed-keeps : (w : World) → Together w → InUse w → (s n : ℕ) (e : Bool) → 0 < n → s + n ≤ w .t .len → claimFault (w .t .pairs) (pairsOf (w .lent .claimed)) s (s + n) ≡ 0
+      → Together (leftBy (opens (claimsRange w s (s + n)) c s n e))
+  unfolding claimsRange
+  claimed-keeps w f u s n e g l z =
+      let ok = claim-accepted (w .t .pairs) (pairsOf (w .lent .claimed)) s (s + n) z in
+      opens-keep (claimsRange w s (s + n)) (claim-keeps w f s (s + n) (omega arith) (ok .1) l) u s n e
+      (λ p. omega (arith, f .rests p, claimed-holds w f s (s + n) (omega arith) (ok .1) p, shares-none s (s + n) p (pairsOf (w .lent .claimed)) (ok .0)))
+
   heeds-keep : (w : World) → Together w → InUse w → (r : List ℕ) (a : Asks) → Asking (w .t .len) (w .t .count) (usedOf (w .t)) r a → Together (leftBy (heeds w c r a))
   unfolding heeds
   heeds-keep w f u r (faulty k) (for-fault n a b) = faults-keep w f u k a (omega arith)
@@ -90,25 +91,22 @@ module _ (c : ℕ) (h : c < channelCount) where
           judged : Judgement (claimFault (w .t .pairs) (pairsOf (w .lent .claimed)) (thirdOf r) (thirdOf r + secondOf r)) → Together (leftBy (faults w c (suc k)))
           judged (inl y) = absurd (omega arith)
           judged (inr y) = faults-keep w f u (suc k) (omega (arith, y .0)) (omega (arith, y .1))
-      go zero z =
-          let ok = claim-accepted (w .t .pairs) (pairsOf (w .lent .claimed)) (thirdOf r) (thirdOf r + secondOf r) z in
-          rw size-is (unfold claimsRange in
-          opens-keep (claimsRange w (thirdOf r) (thirdOf r + secondOf r)) (claim-keeps w f (thirdOf r) (thirdOf r + secondOf r) (omega arith) (ok .1) q₁) u (thirdOf r) (secondOf r) (endsChannel r)
-          (λ p. omega (arith, f .rests p, claimed-holds w f (thirdOf r) (thirdOf r + secondOf r) (omega arith) (ok .1) p, shares-none (thirdOf r) (thirdOf r + secondOf r) p (pairsOf (w .lent .claimed)) (ok .0))))
+      go zero z = rw size-is (claimed-keeps w f u (thirdOf r) (secondOf r) (endsChannel r) q₀ q₁ z)
+
+  judges-keep : (w : World) → Together w → InUse w → (r : List ℕ) → Together (leftBy (judges w c r))
+  unfolding judges
+  judges-keep w f u r = heeds-keep w f u r (askedOf (w .t .len) (w .t .count) (usedOf (w .t)) r) (asked (w .t .len) (w .t .count) (usedOf (w .t)) r)
 
   -- ---- a byte
 
   -- of a header, of which r is held: on a channel not in use there is none
   heads-keep : (w : World) → Together w → (r : List ℕ) (b : ℕ) → length r ≤ heldLimit → Room w c → (heldLimit ≤ length r → InUse w) → Together (leftBy (heads w c r b))
-  unfolding heads judges
+  unfolding heads
   heads-keep w f r b l room u = go (ltb (length r) heldLimit) refl
     where
-      go : (t : Bool) → ltb (length r) heldLimit ≡ t
-          → Together (leftBy (cond t (goes (withTransfer w (putState (w .t) c (header (r ++ (b ∷ [])))))) (heeds w c (r ++ (b ∷ [])) (askedOf (w .t .len) (w .t .count) (usedOf (w .t)) (r ++ (b ∷ []))))))
+      go : (t : Bool) → ltb (length r) heldLimit ≡ t → Together (leftBy (cond t (goes (withTransfer w (putState (w .t) c (header (r ++ (b ∷ [])))))) (judges w c (r ++ (b ∷ [])))))
       go true e = clear-keeps w f (header (r ++ (b ∷ []))) (omega (arith, length-append r (b ∷ []), ltb-true (length r) heldLimit e)) (unfold leftNumber in refl) room
-      go false e =
-          heeds-keep w f (u (ltb-false (length r) heldLimit e)) (r ++ (b ∷ [])) (askedOf (w .t .len) (w .t .count) (usedOf (w .t)) (r ++ (b ∷ [])))
-          (asked (w .t .len) (w .t .count) (usedOf (w .t)) (r ++ (b ∷ [])))
+      go false e = judges-keep w f (u (ltb-false (length r) heldLimit e)) (r ++ (b ∷ []))
 
   first-keeps : (w : World) (b : ℕ) → Together w → Together (leftBy (byteOn unused w c b))
   unfolding byteOn
@@ -128,8 +126,9 @@ module _ (c : ℕ) (h : c < channelCount) where
   unfolding stores
   stores-keep w zero b e f u l = f
   stores-keep w (suc n) b e f u l =
-      opens-keep (world (w .t) (set (w .lent .file) (channelAt (w .t) c .next) b) (w .lent .claimed)) (store-keeps w f (channelAt (w .t) c .next) b) u (suc (channelAt (w .t) c .next)) n e
-      (λ q. omega (arith, f .rests q, hit-narrow (suc (channelAt (w .t) c .next)) (suc (channelAt (w .t) c .next) + n) (channelAt (w .t) c .next) (channelAt (w .t) c .next + channelAt (w .t) c .left) q (omega arith) (omega arith)))
+      let p = channelAt (w .t) c .next in
+      opens-keep (world (w .t) (set (w .lent .file) p b) (w .lent .claimed)) (store-keeps w f p b) u (suc p) n e
+      (λ q. omega (arith, f .rests q, hit-part (suc p) (suc p + n) p (p + channelAt (w .t) c .left) q (omega arith) (omega arith)))
 
   pub byte-keeps : (w : World) (b : ℕ) → Together w → Together (leftBy (byteOf w c b))
   unfolding byteOf stateAt readState byteOn

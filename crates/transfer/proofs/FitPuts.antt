@@ -1,28 +1,27 @@
 -- What keeps FIT: a channel's new state, a fault, a count, a stored byte, and a claim.
 use Prim.Native.Nat.{ℕ, _+_, _*_, _-_, _≤_, _<_, max}
 use mathlib.Core.Path.{_≡_, refl, sym, ap, _∙_}
-use mathlib.Core.Logic.{_⊎_, inl, inr, _≢_}
+use mathlib.Core.Logic.{inl, inr, _≢_}
 use mathlib.Core.Bool.{Bool, true, false, cond}
-use mathlib.Core.List.{List, [], _++_}
+use mathlib.Core.List.{List, _++_}
 use native.Mathlib.Omega.{arith}
 use native.Mathlib.Decide.{ℕ-discrete, decLt}
 use lib.Dec.{eqb}
-use lib.ListN.{length, getD, set, take, drop, replicate, length-append, length-drop, length-set, List·getD-append, getD-replicate}
+use lib.ListN.{length, getD, set, take, drop, length-append, length-drop, length-set, List·getD-append}
 use lib.Seq.{length-take-le, getD-append-add, getD-set-same, getD-set-other, getD-take, getD-drop}
 use Rattle.ledger.specs.Pairs.{Pairs, size, hit, holds, Ruled, join, endsBy}
 use Rattle.ledger.specs.Ledger.{obeys, pairsOf, lent}
 use Rattle.ledger.proofs.Joined.{join-holds, join-ruled, join-ends}
 use Rattle.ledger.proofs.Lents.{length-lent, pairsOf-lent, rule-lent}
 use Rattle.eblock.specs.Header.{countLimit}
-use Rattle.transfer.specs.declared.state.Channel.{Channel}
-use Rattle.transfer.specs.declared.state.Transfer.{Transfer}
-use Rattle.transfer.specs.Channel.{channelCount, heldLimit, blank, State, unused, header, payload, ended, stateNumber, heldNumber, nextNumber, leftNumber, heldBytes, numbersOf, channelAt, putState, putFault, putCount}
+use Rattle.transfer.specs.Channel.{channelCount, heldLimit, blank, State, nextNumber, leftNumber, heldBytes, numbersOf, channelAt, putState, putFault, putCount}
 use Rattle.transfer.specs.Transfer.{sum, oneIfEnded, oneIfAlive, endedOf, usedOf, World, world, withTransfer}
 use Rattle.transfer.specs.Receive.{claimsRange}
-use Rattle.transfer.proofs.Lens.{Stands, length-heldBytes}
+use Rattle.transfer.proofs.Lens.{length-heldBytes}
 use Rattle.transfer.proofs.Sums.{sum-set}
-use Rattle.transfer.proofs.Together.{Stage, resting, collecting, storing, waits, state-known, CountSays, Together, ruled}
+use Rattle.transfer.proofs.Together.{Stage, waits, state-known, CountSays, Together, ruled}
 use Rattle.transfer.proofs.FitUsed.{oneIfUsed, used-one}
+use Rattle.transfer.proofs.Steady.{Steady, steady-stands, steady-stage, steady-zero}
 
 -- ---- a part of a list written over
 
@@ -53,37 +52,7 @@ module _ (l m : List ℕ) (a n : ℕ) (e : length m ≡ n) (h : a + n ≤ length
       ap (λ k. getD written k 0) u ∙ behind-front (n + i) ∙ ap (λ k. getD (m ++ drop (a + n) l) (k + i) 0) (sym e) ∙ getD-append-add m (drop (a + n) l) i 0
       ∙ getD-drop (a + n) l i 0 ∙ ap (λ k. getD l k 0) v
 
--- ---- a state that FIT allows
-
-abbrev pub Steady : State → Type 0
-Steady unused = Unit {0}
-Steady (header r) = length r ≤ heldLimit
-Steady (payload p n e) = 0 < n
-Steady ended = Unit {0}
-
-steady-stands : (x : State) → Steady x → Stands x
-steady-stands unused s = tt
-steady-stands (header r) s = s
-steady-stands (payload p n e) s = tt
-steady-stands ended s = tt
-
-steady-stage : (x : State) → Steady x → Stage (numbersOf x)
-unfolding numbersOf stateNumber heldNumber nextNumber leftNumber
-steady-stage unused s = resting (inl refl) refl refl refl
-steady-stage (header r) s = collecting refl s refl refl
-steady-stage (payload p n true) s = storing (inr refl) refl s
-steady-stage (payload p n false) s = storing (inl refl) refl s
-steady-stage ended s = resting (inr refl) refl refl refl
-
-steady-zero : (x : State) (i : ℕ) → heldNumber x ≤ i → i < heldLimit → getD (heldBytes x) i 0 ≡ 0
-unfolding heldNumber heldBytes
-steady-zero unused i h g = getD-replicate {A = ℕ} heldLimit i 0 0 g
-steady-zero (header r) i h g =
-    let e : i ≡ length r + (i - length r) = omega arith in
-    ap (λ j. getD (r ++ replicate (heldLimit - length r) 0) j 0) e
-    ∙ getD-append-add r (replicate (heldLimit - length r) 0) (i - length r) 0 ∙ getD-replicate {A = ℕ} (heldLimit - length r) (i - length r) 0 0 (omega arith)
-steady-zero (payload p n e) i h g = getD-replicate {A = ℕ} heldLimit i 0 0 g
-steady-zero ended i h g = getD-replicate {A = ℕ} heldLimit i 0 0 g
+-- ---- the transfer changed
 
 -- the count allows that channel c is in use
 abbrev pub Room : World → ℕ → Type 0
@@ -200,7 +169,8 @@ module _ (w : World) (f : Together w) where
         fault = f .fault;
       }
 
-  -- with another file and another ledger
+  -- ---- file or ledger changed
+
   lent-keeps : (file claimed : List ℕ) → length file ≡ length (w .lent .file) → length claimed ≡ 2 * w .t .pairs → obeys claimed ≡ true → endsBy (w .t .len) (pairsOf claimed) ≡ true
       → ((p : ℕ) → holds p (pairsOf (w .lent .claimed)) ≤ holds p (pairsOf claimed)) → Together (world (w .t) file claimed)
   lent-keeps file claimed l n o e m =
@@ -229,7 +199,7 @@ module _ (w : World) (f : Together w) where
     joined-ruled : Ruled 0 joined
     joined-ruled = join-ruled s e 0 (pairsOf (w .lent .claimed)) g (omega arith) (ruled w (f .rule))
 
-    pub claimed-pairs : pairsOf (lent (w .t .pairs) joined) ≡ joined
+    claimed-pairs : pairsOf (lent (w .t .pairs) joined) ≡ joined
     claimed-pairs = pairsOf-lent (w .t .pairs) 0 joined joined-ruled k
 
     pub claimed-holds : (p : ℕ) → holds p (pairsOf (lent (w .t .pairs) joined)) ≡ max (hit s e p) (holds p (pairsOf (w .lent .claimed)))

@@ -1,18 +1,19 @@
 -- The test of FIT and what it says: each gives the other.
-use Prim.Native.Nat.{ℕ, zero, suc, _+_, _*_, _-_, _≤_, _<_}
+use Prim.Native.Nat.{ℕ, zero, suc, _+_, _*_, _-_, _≤_, _<_, max}
 use mathlib.Core.Path.{_≡_, refl, sym, ap, _∙_}
 use mathlib.Core.Logic.{_⊎_, inl, inr, ⊎-elim, _≢_}
-use mathlib.Core.Bool.{Bool, true, false, cond, _&&_, _||_, and-eq-true-iff, true≢false, false≢true}
+use mathlib.Core.Bool.{Bool, true, false, cond, _&&_, _||_, and-eq-true-iff, false≢true}
 use mathlib.Core.List.{List, [], _∷_}
 use native.Mathlib.Omega.{arith}
-use native.Mathlib.Decide.{decLt}
-use borrow.Author.Tests.{lt-ltb, le-leb, eq-eqb, ne-eqb, ltb-true, leb-true, eqb-true, eqb-false}
+use native.Mathlib.Decide.{decLe, decLt, ℕ-discrete}
+use borrow.Author.Tests.{lt-ltb, le-leb, lt-leb, eq-eqb, ne-eqb, ltb-true, leb-true, eqb-true, eqb-false}
 use lib.Dec.{leb, ltb, eqb}
 use lib.ListN.{length, getD, take, drop, length-take, List·getD-eq-default}
 use lib.Seq.{getD-take, getD-drop, drop-drop}
 use Rattle.ledger.specs.Pairs.{Pairs, inside, endsBy}
 use Rattle.ledger.specs.Ledger.{zeros, obeys, pairsOf}
-use Rattle.ledger.proofs.Places.{hit-le, Where, under, within, past, stand, holds-le}
+use Rattle.ledger.proofs.Places.{hit-in, hit-le, holds-le}
+use Rattle.ledger.proofs.Shared.{apart as ranges-apart}
 use Rattle.ledger.proofs.Rules.{zeros-at, at-zeros}
 use Rattle.eblock.specs.Header.{countLimit}
 use Rattle.transfer.specs.declared.state.Channel.{Channel}
@@ -21,7 +22,7 @@ use Rattle.transfer.specs.Channel.{channelCount, heldLimit, blank, chann
 use Rattle.transfer.specs.Transfer.{sum, usedOf, World}
 use Rattle.transfer.specs.Fit.{pairLimit, idle, heldFits, restFits, channelFits, channelsFit, apart, apartFrom, restsApart, countFits, faultFits, fitsLedger, fits}
 use Rattle.transfer.specs.Fitting.{InPayload}
-use Rattle.transfer.proofs.Fits.{apart-is}
+use Rattle.transfer.proofs.Shapes.{hit-nothing}
 use Rattle.transfer.proofs.Together.{Stage, resting, collecting, storing, waits, CountSays, FaultSays, Together, rests-of, rest-inside}
 
 both : (a b : Bool) → (a && b) ≡ true → (a ≡ true) × (b ≡ true)
@@ -29,11 +30,15 @@ both a b h = and-eq-true-iff a b .0 h
 
 -- ---- one channel
 
-module _ (ps : Pairs) (k : Channel) (held : List ℕ) where
-  abbrev Lies : Type 0
-  Lies = InPayload k → inside (k .next) (k .next + k .left) ps ≡ true
+abbrev Lies : Pairs → Channel → Type 0
+Lies ps k = InPayload k → inside (k .next) (k .next + k .left) ps ≡ true
 
-  idle-says : (k .state ≡ 0) ⊎ (k .state ≡ 4) → idle k held ≡ true → Stage k × (zeros (drop (k .held) held) ≡ true) × Lies
+-- what the test of one channel says
+abbrev ChannelSays : Pairs → Channel → List ℕ → Type 0
+ChannelSays ps k held = Stage k × (zeros (drop (k .held) held) ≡ true) × Lies ps k
+
+module _ (ps : Pairs) (k : Channel) (held : List ℕ) where
+  idle-says : (k .state ≡ 0) ⊎ (k .state ≡ 4) → idle k held ≡ true → ChannelSays ps k held
   unfolding idle
   idle-says e h =
       let a = both (eqb (k .held) 0) (zeros held && (eqb (k .next) 0 && eqb (k .left) 0)) h in
@@ -48,7 +53,7 @@ module _ (ps : Pairs) (k : Channel) (held : List ℕ) where
       other (inr u) (inl v) = omega arith
       other (inr u) (inr v) = omega arith
 
-  header-says : k .state ≡ 1 → heldFits k held ≡ true → Stage k × (zeros (drop (k .held) held) ≡ true) × Lies
+  header-says : k .state ≡ 1 → heldFits k held ≡ true → ChannelSays ps k held
   unfolding heldFits
   header-says e h =
       let a = both (leb (k .held) heldLimit) (zeros (drop (k .held) held) && (eqb (k .next) 0 && eqb (k .left) 0)) h in
@@ -59,7 +64,7 @@ module _ (ps : Pairs) (k : Channel) (held : List ℕ) where
         λ y. absurd (⊎-elim (λ (u : k .state ≡ 2). omega arith) (λ (u : k .state ≡ 3). omega arith) y),
       )
 
-  payload-says : InPayload k → restFits ps k held ≡ true → Stage k × (zeros (drop (k .held) held) ≡ true) × Lies
+  payload-says : InPayload k → restFits ps k held ≡ true → ChannelSays ps k held
   unfolding restFits
   payload-says e h =
       let a = both (eqb (k .held) 0) (zeros held && (ltb 0 (k .left) && inside (k .next) (k .next + k .left) ps)) h in
@@ -68,7 +73,7 @@ module _ (ps : Pairs) (k : Channel) (held : List ℕ) where
       let z = eqb-true (k .held) 0 (a .0) in
       (storing e z (ltb-true 0 (k .left) (c .0)), rw z (b .0), λ y. c .1)
 
-  channel-says : (n : ℕ) → k .state ≡ n → channelFits ps n k held ≡ true → Stage k × (zeros (drop (k .held) held) ≡ true) × Lies
+  channel-says : (n : ℕ) → k .state ≡ n → channelFits ps n k held ≡ true → ChannelSays ps k held
   unfolding channelFits
   channel-says zero e h = idle-says (inl e) h
   channel-says (suc zero) e h = header-says e h
@@ -80,7 +85,7 @@ module _ (ps : Pairs) (k : Channel) (held : List ℕ) where
   all-zero : k .held ≡ 0 → zeros (drop (k .held) held) ≡ true → zeros held ≡ true
   all-zero h z = rw h at z
 
-  channel-fits : Stage k → zeros (drop (k .held) held) ≡ true → Lies → channelFits ps (k .state) k held ≡ true
+  channel-fits : Stage k → zeros (drop (k .held) held) ≡ true → Lies ps k → channelFits ps (k .state) k held ≡ true
   unfolding channelFits idle heldFits restFits
   channel-fits (resting (inl e) h p n) z i = rw (e, h, p, n, all-zero h z)
   channel-fits (resting (inr e) h p n) z i = rw (e, h, p, n, all-zero h z)
@@ -132,24 +137,15 @@ at-channels ps (k ∷ ks) heads h = rw (h 0 (omega arith), at-channels ps ks (dr
 
 apart-says : (j k : Channel) → apart j k ≡ true → (p : ℕ) → waits p j + waits p k ≤ 1
 unfolding apart
-apart-says j k h p = go (stand (j .next) (j .next + j .left) p) (stand (k .next) (k .next + k .left) p)
+apart-says j k h p = go (eqb (j .left) 0) (eqb (k .left) 0) (leb (j .next + j .left) (k .next)) (leb (k .next + k .left) (j .next)) refl refl refl refl h
   where
-    never : j .next ≤ p → p < j .next + j .left → k .next ≤ p → p < k .next + k .left → ⊥
-    never x y u v = at (eqb (j .left) 0) (eqb (k .left) 0) (leb (j .next + j .left) (k .next)) (leb (k .next + k .left) (j .next)) refl refl refl refl h
-      where
-        at : (a b l m : Bool) → eqb (j .left) 0 ≡ a → eqb (k .left) 0 ≡ b → leb (j .next + j .left) (k .next) ≡ l → leb (k .next + k .left) (j .next) ≡ m → ((a || b) || (l || m)) ≡ true → ⊥
-        at true b l m q r s t z = omega (arith, eqb-true (j .left) 0 q)
-        at false true l m q r s t z = omega (arith, eqb-true (k .left) 0 r)
-        at false false true m q r s t z = omega (arith, leb-true (j .next + j .left) (k .next) s)
-        at false false false true q r s t z = omega (arith, leb-true (k .next + k .left) (j .next) t)
-        at false false false false q r s t z = false≢true z
-
-    go : Where (j .next) (j .next + j .left) p → Where (k .next) (k .next + k .left) p → waits p j + waits p k ≤ 1
-    go (within x y z) (within u v q) = absurd (never x y u v)
-    go (within x y z) (under u q) = omega arith
-    go (within x y z) (past u v q) = omega arith
-    go (under x y) q = omega (arith, hit-le (k .next) (k .next + k .left) p)
-    go (past x y z) q = omega (arith, hit-le (k .next) (k .next + k .left) p)
+    go : (a b l m : Bool) → eqb (j .left) 0 ≡ a → eqb (k .left) 0 ≡ b → leb (j .next + j .left) (k .next) ≡ l → leb (k .next + k .left) (j .next) ≡ m
+        → ((a || b) || (l || m)) ≡ true → waits p j + waits p k ≤ 1
+    go true b l m q r s t z = omega (arith, hit-nothing (j .next) (j .next + j .left) p (omega (arith, eqb-true (j .left) 0 q)), hit-le (k .next) (k .next + k .left) p)
+    go false true l m q r s t z = omega (arith, hit-nothing (k .next) (k .next + k .left) p (omega (arith, eqb-true (k .left) 0 r)), hit-le (j .next) (j .next + j .left) p)
+    go false false true m q r s t z = ranges-apart (j .next) (j .next + j .left) (k .next) (k .next + k .left) p (inl (leb-true (j .next + j .left) (k .next) s))
+    go false false false true q r s t z = ranges-apart (j .next) (j .next + j .left) (k .next) (k .next + k .left) p (inr (leb-true (k .next + k .left) (j .next) t))
+    go false false false false q r s t z = absurd (false≢true z)
 
 from-says : (j : Channel) (ks : List Channel) (d : ℕ) → apartFrom j ks ≡ true → d < length ks → apart j (getD ks d blank) ≡ true
 unfolding apartFrom
@@ -163,6 +159,21 @@ rests-say [] c d h f g = absurd (omega arith)
 rests-say (k ∷ ks) c zero h f g = absurd (omega arith)
 rests-say (k ∷ ks) zero (suc d) h f g = from-says k ks d (both (apartFrom k ks) (restsApart ks) h .0) (omega arith)
 rests-say (k ∷ ks) (suc c) (suc d) h f g = rests-say ks c d (both (apartFrom k ks) (restsApart ks) h .1) (omega arith) (omega arith)
+
+apart-is : (j k : Channel) → ((p : ℕ) → waits p j + waits p k ≤ 1) → apart j k ≡ true
+unfolding apart
+apart-is j k d = go (ℕ-discrete (j .left) 0) (ℕ-discrete (k .left) 0) (decLe (j .next + j .left) (k .next)) (decLe (k .next + k .left) (j .next))
+  where
+    go : Dec (j .left ≡ 0) → Dec (k .left ≡ 0) → Dec (j .next + j .left ≤ k .next) → Dec (k .next + k .left ≤ j .next)
+        → ((eqb (j .left) 0 || eqb (k .left) 0) || (leb (j .next + j .left) (k .next) || leb (k .next + k .left) (j .next))) ≡ true
+    go (yes x) y a b = rw (eq-eqb (j .left) 0 x)
+    go (no x) (yes y) a b = rw (ne-eqb (j .left) 0 x, eq-eqb (k .left) 0 y)
+    go (no x) (no y) (yes a) b = rw (ne-eqb (j .left) 0 x, ne-eqb (k .left) 0 y, le-leb (j .next + j .left) (k .next) a)
+    go (no x) (no y) (no a) (yes b) =
+        rw (ne-eqb (j .left) 0 x, ne-eqb (k .left) 0 y, lt-leb (j .next + j .left) (k .next) (omega arith), le-leb (k .next + k .left) (j .next) b)
+    go (no x) (no y) (no a) (no b) =
+        let m = max (j .next) (k .next) in
+        absurd (omega (arith, d m, hit-in (j .next) (j .next + j .left) m (omega arith) (omega arith), hit-in (k .next) (k .next + k .left) m (omega arith) (omega arith)))
 
 from-apart : (j : Channel) (ks : List Channel) → ((p : ℕ) → waits p j + sum (waits p) ks ≤ 1) → apartFrom j ks ≡ true
 unfolding apartFrom sum
@@ -226,9 +237,8 @@ fits-together w h =
     let a₈ = both (restsApart (t .channels)) (countFits t && faultFits t) (a₇ .1) in
     let a₉ = both (countFits t) (faultFits t) (a₈ .1) in
     let n : length (t .channels) ≡ channelCount = eqb-true (length (t .channels)) channelCount (a₅ .0) in
-    let s : (c : ℕ) → c < length (t .channels)
-    → Stage (channelAt t c) × (zeros (drop (channelAt t c .held) (bytesAt (t .heads) c)) ≡ true) × (InPayload (channelAt t c) → inside (channelAt t c .next) (channelAt t c .next + channelAt t c .left) (pairsOf l) ≡ true)
-    = λ c g. channel-says (pairsOf l) (channelAt t c) (bytesAt (t .heads) c) (channelAt t c .state) refl (channels-at (pairsOf l) (t .channels) (t .heads) c (a₇ .0) g) in
+    let s : (c : ℕ) → c < length (t .channels) → ChannelSays (pairsOf l) (channelAt t c) (bytesAt (t .heads) c) =
+    λ c g. channel-says (pairsOf l) (channelAt t c) (bytesAt (t .heads) c) (channelAt t c .state) refl (channels-at (pairsOf l) (t .channels) (t .heads) c (a₇ .0) g) in
     record {
       file = eqb-true (length (w .lent .file)) (t .len) (a .0);
       entries = eqb-true (length l) (2 * t .pairs) (a₂ .0);

@@ -1,6 +1,6 @@
 -- `Fitting` holds.
 use Prim.Native.Nat.{ℕ, suc, _<_}
-use mathlib.Core.Path.{_≡_, refl, ap}
+use mathlib.Core.Path.{_≡_, refl}
 use mathlib.Core.Bool.{Bool, true, false, cond}
 use mathlib.Core.List.{List, [], _∷_}
 use native.Mathlib.Omega.{arith}
@@ -9,7 +9,6 @@ use lib.Dec.{leb, ltb}
 use Rattle.transfer.specs.Channel.{channelCount}
 use Rattle.transfer.specs.Transfer.{usedOf, endedOf, sum, World}
 use Rattle.transfer.specs.Receive.{Took, goes, stops, leaves, leftBy, refused, bytesBy, byteOf, refusalOf, receiveOf}
-use Rattle.transfer.specs.Fit.{fits}
 use Rattle.transfer.specs.Calls.{Call, receive, callOf}
 use Rattle.transfer.specs.Fitting.{Fit, Fitting}
 use Rattle.transfer.proofs.Pieces.{bytes-none, bytes-goes, bytes-stops, bytes-leaves}

@@ -26,6 +26,7 @@ pub mod AfterLists
 pub mod Together
 pub mod FitTests
 pub mod FitUsed
+pub mod Steady
 pub mod FitPuts
 pub mod FitKept
 pub mod Fitted

@@ -19,7 +19,7 @@ use Rattle.transfer.specs.declared.state.Transfer.{Transfer}
 use Rattle.transfer.specs.Channel.{channelCount, heldLimit, blank, channelAt}
 use Rattle.transfer.specs.Transfer.{sum, usedOf, World}
 use Rattle.transfer.specs.Fit.{pairLimit}
-use Rattle.transfer.specs.Fitting.{InHeader, InPayload, Awaits, Fit}
+use Rattle.transfer.specs.Fitting.{InHeader, InPayload, Fit}
 use Rattle.transfer.proofs.Sums.{one-of, two-of, sum-apart}
 
 -- ---- a channel's numbers
