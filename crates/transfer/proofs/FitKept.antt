@@ -19,7 +19,8 @@ use Rattle.transfer.specs.Header.{endsChannel, payloadLength, Asks, coun
 use Rattle.transfer.specs.Receive.{goes, stops, leaves, leftBy, faults, ends, opens, claimsRange, heeds, judges, heads, stores, byteOn, byteOf}
 use Rattle.transfer.proofs.Shapes.{hit-nothing}
 use Rattle.transfer.proofs.Asked.{Judgement, claim-judged, claim-accepted, Asking, for-fault, for-count, for-nothing, for-claim, asked}
-use Rattle.transfer.proofs.Together.{waits, held-within, CountSays, Together}
+use Rattle.transfer.proofs.Stages.{waits, held-within}
+use Rattle.transfer.proofs.Together.{CountSays, Together}
 use Rattle.transfer.proofs.FitUsed.{oneIfUsed}
 use Rattle.transfer.proofs.Steady.{Steady}
 use Rattle.transfer.proofs.FitPuts.{Room, put-keeps, fault-keeps, count-keeps, store-keeps, claimed-holds, claim-keeps}

@@ -19,7 +19,8 @@ use Rattle.transfer.specs.Transfer.{sum, oneIfEnded, oneIfAlive, endedOf
 use Rattle.transfer.specs.Receive.{claimsRange}
 use Rattle.transfer.proofs.Lens.{length-heldBytes}
 use Rattle.transfer.proofs.Sums.{sum-set}
-use Rattle.transfer.proofs.Together.{Stage, waits, state-known, CountSays, Together, ruled}
+use Rattle.transfer.proofs.Stages.{Stage, waits, state-known}
+use Rattle.transfer.proofs.Together.{CountSays, Together, ruled}
 use Rattle.transfer.proofs.FitUsed.{oneIfUsed, used-one}
 use Rattle.transfer.proofs.Steady.{Steady, steady-stands, steady-stage, steady-zero}
 

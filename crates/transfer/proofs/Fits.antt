@@ -25,7 +25,8 @@ use Rattle.transfer.proofs.Streams.{AllProper, proper-at}
 use Rattle.transfer.proofs.States.{rowOf, headsOf, transferOf, worldOf, length-headsOf, heads-drop, row-at, used-is}
 use Rattle.transfer.proofs.Invariant.{Count, unknown, announced, Fault, no-fault, fault-of, Invariant}
 use Rattle.transfer.proofs.Accepts.{pairs-are}
-use Rattle.transfer.proofs.Together.{waits, CountSays, FaultSays, Together}
+use Rattle.transfer.proofs.Stages.{waits}
+use Rattle.transfer.proofs.Together.{CountSays, FaultSays, Together}
 use Rattle.transfer.proofs.Steady.{Steady, steady-stands, steady-stage, steady-zero}
 use Rattle.transfer.proofs.FitTests.{together-fits}
 

@@ -9,7 +9,7 @@ use lib.ListN.{length, getD, replicate, getD-replicate}
 use lib.Seq.{getD-append-add}
 use Rattle.transfer.specs.Channel.{heldLimit, State, unused, header, payload, ended, stateNumber, heldNumber, nextNumber, leftNumber, heldBytes, numbersOf}
 use Rattle.transfer.proofs.Lens.{Stands}
-use Rattle.transfer.proofs.Together.{Stage, resting, collecting, storing}
+use Rattle.transfer.proofs.Stages.{Stage, resting, collecting, storing}
 
 abbrev pub Steady : State → Type 0
 Steady unused = Unit {0}
