@@ -13,3 +13,4 @@ pub mod Claims
 pub mod Rules
 pub mod Meanings
 pub mod ProvedSets
+pub mod Indexed

@@ -45,6 +45,14 @@ hit-le a b p = go (stand a b p)
     go (within h k e) = omega arith
     go (past h k e) = omega arith
 
+pub hit-part : (a b c d p : ℕ) → c ≤ a → b ≤ d → hit a b p ≤ hit c d p
+hit-part a b c d p h g = go (stand a b p)
+  where
+    go : Where a b p → hit a b p ≤ hit c d p
+    go (under x y) = omega arith
+    go (within x y z) = omega (arith, hit-in c d p (omega arith) (omega arith))
+    go (past x y z) = omega arith
+
 -- ---- pairs
 
 pub holds-le : (p : ℕ) (ps : Pairs) → holds p ps ≤ 1

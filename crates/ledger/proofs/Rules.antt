@@ -27,13 +27,13 @@ odd-on k = omega arith
 
 -- ---- zeros
 
-zeros-at : (l : List ℕ) (j : ℕ) → zeros l ≡ true → getD l j 0 ≡ 0
+pub zeros-at : (l : List ℕ) (j : ℕ) → zeros l ≡ true → getD l j 0 ≡ 0
 unfolding zeros
 zeros-at [] j h = refl
 zeros-at (x ∷ xs) zero h = eqb-true x 0 (and-eq-true-iff (eqb x 0) (zeros xs) .0 h .0)
 zeros-at (x ∷ xs) (suc j) h = zeros-at xs j (and-eq-true-iff (eqb x 0) (zeros xs) .0 h .1)
 
-at-zeros : (l : List ℕ) → ((j : ℕ) → getD l j 0 ≡ 0) → zeros l ≡ true
+pub at-zeros : (l : List ℕ) → ((j : ℕ) → getD l j 0 ≡ 0) → zeros l ≡ true
 unfolding zeros
 at-zeros [] h = refl
 at-zeros (x ∷ xs) h = rw (h 0, at-zeros xs (λ j. h (suc j)))
@@ -81,22 +81,32 @@ lent-after (suc r) zero (pair a b ps) h = absurd (omega arith)
 lent-after (suc r) (suc zero) (pair a b ps) h = absurd (omega arith)
 lent-after (suc r) (suc (suc j)) (pair a b ps) h = lent-after r j ps (omega arith)
 
-pub test-words : (r : ℕ) (l : List ℕ) → length l ≡ 2 * r → obeys l ≡ true → Obeys r l
-unfolding obeys
-test-words r l n o =
-    let ps = pairsOf l in
-    let c = rule-ruled 0 l o in
-    let e = lent-pairsOf r 0 l o n in
-    let f : size ps ≤ r = omega (arith, size-pairsOf l) in
-    let s : (i : ℕ) → getD l (2 * i) 0 ≡ startAt i ps = λ i. ap (λ z. getD z (2 * i) 0) e ∙ lent-start r i ps f in
-    let t : (i : ℕ) → getD l (2 * i + 1) 0 ≡ endAt i ps = λ i. ap (λ z. getD z (2 * i + 1) 0) e ∙ lent-end r i ps f in
-    record {
-      used = size ps;
-      room = f;
-      ordered = λ i h. omega (arith, s i, t i, start-end 0 i ps c h);
-      apart = λ i h. omega (arith, s (suc i), t i, end-start 0 i ps c h);
-      zero-after = λ j h. ap (λ z. getD z j 0) e ∙ lent-after r j ps h;
-    }
+-- the entries of a ledger that obeys the rule are its pairs' starts and ends
+module _ (r : ℕ) (l : List ℕ) (n : length l ≡ 2 * r) (o : obeys l ≡ true) where
+  l-is : l ≡ lent r (pairsOf l)
+  unfolding obeys
+  l-is = lent-pairsOf r 0 l o n
+
+  fits-in : size (pairsOf l) ≤ r
+  fits-in = omega (arith, size-pairsOf l)
+
+  pub start-is : (i : ℕ) → getD l (2 * i) 0 ≡ startAt i (pairsOf l)
+  start-is i = ap (λ z. getD z (2 * i) 0) l-is ∙ lent-start r i (pairsOf l) fits-in
+
+  pub end-is : (i : ℕ) → getD l (2 * i + 1) 0 ≡ endAt i (pairsOf l)
+  end-is i = ap (λ z. getD z (2 * i + 1) 0) l-is ∙ lent-end r i (pairsOf l) fits-in
+
+  pub test-words : Obeys r l
+  unfolding obeys
+  test-words =
+      let c = rule-ruled 0 l o in
+      record {
+        used = size (pairsOf l);
+        room = fits-in;
+        ordered = λ i h. omega (arith, start-is i, end-is i, start-end 0 i (pairsOf l) c h);
+        apart = λ i h. omega (arith, start-is (suc i), end-is i, end-start 0 i (pairsOf l) c h);
+        zero-after = λ j h. ap (λ z. getD z j 0) l-is ∙ lent-after r j (pairsOf l) h;
+      }
 
 pub test-is-rule : (r : ℕ) (l : List ℕ) → length l ≡ 2 * r → (obeys l ≡ true) ↔ Obeys r l
 unfolding obeys

@@ -15,7 +15,7 @@ use Rattle.ledger.proofs.Joined.{join-holds, join-ruled, join-ends}
 -- ---- sharing is a common place
 
 -- two ranges of which one ends before the other begins
-apart : (s e a b p : ℕ) → (e ≤ a) ⊎ (b ≤ s) → hit s e p + hit a b p ≤ 1
+pub apart : (s e a b p : ℕ) → (e ≤ a) ⊎ (b ≤ s) → hit s e p + hit a b p ≤ 1
 apart s e a b p u = go (stand s e p) (stand a b p)
   where
     go : Where s e p → Where a b p → hit s e p + hit a b p ≤ 1

@@ -18,7 +18,8 @@ use Rattle.transfer.proofs.Claimed.{sum-append, cover}
 use Rattle.transfer.proofs.Placed.{longer}
 use Rattle.transfer.specs.View.{view}
 use Rattle.transfer.proofs.Shapes.{Proper, kind, kind-ended, kind-used}
-use Rattle.transfer.proofs.Streams.{AllProper, proper-set, Split, split, sum-set}
+use Rattle.transfer.proofs.Streams.{AllProper, proper-set, Split, split}
+use Rattle.transfer.proofs.Sums.{sum-set}
 
 -- no count, or one that the sender may announce and that is not less than the channels used
 pub data Count (cs : List ℕ) (u : ℕ) : Type 0 where
@@ -93,7 +94,7 @@ pub used-same : (t : Tally) (c : ℕ) (s : Stream) → c < length (t .streams) �
     → used (set (t .streams) c s) ≡ used (t .streams)
 used-same t c s h p u =
     let w : one (isSome (taken s)) ≡ 1 = ap one u in
-    omega (arith, w, p, sum-set (λ (s : Stream). one (isSome (taken s))) (t .streams) c s h)
+    omega (arith, w, p, sum-set (λ (s : Stream). one (isSome (taken s))) (sound []) (t .streams) c s h)
 
 -- ---- sums over blocks
 

@@ -5,6 +5,7 @@ pub mod Rowed
 pub mod Claimed
 pub mod Counted
 pub mod Placed
+pub mod Sums
 pub mod Cuts
 pub mod Cutting
 pub mod Views
@@ -19,6 +20,12 @@ pub mod Follows
 pub mod Fills
 pub mod Accepts
 pub mod Steps
+pub mod Stages
+pub mod Together
+pub mod FitChannels
+pub mod FitRests
+pub mod FitTests
+pub mod Steady
 pub mod Fits
 pub mod Runs
 pub mod Begins
@@ -32,3 +39,7 @@ pub mod Taken
 pub mod Lived
 pub mod NoneLeftOut
 pub mod Examples
+pub mod FitUsed
+pub mod FitPuts
+pub mod FitKept
+pub mod Fitted

@@ -74,7 +74,7 @@ heads-set (x ∷ ss) (suc c) s a h =
     ∙ ap (λ r. r ++ middle) (sym before)
     ∙ ap (λ r. take (heldLimit * suc c) all ++ (heldBytes (view s) ++ r)) (sym behind)
 
-heads-drop : (ss : List Stream) (c : ℕ) → AllProper ss → c < length ss → drop (heldLimit * c) (headsOf ss) ≡ heldBytes (view (getD ss c (sound []))) ++ headsOf (drop (suc c) ss)
+pub heads-drop : (ss : List Stream) (c : ℕ) → AllProper ss → c < length ss → drop (heldLimit * c) (headsOf ss) ≡ heldBytes (view (getD ss c (sound []))) ++ headsOf (drop (suc c) ss)
 unfolding headsOf
 heads-drop [] c a h = absurd (omega arith)
 heads-drop (x ∷ ss) zero a h = refl
@@ -84,15 +84,15 @@ heads-drop (x ∷ ss) (suc c) a h =
 
 -- ---- one channel
 
-pub state-is : (F R : ℕ) (t : Tally) (c : ℕ) → AllProper (t .streams) → c < length (t .streams) → stateAt (transferOf F R t) c ≡ view (streamAt t c)
-unfolding stateAt transferOf
-state-is F R t c a h = rw (row, heads-drop (t .streams) c a h) (unfold rowOf numbersOf in read-back (view (streamAt t c)) (headsOf (drop (suc c) (t .streams))))
+pub row-at : (ss : List Stream) (c : ℕ) → getD (map rowOf ss) c blank ≡ rowOf (getD ss c (sound []))
+row-at ss c = ap (λ d. getD (map rowOf ss) c d) (sym no-row) ∙ List·getD-map rowOf ss c (sound [])
   where
     no-row : rowOf (sound []) ≡ blank
     no-row = unfold rowOf numbersOf stateNumber heldNumber nextNumber leftNumber view in refl
 
-    row : getD (map rowOf (t .streams)) c blank ≡ rowOf (streamAt t c)
-    row = ap (λ d. getD (map rowOf (t .streams)) c d) (sym no-row) ∙ List·getD-map rowOf (t .streams) c (sound [])
+pub state-is : (F R : ℕ) (t : Tally) (c : ℕ) → AllProper (t .streams) → c < length (t .streams) → stateAt (transferOf F R t) c ≡ view (streamAt t c)
+unfolding stateAt transferOf
+state-is F R t c a h = rw (row-at (t .streams) c, heads-drop (t .streams) c a h) (unfold rowOf numbersOf in read-back (view (streamAt t c)) (headsOf (drop (suc c) (t .streams))))
 
 rows-set : (ss : List Stream) (c : ℕ) (s : Stream) → map rowOf (set ss c s) ≡ set (map rowOf ss) c (rowOf s)
 rows-set [] c s = refl

@@ -24,7 +24,8 @@ use Rattle.transfer.proofs.Cuts.{Done, cuts-header, cuts-payload}
 use Rattle.transfer.specs.View.{view}
 use Rattle.transfer.proofs.Views.{allButLast-last}
 use Rattle.transfer.proofs.Shapes.{Shape, no-byte, in-header, in-payload, at-end, Proper, view-header, view-payload, view-end}
-use Rattle.transfer.proofs.Streams.{proper-at, sum-set}
+use Rattle.transfer.proofs.Streams.{proper-at}
+use Rattle.transfer.proofs.Sums.{sum-set}
 use Rattle.transfer.proofs.States.{transferOf, worldOf, state-is, put-is, fault-is, used-is}
 use Rattle.transfer.proofs.Asked.{Numbered, asked, in-range}
 use Rattle.transfer.proofs.Judged.{claim-numbered, claim-accepted}
@@ -129,7 +130,7 @@ module _ (F R : ℕ) (before : Pairs) (file : List ℕ) (ruled : Ruled 0 before)
         where
           one-more : used (set (t .streams) c (sound (b ∷ []))) ≡ suc (used (t .streams))
           one-more =
-              omega (arith, sum-set (λ (s : Stream). one (isSome (taken s))) (t .streams) c (sound (b ∷ [])) h′, ap (λ s. one (isSome (taken s))) (e ∙ ap sound n))
+              omega (arith, sum-set (λ (s : Stream). one (isSome (taken s))) (sound []) (t .streams) c (sound (b ∷ [])) h′, ap (λ s. one (isSome (taken s))) (e ∙ ap sound n))
 
           more : Count (countsOf (t .streams)) (used (t .streams)) → Count (countsOf (t .streams)) (used (set (t .streams) c (sound (b ∷ []))))
           more (unknown x) = unknown x

@@ -1,10 +1,9 @@
--- All channels: what holds of each, the blocks round one channel's, and a sum when one channel changes.
-use Prim.Native.Nat.{ℕ, zero, suc, _+_, _<_}
+-- All channels: what holds of each, and the blocks round one channel's.
+use Prim.Native.Nat.{ℕ, zero, suc, _<_}
 use mathlib.Core.Path.{_≡_, refl, sym, ap, _∙_}
 use mathlib.Core.List.{List, [], _∷_, _++_, append-assoc}
 use native.Mathlib.Omega.{arith}
 use lib.ListN.{length, getD, set}
-use Rattle.transfer.specs.Transfer.{sum}
 use Rattle.transfer.specs.Receive.{isSome}
 use Rattle.transfer.specs.Block.{Block}
 use Rattle.transfer.specs.Tally.{Stream, sound, taken, accepted, blocksOf}
@@ -51,9 +50,3 @@ split (x ∷ ss) (suc c) h =
       now = ap {B = List Block} (λ xs. accepted x ++ xs) (r .now) ∙ sym (append-assoc (accepted x) (r .front) (accepted (getD ss c (sound [])) ++ r .back));
       then = λ s. ap {B = List Block} (λ xs. accepted x ++ xs) (r .then s) ∙ sym (append-assoc (accepted x) (r .front) (accepted s ++ r .back));
     }
-
-pub sum-set : (f : Stream → ℕ) (ss : List Stream) (c : ℕ) (s : Stream) → c < length ss → sum f (set ss c s) + f (getD ss c (sound [])) ≡ sum f ss + f s
-unfolding sum
-sum-set f [] c s h = absurd (omega arith)
-sum-set f (x ∷ ss) zero s h = omega arith
-sum-set f (x ∷ ss) (suc c) s h = omega (arith, sum-set f ss c s (omega arith))

@@ -1,0 +1,151 @@
+-- Every byte keeps FIT.
+use Prim.Native.Nat.{ℕ, zero, suc, _+_, _*_, _≤_, _<_}
+use mathlib.Core.Path.{_≡_, refl, ap}
+use mathlib.Core.Logic.{inl, inr, _≢_}
+use mathlib.Core.Bool.{Bool, true, false, cond, _&&_}
+use mathlib.Core.List.{List, [], _∷_, _++_}
+use native.Mathlib.Omega.{arith}
+use borrow.Author.Tests.{ltb-true, ltb-false, eqb-false, ne-eqb, lt-ltb}
+use lib.Dec.{ltb, eqb}
+use lib.ListN.{length, set, take, drop, length-take, length-append}
+use Rattle.ledger.specs.Pairs.{hit, holds}
+use Rattle.ledger.specs.Ledger.{pairsOf}
+use Rattle.ledger.proofs.Places.{hit-part}
+use Rattle.ledger.proofs.Shared.{shares-none}
+use Rattle.eblock.specs.Header.{secondOf, thirdOf}
+use Rattle.transfer.specs.Channel.{channelCount, heldLimit, State, unused, header, payload, ended, nextNumber, leftNumber, readState, stateAt, channelAt, putState, putFault, putCount}
+use Rattle.transfer.specs.Transfer.{sum, usedOf, World, world, withTransfer, isFinal}
+use Rattle.transfer.specs.Header.{endsChannel, payloadLength, Asks, counts, claims, nothing, faulty, askedOf, claimFault}
+use Rattle.transfer.specs.Judgement.{Asked, for-count, for-nothing, for-claim}
+use Rattle.transfer.specs.Receive.{goes, stops, leaves, leftBy, faults, ends, opens, claimsRange, heeds, judges, heads, stores, byteOn, byteOf}
+use Rattle.transfer.proofs.Shapes.{hit-nothing}
+use Rattle.transfer.proofs.Asked.{Numbered, asked, in-range}
+use Rattle.transfer.proofs.Judged.{claim-numbered, claim-accepted}
+use Rattle.transfer.proofs.Stages.{waits, held-within}
+use Rattle.transfer.proofs.Together.{CountSays, Together, ruled}
+use Rattle.transfer.proofs.FitUsed.{oneIfUsed}
+use Rattle.transfer.proofs.Steady.{Steady}
+use Rattle.transfer.proofs.FitPuts.{Room, put-keeps, fault-keeps, count-keeps, store-keeps, claimed-holds, claim-keeps}
+
+module _ (c : ℕ) (h : c < channelCount) where
+  -- ---- on a channel in use
+
+  abbrev InUse : World → Type 0
+  InUse w = 0 < channelAt (w .t) c .state
+
+  in-use-room : (w : World) → Together w → InUse w → Room w c
+  in-use-room w f u n = omega (arith, ap {B = ℕ} (λ b. cond b 0 1) (ne-eqb (channelAt (w .t) c .state) 0 (λ e. omega arith)), within-count (f .count))
+    where
+      within-count : CountSays (w .t) → usedOf (w .t) ≤ w .t .count
+      within-count (inl z) = absurd (omega arith)
+      within-count (inr q) = q .2
+
+  -- a state without a payload
+  clear-keeps : (w : World) → Together w → (x : State) → Steady x → leftNumber x ≡ 0 → Room w c → Together (withTransfer w (putState (w .t) c x))
+  clear-keeps w f x s e r = put-keeps w f c h x s r (λ p. omega (arith, f .rests p, hit-nothing (nextNumber x) (nextNumber x + leftNumber x) p (omega arith)))
+
+  faults-keep : (w : World) → Together w → InUse w → (k : ℕ) → 11 ≤ k → k ≤ 20 → Together (leftBy (faults w c k))
+  unfolding faults
+  faults-keep w f u k a b = fault-keeps (withTransfer w (putState (w .t) c (header []))) (clear-keeps w f (header []) (omega arith) (unfold leftNumber in refl) (in-use-room w f u)) c h k a b
+
+  ends-keep : (w : World) → Together w → InUse w → Together (leftBy (ends w c))
+  unfolding ends
+  ends-keep w f u = go (isFinal (w .t))
+    where
+      go : (b : Bool) → Together (leftBy (cond b (faults w c 20) (stops (withTransfer w (putState (w .t) c ended)))))
+      go true = faults-keep w f u 20 (omega arith) (omega arith)
+      go false = clear-keeps w f ended tt (unfold leftNumber in refl) (in-use-room w f u)
+
+  opens-keep : (w : World) → Together w → InUse w → (p n : ℕ) (e : Bool)
+      → ((q : ℕ) → sum (waits q) (w .t .channels) + hit p (p + n) q ≤ holds q (pairsOf (w .lent .claimed)) + waits q (channelAt (w .t) c)) → Together (leftBy (opens w c p n e))
+  unfolding opens
+  opens-keep w f u p zero true r = ends-keep w f u
+  opens-keep w f u p zero false r = clear-keeps w f (header []) (omega arith) (unfold leftNumber in refl) (in-use-room w f u)
+  opens-keep w f u p (suc n) e r = put-keeps w f c h (payload p (suc n) e) (omega arith) (in-use-room w f u) (unfold nextNumber leftNumber in r)
+
+  opens-empty-keeps : (w : World) → Together w → InUse w → (e : Bool) → Together (leftBy (opens w c 0 0 e))
+  opens-empty-keeps w f u e = opens-keep w f u 0 0 e (λ q. omega (arith, f .rests q, hit-nothing 0 (0 + 0) q (omega arith)))
+
+  -- ---- a header's 17th byte
+
+  claimed-keeps : (w : World) → Together w → InUse w → (s n : ℕ) (e : Bool) → 0 < n → s + n ≤ w .t .len → claimFault (w .t .pairs) (pairsOf (w .lent .claimed)) s (s + n) ≡ 0
+      → Together (leftBy (opens (claimsRange w s (s + n)) c s n e))
+  unfolding claimsRange
+  claimed-keeps w f u s n e g l z =
+      let ok = claim-accepted (w .t .pairs) (pairsOf (w .lent .claimed)) s (s + n) (omega arith) (ruled w (f .rule)) z in
+      opens-keep (claimsRange w s (s + n)) (claim-keeps w f s (s + n) (omega arith) (ok .1) l) u s n e
+      (λ p. omega (arith, f .rests p, claimed-holds w f s (s + n) (omega arith) (ok .1) p, shares-none s (s + n) p (pairsOf (w .lent .claimed)) (ok .0)))
+
+  heeds-keep : (w : World) → Together w → InUse w → (r : List ℕ) (a : Asks) → Asked (w .t .len) (w .t .count) (usedOf (w .t)) r a → Together (leftBy (heeds w c r a))
+  unfolding heeds
+  heeds-keep w f u r (faulty k) a = let n = in-range (w .t .len) (w .t .count) (usedOf (w .t)) r (faulty k) a in faults-keep w f u k (n .0) (omega (arith, n .1))
+  heeds-keep w f u r (counts n) (for-count _ q k₀ n₀ n₁ n₂) =
+      opens-empty-keeps (withTransfer w (putCount (w .t) (thirdOf r))) (count-keeps w f (thirdOf r) n₀ n₁ n₂) (unfold putCount in u) (endsChannel r)
+  heeds-keep w f u r nothing (for-nothing _ q q₀) = opens-empty-keeps w f u (endsChannel r)
+  heeds-keep w f u r (claims s e) (for-claim _ q q₀ q₁) = go (claimFault (w .t .pairs) (pairsOf (w .lent .claimed)) (thirdOf r) (thirdOf r + secondOf r)) refl
+    where
+      size-is : payloadLength r ≡ secondOf r
+      size-is = unfold payloadLength in rw q
+
+      go : (k : ℕ) → claimFault (w .t .pairs) (pairsOf (w .lent .claimed)) (thirdOf r) (thirdOf r + secondOf r) ≡ k
+          → Together (leftBy (cond (ltb 0 k) (faults w c k) (opens (claimsRange w (thirdOf r) (thirdOf r + secondOf r)) c (thirdOf r) (payloadLength r) (endsChannel r))))
+      go (suc k) z = rw (lt-ltb 0 (suc k) (omega arith)) (judged (claim-numbered (w .t .pairs) (pairsOf (w .lent .claimed)) (thirdOf r) (thirdOf r + secondOf r) (omega arith) (ruled w (f .rule))))
+        where
+          judged : Numbered (claimFault (w .t .pairs) (pairsOf (w .lent .claimed)) (thirdOf r) (thirdOf r + secondOf r)) → Together (leftBy (faults w c (suc k)))
+          judged (inl y) = absurd (omega arith)
+          judged (inr y) = faults-keep w f u (suc k) (omega (arith, y .0)) (omega (arith, y .1))
+      go zero z = rw size-is (claimed-keeps w f u (thirdOf r) (secondOf r) (endsChannel r) q₀ q₁ z)
+
+  judges-keep : (w : World) → Together w → InUse w → (r : List ℕ) → Together (leftBy (judges w c r))
+  unfolding judges
+  judges-keep w f u r = heeds-keep w f u r (askedOf (w .t .len) (w .t .count) (usedOf (w .t)) r) (asked (w .t .len) (w .t .count) (usedOf (w .t)) r)
+
+  -- ---- a byte
+
+  -- of a header, of which r is held: on a channel not in use there is none
+  heads-keep : (w : World) → Together w → (r : List ℕ) (b : ℕ) → length r ≤ heldLimit → Room w c → (heldLimit ≤ length r → InUse w) → Together (leftBy (heads w c r b))
+  unfolding heads
+  heads-keep w f r b l room u = go (ltb (length r) heldLimit) refl
+    where
+      go : (t : Bool) → ltb (length r) heldLimit ≡ t → Together (leftBy (cond t (goes (withTransfer w (putState (w .t) c (header (r ++ (b ∷ [])))))) (judges w c (r ++ (b ∷ [])))))
+      go true e = clear-keeps w f (header (r ++ (b ∷ []))) (omega (arith, length-append r (b ∷ []), ltb-true (length r) heldLimit e)) (unfold leftNumber in refl) room
+      go false e = judges-keep w f (u (ltb-false (length r) heldLimit e)) (r ++ (b ∷ []))
+
+  first-keeps : (w : World) (b : ℕ) → Together w → Together (leftBy (byteOn unused w c b))
+  unfolding byteOn
+  first-keeps w b f = go (ltb 0 (w .t .count)) (eqb (usedOf (w .t)) (w .t .count)) refl refl
+    where
+      go : (x y : Bool) → ltb 0 (w .t .count) ≡ x → eqb (usedOf (w .t)) (w .t .count) ≡ y
+          → Together (leftBy (cond (x && y) (leaves (withTransfer w (putFault (w .t) 19 c))) (heads w c [] b)))
+      go true true p q = fault-keeps w f c h 19 (omega arith) (omega arith)
+      go true false p q = heads-keep w f [] b (omega arith) (λ n. room (f .count)) (λ z. absurd (omega arith))
+        where
+          room : CountSays (w .t) → usedOf (w .t) < w .t .count + oneIfUsed (channelAt (w .t) c)
+          room (inl z) = absurd (omega (arith, ltb-true 0 (w .t .count) p))
+          room (inr z) = let n : usedOf (w .t) ≢ w .t .count = eqb-false (usedOf (w .t)) (w .t .count) q in omega (arith, z .2)
+      go false y p q = heads-keep w f [] b (omega arith) (λ n. absurd (omega (arith, ltb-false 0 (w .t .count) p))) (λ z. absurd (omega arith))
+
+  stores-keep : (w : World) (n b : ℕ) (e : Bool) → Together w → InUse w → channelAt (w .t) c .left ≡ n → Together (leftBy (stores w c (channelAt (w .t) c .next) n e b))
+  unfolding stores
+  stores-keep w zero b e f u l = f
+  stores-keep w (suc n) b e f u l =
+      let p = channelAt (w .t) c .next in
+      opens-keep (world (w .t) (set (w .lent .file) p b) (w .lent .claimed)) (store-keeps w f p b) u (suc p) n e
+      (λ q. omega (arith, f .rests q, hit-part (suc p) (suc p + n) p (p + channelAt (w .t) c .left) q (omega arith) (omega arith)))
+
+  pub byte-keeps : (w : World) (b : ℕ) → Together w → Together (leftBy (byteOf w c b))
+  unfolding byteOf stateAt readState byteOn
+  byte-keeps w b f = go (channelAt (w .t) c .state) refl
+    where
+      r : List ℕ
+      r = take (channelAt (w .t) c .held) (drop (heldLimit * c) (w .t .heads))
+
+      go : (n : ℕ) → channelAt (w .t) c .state ≡ n → Together (leftBy (byteOn (readState n r (channelAt (w .t) c .next) (channelAt (w .t) c .left)) w c b))
+      go zero e = first-keeps w b f
+      go (suc zero) e =
+          heads-keep w f r b
+          (omega (arith, length-take (channelAt (w .t) c .held) (drop (heldLimit * c) (w .t .heads)), held-within (channelAt (w .t) c) (f .stages c h)))
+          (in-use-room w f (omega arith)) (λ z. omega arith)
+      go (suc (suc zero)) e = stores-keep w (channelAt (w .t) c .left) b false f (omega arith) refl
+      go (suc (suc (suc zero))) e = stores-keep w (channelAt (w .t) c .left) b true f (omega arith) refl
+      go (suc (suc (suc (suc n)))) e = f

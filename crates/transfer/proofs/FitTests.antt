@@ -1,0 +1,111 @@
+-- The test of FIT and what it says: each gives the other.
+use Prim.Native.Nat.{ℕ, _*_, _<_}
+use mathlib.Core.Path.{_≡_, refl}
+use mathlib.Core.Logic.{inl, inr, _≢_}
+use mathlib.Core.Bool.{Bool, true, false, cond, _&&_, _||_}
+use native.Mathlib.Omega.{arith}
+use borrow.Author.Tests.{lt-ltb, le-leb, eq-eqb, ne-eqb, ltb-true, leb-true, eqb-true, eqb-false}
+use lib.Dec.{leb, ltb, eqb}
+use lib.ListN.{length}
+use Rattle.ledger.specs.Pairs.{endsBy}
+use Rattle.ledger.specs.Ledger.{obeys, pairsOf}
+use Rattle.ledger.proofs.Places.{holds-le}
+use Rattle.eblock.specs.Header.{countLimit}
+use Rattle.transfer.specs.declared.state.Transfer.{Transfer}
+use Rattle.transfer.specs.Channel.{channelCount, heldLimit, channelAt}
+use Rattle.transfer.specs.Transfer.{usedOf, World}
+use Rattle.transfer.specs.Fit.{pairLimit, channelsFit, restsApart, countFits, faultFits, fitsLedger, fits}
+use Rattle.transfer.proofs.Together.{CountSays, FaultSays, Together, rests-of, rest-inside}
+use Rattle.transfer.proofs.FitChannels.{both, ChannelSays, bytesAt, channel-says, channel-fits, zeros-byte, byte-zeros, channels-at, at-channels}
+use Rattle.transfer.proofs.FitRests.{apart-says, rests-say, rests-apart}
+
+-- ---- count and fault
+
+count-says : (t : Transfer) → countFits t ≡ true → CountSays t
+unfolding countFits
+count-says t h = go (eqb (t .count) 0) refl h
+  where
+    go : (b : Bool) → eqb (t .count) 0 ≡ b → (b || (leb (t .count) countLimit && leb (usedOf t) (t .count))) ≡ true → CountSays t
+    go true e z = inl (eqb-true (t .count) 0 e)
+    go false e z =
+        let n : t .count ≢ 0 = eqb-false (t .count) 0 e in
+        let q = both (leb (t .count) countLimit) (leb (usedOf t) (t .count)) z in
+        inr (omega arith, leb-true (t .count) countLimit (q .0), leb-true (usedOf t) (t .count) (q .1))
+
+count-fits : (t : Transfer) → CountSays t → countFits t ≡ true
+unfolding countFits
+count-fits t (inl e) = rw e
+count-fits t (inr q) = rw (ne-eqb (t .count) 0 (λ e. omega arith), le-leb (t .count) countLimit (q .1), le-leb (usedOf t) (t .count) (q .2))
+
+fault-says : (t : Transfer) → faultFits t ≡ true → FaultSays t
+unfolding faultFits
+fault-says t h = go (eqb (t .fault) 0) refl h
+  where
+    go : (b : Bool) → eqb (t .fault) 0 ≡ b → cond b (eqb (t .on) 0) (leb 11 (t .fault) && (leb (t .fault) 20 && ltb (t .on) channelCount)) ≡ true → FaultSays t
+    go true e z = inl (eqb-true (t .fault) 0 e, eqb-true (t .on) 0 z)
+    go false e z =
+        let q = both (leb 11 (t .fault)) (leb (t .fault) 20 && ltb (t .on) channelCount) z in
+        let r = both (leb (t .fault) 20) (ltb (t .on) channelCount) (q .1) in
+        inr (leb-true 11 (t .fault) (q .0), leb-true (t .fault) 20 (r .0), ltb-true (t .on) channelCount (r .1))
+
+fault-fits : (t : Transfer) → FaultSays t → faultFits t ≡ true
+unfolding faultFits
+fault-fits t (inl e) = rw (e .0, e .1)
+fault-fits t (inr q) = rw (ne-eqb (t .fault) 0 (λ e. omega arith), le-leb 11 (t .fault) (q .0), le-leb (t .fault) 20 (q .1), lt-ltb (t .on) channelCount (q .2))
+
+-- ---- the whole
+
+pub fits-together : (w : World) → fits w ≡ true → Together w
+unfolding fits fitsLedger
+fits-together w h =
+    let t = w .t in
+    let l = w .lent .claimed in
+    let a = both (eqb (length (w .lent .file)) (t .len)) _ h in
+    let a₁ = both (leb (t .pairs) pairLimit) _ (a .1) in
+    let a₂ = both (eqb (length l) (2 * t .pairs)) _ (a₁ .1) in
+    let a₃ = both (obeys l) _ (a₂ .1) in
+    let a₄ = both (endsBy (t .len) (pairsOf l)) _ (a₃ .1) in
+    let a₅ = both (eqb (length (t .channels)) channelCount) _ (a₄ .1) in
+    let a₆ = both (eqb (length (t .heads)) (heldLimit * channelCount)) _ (a₅ .1) in
+    let a₇ = both (channelsFit (pairsOf l) (t .channels) (t .heads)) _ (a₆ .1) in
+    let a₈ = both (restsApart (t .channels)) (countFits t && faultFits t) (a₇ .1) in
+    let a₉ = both (countFits t) (faultFits t) (a₈ .1) in
+    let n : length (t .channels) ≡ channelCount = eqb-true (length (t .channels)) channelCount (a₅ .0) in
+    let s : (c : ℕ) → c < length (t .channels) → ChannelSays (pairsOf l) (channelAt t c) (bytesAt (t .heads) c) =
+    λ c g. channel-says (pairsOf l) (channelAt t c) (bytesAt (t .heads) c) (channelAt t c .state) refl (channels-at (pairsOf l) (t .channels) (t .heads) c (a₇ .0) g) in
+    record {
+      file = eqb-true (length (w .lent .file)) (t .len) (a .0);
+      entries = eqb-true (length l) (2 * t .pairs) (a₂ .0);
+      pairs = leb-true (t .pairs) pairLimit (a₁ .0);
+      rule = a₃ .0;
+      ends = a₄ .0;
+      channels = n;
+      heads = eqb-true (length (t .heads)) (heldLimit * channelCount) (a₆ .0);
+      stages = λ c g. s c (omega arith) .0;
+      bytes-zero = λ c i g. zeros-byte (t .heads) c (channelAt t c .held) (s c (omega arith) .1) i;
+      rests = rests-of (t .channels) (pairsOf l) (λ c g. s c g .0) (λ c g. s c g .2)
+          (λ c d p f g. apart-says (channelAt t c) (channelAt t d) (rests-say (t .channels) c d (a₈ .0) f g) p);
+      count = count-says t (a₉ .0);
+      fault = fault-says t (a₉ .1);
+    }
+
+pub together-fits : (w : World) → Together w → fits w ≡ true
+unfolding fits fitsLedger
+together-fits w f =
+    let t = w .t in
+    let l = w .lent .claimed in
+    rw (
+      eq-eqb (length (w .lent .file)) (t .len) (f .file),
+      le-leb (t .pairs) pairLimit (f .pairs),
+      eq-eqb (length l) (2 * t .pairs) (f .entries),
+      f .rule,
+      f .ends,
+      eq-eqb (length (t .channels)) channelCount (f .channels),
+      eq-eqb (length (t .heads)) (heldLimit * channelCount) (f .heads),
+      at-channels (pairsOf l) (t .channels) (t .heads)
+          (λ c g. let h : c < channelCount = omega (arith, f .channels) in
+          channel-fits (pairsOf l) (channelAt t c) (bytesAt (t .heads) c) (f .stages c h) (byte-zeros (t .heads) c (channelAt t c .held) (λ i. f .bytes-zero c i h)) (rest-inside w f c h)),
+      rests-apart (t .channels) (λ p. omega (arith, f .rests p, holds-le p (pairsOf l))),
+      count-fits t (f .count),
+      fault-fits t (f .fault),
+    )

@@ -1,0 +1,30 @@
+-- The channels in use, counted one by one where the states are those of the struct.
+use Prim.Native.Nat.{ℕ, zero, suc, _+_, _≤_, _<_}
+use mathlib.Core.Path.{_≡_, refl}
+use mathlib.Core.Bool.{cond, _&&_}
+use mathlib.Core.List.{List, [], _∷_}
+use native.Mathlib.Omega.{arith}
+use lib.Dec.{ltb, eqb}
+use lib.ListN.{length, getD}
+use Rattle.transfer.specs.declared.state.Channel.{Channel}
+use Rattle.transfer.specs.Channel.{blank}
+use Rattle.transfer.specs.Transfer.{sum, oneIfEnded, oneIfAlive}
+
+abbrev pub oneIfUsed : Channel → ℕ
+oneIfUsed k = cond (eqb (k .state) 0) 0 1
+
+pub used-one : (k : Channel) → k .state ≤ 4 → oneIfEnded k + oneIfAlive k ≡ oneIfUsed k
+used-one k h = go (k .state) h
+  where
+    go : (n : ℕ) → n ≤ 4 → cond (eqb n 4) 1 0 + cond (ltb 0 n && ltb n 4) 1 0 ≡ cond (eqb n 0) 0 1
+    go zero g = refl
+    go (suc zero) g = refl
+    go (suc (suc zero)) g = refl
+    go (suc (suc (suc zero))) g = refl
+    go (suc (suc (suc (suc zero)))) g = refl
+    go (suc (suc (suc (suc (suc n))))) g = absurd (omega arith)
+
+pub used-sum : (ks : List Channel) → ((c : ℕ) → c < length ks → getD ks c blank .state ≤ 4) → sum oneIfEnded ks + sum oneIfAlive ks ≡ sum oneIfUsed ks
+unfolding sum
+used-sum [] h = refl
+used-sum (k ∷ ks) h = omega (arith, used-one k (h 0 (omega arith)), used-sum ks (λ c g. h (suc c) (omega arith)))

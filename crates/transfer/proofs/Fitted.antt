@@ -1,0 +1,54 @@
+-- `Fitting` holds.
+use Prim.Native.Nat.{ℕ, suc, _<_}
+use mathlib.Core.Path.{_≡_, refl}
+use mathlib.Core.Bool.{Bool, true, false, cond}
+use mathlib.Core.List.{List, [], _∷_}
+use native.Mathlib.Omega.{arith}
+use borrow.Author.Tests.{leb-true, leb-false}
+use lib.Dec.{leb, ltb}
+use Rattle.transfer.specs.Channel.{channelCount}
+use Rattle.transfer.specs.Transfer.{usedOf, endedOf, sum, World}
+use Rattle.transfer.specs.Receive.{Took, goes, stops, leaves, leftBy, refused, bytesBy, byteOf, refusalOf, receiveOf}
+use Rattle.transfer.specs.Calls.{Call, receive, callOf}
+use Rattle.transfer.specs.Fitting.{Fit, Fitting}
+use Rattle.transfer.proofs.Pieces.{bytes-none, bytes-goes, bytes-stops, bytes-leaves}
+use Rattle.transfer.proofs.Rowed.{rows}
+use Rattle.transfer.proofs.Together.{Together, together-fit, fit-together}
+use Rattle.transfer.proofs.FitTests.{fits-together, together-fits}
+use Rattle.transfer.proofs.FitUsed.{oneIfUsed, used-sum}
+use Rattle.transfer.proofs.FitKept.{byte-keeps}
+
+used-are : (w : World) → Fit w → usedOf (w .t) ≡ sum oneIfUsed (w .t .channels)
+unfolding usedOf endedOf
+used-are w f = used-sum (w .t .channels) (λ c g. f .states c (omega (arith, f .channels)))
+
+piece-keeps : (c : ℕ) → c < channelCount → (piece : List ℕ) (w : World) (k : ℕ) → Together w → Together (bytesBy (λ v b. byteOf v c b) w piece k .1)
+piece-keeps c h [] w k f = rw (bytes-none (λ v b. byteOf v c b) w k) f
+piece-keeps c h (b ∷ bs) w k f = go (byteOf w c b) refl (byte-keeps c h w b f) (λ v. piece-keeps c h bs v (suc k))
+  where
+    go : (t : Took World) → byteOf w c b ≡ t → Together (leftBy t) → ((v : World) → Together v → Together (bytesBy (λ u x. byteOf u c x) v bs (suc k) .1))
+        → Together (bytesBy (λ u x. byteOf u c x) w (b ∷ bs) k .1)
+    go (goes v) e g i = rw (bytes-goes (λ u x. byteOf u c x) w v b bs k e) (i v g)
+    go (stops v) e g i = rw (bytes-stops (λ u x. byteOf u c x) w v b bs k e) g
+    go (leaves v) e g i = rw (bytes-leaves (λ u x. byteOf u c x) w v b bs k e) g
+
+call-keeps : (w : World) (k : Call) → Together w → Together (callOf w k .1)
+unfolding callOf
+call-keeps w (receive c piece) f = go (leb channelCount c) refl
+  where
+    go : (t : Bool) → leb channelCount c ≡ t → Together (receiveOf w c piece .1)
+    go true e = rw (rows .row-2 w c piece (together-fits w f) (leb-true channelCount c e)) f
+    go false e = unfold receiveOf in taken (ltb 0 (refusalOf w c piece))
+      where
+        taken : (t : Bool) → Together (cond t (refused (refusalOf w c piece), w) (bytesBy (λ v b. byteOf v c b) w piece 0) .1)
+        taken true = f
+        taken false = piece-keeps c (leb-false channelCount c e) piece w 0 f
+
+pub fitting : Fitting
+fitting =
+    record {
+      says = λ w. (λ e. together-fit w (fits-together w e), λ f. together-fits w (fit-together w f));
+      used-are = used-are;
+      byte-keeps = λ w c b f h. together-fit (leftBy (byteOf w c b)) (byte-keeps c h w b (fit-together w f));
+      call-keeps = λ w k f. together-fit (callOf w k .1) (call-keeps w k (fit-together w f));
+    }
