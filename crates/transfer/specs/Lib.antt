@@ -10,3 +10,6 @@ pub mod Block
 pub mod Tally
 pub mod View
 pub mod AfterList
+pub mod Fitting
+pub mod Sending
+pub mod Arrivals

@@ -17,6 +17,11 @@ pub data Took {ℓ} (W : Type ℓ) : Type ℓ where
   stops : W → Took W
   leaves : W → Took W
 
+abbrev pub leftBy {ℓ} : {W : Type ℓ} → Took W → W
+leftBy (goes w) = w
+leftBy (stops w) = w
+leftBy (leaves w) = w
+
 -- ---- a fault, the end of a channel, and the beginning of a payload
 
 -- a fault clears the channel's held bytes and stops the call; nothing else changes
