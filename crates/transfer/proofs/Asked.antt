@@ -1,16 +1,18 @@
--- What the answer of a header's first judgement says, and which fault numbers there are.
+-- What the answer of a header's first judgement says, which fault numbers there are, and when there is none.
 use Prim.Native.Nat.{ℕ, _+_, _≤_, _<_}
 use mathlib.Core.Path.{_≡_, refl}
 use mathlib.Core.Logic.{_⊎_, inl, inr, _≢_}
 use mathlib.Core.Bool.{Bool, true, false, cond, _||_, true≢false}
 use mathlib.Core.List.{List}
 use native.Mathlib.Omega.{arith}
-use borrow.Author.Tests.{ltb-true, ltb-false, eqb-true, eqb-false}
+use native.Mathlib.Decide.{ℕ-discrete}
+use borrow.Author.Tests.{ltb-true, ltb-false, eqb-true, eqb-false, le-ltb, eq-eqb, ne-eqb}
 use lib.Dec.{ltb, eqb}
 use Rattle.ledger.specs.Pairs.{Pairs, size, join, shares}
 use Rattle.eblock.specs.Descriptor.{has, endOfRecord, restartMarker, closesEarly, suspectsCount, faultOf}
 use Rattle.eblock.specs.Header.{countLimit, descriptorOf, secondOf, thirdOf}
 use Rattle.transfer.specs.Header.{isCount, Asks, counts, claims, nothing, faulty, askedOf, claimFault}
+use Rattle.transfer.specs.Tally.{faultIn}
 
 -- none, or from 11 to 18
 abbrev pub Judgement : ℕ → Type 0
@@ -94,3 +96,27 @@ module _ (F known used : ℕ) (h : List ℕ) where
       go true v x y (inr z) = for-fault (faultOf (descriptorOf h)) (z .0) (z .1)
       go false true x y z = count-asked y
       go false false x y z = range-asked y
+
+-- no fault: an accepted descriptor, then a count that may come or a payload that is empty or may be claimed
+pub faultless : (F R known used : ℕ) (ps : Pairs) (h : List ℕ) → faultOf (descriptorOf h) ≡ 0
+    → (isCount h ≡ true → (known ≡ 0) × (0 < thirdOf h) × (thirdOf h ≤ countLimit) × (used ≤ thirdOf h))
+    → (isCount h ≡ false → 0 < secondOf h → (thirdOf h + secondOf h ≤ F) × (shares (thirdOf h) (thirdOf h + secondOf h) ps ≡ false) × (size (join (thirdOf h) (thirdOf h + secondOf h) ps) ≤ R))
+    → faultIn R ps (askedOf F known used h) ≡ 0
+unfolding askedOf faultIn claimFault
+faultless F R known used ps h d n p = rw d (go (isCount h) refl)
+  where
+    go : (q : Bool) → isCount h ≡ q
+        → faultIn R ps (cond q
+        (cond (ltb 0 known) (faulty 14) (cond (eqb (thirdOf h) 0 || (ltb countLimit (thirdOf h) || ltb (thirdOf h) used)) (faulty 15) (counts (thirdOf h))))
+        (cond (eqb (secondOf h) 0) nothing (cond (ltb F (thirdOf h + secondOf h)) (faulty 16) (claims (thirdOf h) (thirdOf h + secondOf h))))) ≡ 0
+    go true q =
+        let k = n q in
+        rw (le-ltb 0 known (omega (arith, k .0)), ne-eqb (thirdOf h) 0 (λ e. omega (arith, k .1)), le-ltb countLimit (thirdOf h) (k .2), le-ltb (thirdOf h) used (k .3))
+    go false q = sized (ℕ-discrete (secondOf h) 0)
+      where
+        sized : Dec (secondOf h ≡ 0)
+            → faultIn R ps (cond (eqb (secondOf h) 0) nothing (cond (ltb F (thirdOf h + secondOf h)) (faulty 16) (claims (thirdOf h) (thirdOf h + secondOf h)))) ≡ 0
+        sized (yes e) = rw (eq-eqb (secondOf h) 0 e)
+        sized (no e) =
+            let k = p q (omega arith) in
+            rw (ne-eqb (secondOf h) 0 e, le-ltb F (thirdOf h + secondOf h) (k .0), k .1, le-ltb R (size (join (thirdOf h) (thirdOf h + secondOf h) ps)) (k .2))

@@ -25,7 +25,7 @@ proper-empty : (n : ℕ) → AllProper (replicate n (sound []))
 proper-empty zero = tt
 proper-empty (suc n) = (no-byte refl, proper-empty n)
 
-sound-empty : (n : ℕ) → AllSound (replicate n (sound []))
+pub sound-empty : (n : ℕ) → AllSound (replicate n (sound []))
 sound-empty zero = tt
 sound-empty (suc n) = (refl, sound-empty n)
 

@@ -22,3 +22,4 @@ pub mod Begins
 pub mod Stored
 pub mod Wholes
 pub mod AfterLists
+pub mod Parts
