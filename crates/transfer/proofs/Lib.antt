@@ -23,3 +23,5 @@ pub mod Stored
 pub mod Wholes
 pub mod AfterLists
 pub mod Parts
+pub mod Sendings
+pub mod Sendable
