@@ -13,12 +13,12 @@ use Rattle.ledger.proofs.Shared.{shares-none}
 use Rattle.ledger.proofs.Lents.{pairsOf-lent}
 use Rattle.eblock.specs.Header.{countLimit, secondOf, thirdOf}
 use Rattle.transfer.specs.Channel.{channelCount, heldLimit, putCount}
-use Rattle.transfer.specs.Transfer.{withTransfer, endedOf}
+use Rattle.transfer.specs.Transfer.{sum, withTransfer, endedOf}
 use Rattle.transfer.specs.Header.{isCount, endsChannel, payloadLength}
 use Rattle.transfer.specs.Receive.{opens, claimsRange, isSome, isEnded}
 use Rattle.transfer.specs.Block.{Block, block, placeOf, sizeOf, cut, countsIn, claim, claimsOf, hasEnd, placed, flat}
 use Rattle.transfer.specs.Tally.{Tally, Stream, sound, taken, accepted, blocksOf, countsOf, known, claimed, one, used, streamAt, withStream, keeps}
-use Rattle.transfer.proofs.Claimed.{hitBy, cover, claims-ruled, claims-holds, claims-insert}
+use Rattle.transfer.proofs.Claimed.{sum-insert, hitBy, cover, claims-ruled, claims-holds, claims-insert}
 use Rattle.transfer.proofs.Counted.{counts-without, counts-first}
 use Rattle.transfer.proofs.Placed.{placed-insert}
 use Rattle.transfer.proofs.Cuts.{Done, cuts-header}
@@ -26,7 +26,7 @@ use Rattle.transfer.specs.View.{view}
 use Rattle.transfer.proofs.Shapes.{in-header, kind, kind-ended, view-header, hit-nothing}
 use Rattle.transfer.proofs.Streams.{proper-set, Split, split}
 use Rattle.transfer.proofs.States.{transferOf, worldOf, put-is, put-count-is, ended-is}
-use Rattle.transfer.proofs.Invariant.{Count, unknown, announced, sound-set, Invariant, opens-block, used-same, cover-insert}
+use Rattle.transfer.proofs.Invariant.{Count, unknown, announced, sound-set, Invariant, opens-block, used-same}
 use Rattle.transfer.proofs.Follows.{Follows, world-is, isSome-append, tipOf, Opened, opened, opens-on}
 
 claim-none : (x : Block) (ps : Pairs) → sizeOf x ≡ 0 → claim x ps ≡ ps
@@ -87,11 +87,12 @@ module _ (F R : ℕ) (before : Pairs) (file : List ℕ) (ruled : Ruled 0 before)
         around .then (sound (bs ++ b ∷ [])) ∙ ap (λ m. around .front ++ (m ++ around .back)) (new .blocks) ∙ ap (λ m. around .front ++ m) (append-assoc done (x ∷ []) (around .back))
         ∙ sym (append-assoc (around .front) done (x ∷ around .back))
 
-    claims-are : claimed before next ≡ claim x (claimed before (t .streams))
+    pub claims-are : claimed before next ≡ claim x (claimed before (t .streams))
     claims-are = ap (λ m. claimsOf m before) then ∙ claims-insert front x (around .back) before ruled ∙ ap (λ m. claim x (claimsOf m before)) (sym now)
 
-    cover-is : (o : ℕ) → cover o (blocksOf next) ≡ hitBy o x + cover o (blocksOf (t .streams))
-    cover-is o = ap (cover o) then ∙ cover-insert o front x (around .back) ∙ ap (λ m. hitBy o x + cover o m) (sym now)
+    -- the block adds its number
+    pub sum-is : (w : Block → ℕ) → sum w (blocksOf next) ≡ w x + sum w (blocksOf (t .streams))
+    sum-is w = ap (sum w) then ∙ sum-insert w front x (around .back) ∙ ap (λ m. w x + sum w m) (sym now)
 
     same-file : placed (blocksOf next) file ≡ placed (blocksOf (t .streams)) file
     same-file = ap (λ m. placed m file) then ∙ placed-insert front x (around .back) file refl ∙ ap (λ m. placed m file) (sym now)
@@ -114,7 +115,7 @@ module _ (F R : ℕ) (before : Pairs) (file : List ℕ) (ruled : Ruled 0 before)
           number = length-set (t .streams) c (sound (bs ++ b ∷ [])) ∙ i .number;
           proper = proper-set (t .streams) c (sound (bs ++ b ∷ [])) (i .proper) (new .shape);
           clean = λ o. sound-set (t .streams) c (bs ++ b ∷ []) (i .clean o);
-          apart = λ o. rw (cover-is o) (p₁ o);
+          apart = λ o. rw (sum-is (hitBy o)) (p₁ o);
           ends = rw claims-are p₂;
           room = rw claims-are p₃;
           count = rw same-used p₄;
@@ -172,6 +173,12 @@ module _ (F R : ℕ) (before : Pairs) (file : List ℕ) (ruled : Ruled 0 before)
         s₀ : payloadLength head ≡ 0
         s₀ = unfold payloadLength in rw q q₀
 
+    pub sized : isCount head ≡ false → payloadLength head ≡ secondOf head
+    sized q = unfold payloadLength in rw q
+
+    pub joins : isCount head ≡ false → 0 < secondOf head → claim x (claimed before (t .streams)) ≡ join (thirdOf head) (thirdOf head + secondOf head) (claimed before (t .streams))
+    joins q q₀ = claim-some x (claimed before (t .streams)) (omega (arith, sized q)) ∙ ap (λ m. join (thirdOf head) (thirdOf head + m) (claimed before (t .streams))) (sized q)
+
     pub accepts-claim : isCount head ≡ false → 0 < secondOf head → thirdOf head + secondOf head ≤ F → shares (thirdOf head) (thirdOf head + secondOf head) (claimed before (t .streams)) ≡ false
         → size (join (thirdOf head) (thirdOf head + secondOf head) (claimed before (t .streams))) ≤ R
         → Follows F R before file t c (opens (claimsRange (worldOf F R before file t) (thirdOf head) (thirdOf head + secondOf head)) c (thirdOf head) (payloadLength head) (endsChannel head))
@@ -180,15 +187,9 @@ module _ (F R : ℕ) (before : Pairs) (file : List ℕ) (ruled : Ruled 0 before)
     accepts-claim q q₀ q₁ q₂ q₃ =
         opens-on F R before file t c (bs ++ b ∷ []) i z k (isSome-append bs b) (new .shape)
         (kept
-        (λ o. omega (arith, i .apart o, shares-none (thirdOf head) (thirdOf head + secondOf head) o (claimed before (t .streams)) q₂, claims-holds o (blocksOf (t .streams)) before ruled, ap (λ m. hit (thirdOf head) (thirdOf head + m) o) s₀))
-        (rw joins (join-ends (thirdOf head) (thirdOf head + secondOf head) F (claimed before (t .streams)) q₁ (i .ends))) (rw joins q₃) (rw (same-counts q) (i .count)))
+        (λ o. omega (arith, i .apart o, shares-none (thirdOf head) (thirdOf head + secondOf head) o (claimed before (t .streams)) q₂, claims-holds o (blocksOf (t .streams)) before ruled, ap (λ m. hit (thirdOf head) (thirdOf head + m) o) (sized q)))
+        (rw (joins q q₀) (join-ends (thirdOf head) (thirdOf head + secondOf head) F (claimed before (t .streams)) q₁ (i .ends))) (rw (joins q q₀) q₃) (rw (same-counts q) (i .count)))
         used-now not-ended (opens-block front x (around .back) now then) (claimsRange (worldOf F R before file t) (thirdOf head) (thirdOf head + secondOf head))
         (world-is (put-is F R t c (sound (bs ++ b ∷ [])) (i .proper) h′ (ap (λ m. getD m 0 0) (same-counts q))) (sym same-file)
-        (ap (λ m. lent R (join (thirdOf head) (thirdOf head + secondOf head) m)) (pairs-are t i) ∙ ap (lent R) (sym (claims-are ∙ joins))))
+        (ap (λ m. lent R (join (thirdOf head) (thirdOf head + secondOf head) m)) (pairs-are t i) ∙ ap (lent R) (sym (claims-are ∙ joins q q₀))))
         (sym (ap (λ m. getD m 0 0) (same-counts q))) (ended-is F R t (i .proper)) (thirdOf head) (payloadLength head) (endsChannel head) looks
-      where
-        s₀ : payloadLength head ≡ secondOf head
-        s₀ = unfold payloadLength in rw q
-
-        joins : claim x (claimed before (t .streams)) ≡ join (thirdOf head) (thirdOf head + secondOf head) (claimed before (t .streams))
-        joins = claim-some x (claimed before (t .streams)) (omega (arith, s₀)) ∙ ap (λ m. join (thirdOf head) (thirdOf head + m) (claimed before (t .streams))) s₀

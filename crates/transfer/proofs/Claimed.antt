@@ -21,6 +21,10 @@ unfolding sum
 sum-append f [] b = omega arith
 sum-append f (x ∷ a) b = omega (arith, sum-append f a b)
 
+pub sum-insert {ℓ} : {A : Type ℓ} (w : A → ℕ) (a : List A) (x : A) (b : List A) → sum w (a ++ x ∷ b) ≡ w x + sum w (a ++ b)
+unfolding sum
+sum-insert w a x b = omega (arith, sum-append w a (x ∷ b), sum-append w a b)
+
 -- 1 where block x claims place q
 abbrev pub hitBy : ℕ → Block → ℕ
 hitBy q x = hit (placeOf x) (placeOf x + sizeOf x) q

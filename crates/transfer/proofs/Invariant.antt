@@ -95,10 +95,6 @@ pub cover-same : (q : ℕ) (a : List Block) (x y : Block) (b : List Block) → x
 unfolding sum
 cover-same q a x y b h = rw (sum-append (hitBy q) a (x ∷ b), sum-append (hitBy q) a (y ∷ b), h)
 
-pub cover-insert : (q : ℕ) (a : List Block) (x : Block) (b : List Block) → cover q (a ++ x ∷ b) ≡ hitBy q x + cover q (a ++ b)
-unfolding sum
-cover-insert q a x b = omega (arith, sum-append (hitBy q) a (x ∷ b), sum-append (hitBy q) a b)
-
 -- ---- kept
 
 pub same-blocks : (t : Tally) (c : ℕ) (s : Stream) → c < length (t .streams) → accepted s ≡ accepted (streamAt t c) → blocksOf (set (t .streams) c s) ≡ blocksOf (t .streams)

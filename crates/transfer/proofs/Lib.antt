@@ -25,3 +25,4 @@ pub mod AfterLists
 pub mod Parts
 pub mod Sendings
 pub mod Sendable
+pub mod Underway
