@@ -26,3 +26,4 @@ pub mod Parts
 pub mod Sendings
 pub mod Sendable
 pub mod Underway
+pub mod Faultless
