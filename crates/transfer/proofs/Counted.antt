@@ -32,7 +32,7 @@ pub counts-without : (a : List Block) (x : Block) (b : List Block) → isCount (
 unfolding countsIn
 counts-without a x b h = rw (counts-append a (x ∷ b), counts-append a b, h)
 
-append-nothing : (a b : List ℕ) → a ++ b ≡ [] → (a ≡ []) × (b ≡ [])
+pub append-nothing : (a b : List ℕ) → a ++ b ≡ [] → (a ≡ []) × (b ≡ [])
 append-nothing [] b h = (refl, h)
 append-nothing (x ∷ a) b h = let z : _≡_ {A = ℕ} 0 1 = cc in absurd (omega arith)
 

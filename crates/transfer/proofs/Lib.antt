@@ -27,3 +27,4 @@ pub mod Sendings
 pub mod Sendable
 pub mod Underway
 pub mod Faultless
+pub mod Offered
