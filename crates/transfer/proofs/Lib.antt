@@ -28,3 +28,4 @@ pub mod Sendable
 pub mod Underway
 pub mod Faultless
 pub mod Offered
+pub mod Ways
