@@ -29,3 +29,4 @@ pub mod Underway
 pub mod Faultless
 pub mod Offered
 pub mod Ways
+pub mod Arriving

@@ -1,0 +1,126 @@
+-- Every arrival of a well-formed sending is taken whole, shows GUESS until its last byte and then RESULT, and leaves the file that was sent.
+use Prim.Native.Nat.{ℕ, suc, _≤_, _<_}
+use mathlib.Core.Path.{_≡_, refl, sym, ap, _∙_}
+use mathlib.Core.Logic.{inl, inr}
+use mathlib.Core.List.{List, [], _∷_, _++_, append-nil}
+use native.Mathlib.Omega.{arith}
+use lib.ListN.{length, getD}
+use Rattle.ledger.specs.Pairs.{Pairs, Ruled}
+use Rattle.transfer.specs.Transfer.{World, guess, result, verdictOf}
+use Rattle.transfer.specs.Receive.{took}
+use Rattle.transfer.specs.Fit.{pairLimit}
+use Rattle.transfer.specs.Calls.{Call, receive, callOf, after}
+use Rattle.transfer.specs.Block.{Block, placed}
+use Rattle.transfer.specs.Tally.{Tally, blocksOf, empty}
+use Rattle.transfer.specs.AfterList.{Begun, tallyOf, Has, AfterList}
+use Rattle.transfer.specs.Sending.{Life, SentBlocks, SentLives, sentBlocks, WellFormed, piecesOn, Arrival, offered}
+use Rattle.transfer.specs.Arrivals.{Arrives}
+use Rattle.transfer.proofs.States.{worldOf}
+use Rattle.transfer.proofs.Invariant.{Invariant}
+use Rattle.transfer.proofs.Runs.{run, call}
+use Rattle.transfer.proofs.Stored.{has-placed, none-placed}
+use Rattle.transfer.proofs.Wholes.{AllWhole, whole-stand}
+use Rattle.transfer.proofs.Begins.{begins}
+use Rattle.transfer.proofs.AfterLists.{every-list}
+use Rattle.transfer.proofs.Sendings.{streamsOf, bytes-all}
+use Rattle.transfer.proofs.Sendable.{Sendable, sendable, sent-bodies, placed-sent}
+use Rattle.transfer.proofs.Ways.{Way, way-empty, incomplete, all-there, complete, call-taken, run-taken}
+use Rattle.transfer.proofs.Offered.{offered-append, some-offered, none-offered}
+
+-- ---- what is sent
+
+sent-append : (F : ℕ) (a b : List Block) → SentBlocks F a → SentBlocks F b → SentBlocks F (a ++ b)
+sent-append F [] b h k = k
+sent-append F (x ∷ a) b h k = (h .0, sent-append F a b (h .1) k)
+
+sent-all : (F : ℕ) (s : List Life) → SentLives F s → SentBlocks F (sentBlocks s)
+unfolding sentBlocks
+sent-all F [] l = tt
+sent-all F (x ∷ s) l = sent-append F (x .blocks) (sentBlocks s) (l .0 .each) (sent-all F s (l .1))
+
+sent-whole : (F : ℕ) (xs : List Block) → SentBlocks F xs → AllWhole xs
+sent-whole F [] s = tt
+sent-whole F (x ∷ xs) s = (s .0 .whole, sent-whole F xs (s .1))
+
+sent-inside : (F p v : ℕ) (xs : List Block) → SentBlocks F xs → Has p v xs → p < F
+sent-inside F p v [] s h = absurd h
+sent-inside F p v (x ∷ xs) s (inl h) = omega (arith, h .1, h .2, s .0 .whole, s .0 .inside (omega (arith, h .1, s .0 .whole)))
+sent-inside F p v (x ∷ xs) s (inr h) = sent-inside F p v xs (s .1) h
+
+-- ---- an arrival
+
+module _ (w : World) (file : List ℕ) (R : ℕ) (before : Pairs) (begun : Begun w file R before) (s : List Life) (wf : WellFormed (length file) R before s) (ks : List Call) (arrival : Arrival s ks) where
+  abbrev F : ℕ
+  F = length file
+
+  abbrev tally : List Call → Tally
+  tally pre = tallyOf F R before pre
+
+  start : Ruled 0 before × (R ≤ pairLimit) × Invariant F R before empty × (w ≡ worldOf F R before file empty)
+  start = begins w file R before begun
+
+  sent : Sendable F R before (length s) (streamsOf s)
+  sent = sendable F R before s wf
+
+  abbrev OnWay : List Call → List Call → Type 0
+  OnWay pre post = Way F R before file (start .0) refl (start .1) (length s) (streamsOf s) sent (tally pre) post
+
+  way : (pre post : List Call) → ks ≡ pre ++ post → OnWay pre post
+  way pre post e =
+      run-taken F R before file (start .0) refl (start .1) (length s) (streamsOf s) sent pre post empty
+      (way-empty F R before file (start .0) refl (start .1) (length s) (streamsOf s) sent (pre ++ post) (start .2)
+      (λ c. ap (piecesOn c) (sym e) ∙ arrival c ∙ sym (bytes-all F s (wf .each) (wf .once) c)))
+
+  after-is : (pre : List Call) → after w pre ≡ worldOf F R before file (tally pre)
+  after-is pre = ap (λ v. after v pre) (start .3) ∙ ap (λ a. a .1) (run F R before file (start .0) refl (start .1) pre empty (start .2) .out)
+
+  after-list : (pre : List Call) → AfterList R before file (after w pre) (tally pre)
+  after-list pre = every-list .after-list w file R before begun pre
+
+  taken-whole : (pre post : List Call) (c b : ℕ) (bs : List ℕ) → OnWay pre (receive c (b ∷ bs) ∷ post) → callOf (after w pre) (receive c (b ∷ bs)) .0 ≡ took (suc (length bs))
+  taken-whole pre post c b bs o =
+      ap (λ v. callOf v (receive c (b ∷ bs)) .0) (after-is pre)
+      ∙ ap (λ a. a .0) (call F R before file (start .0) refl (start .1) (tally pre) (receive c (b ∷ bs)) (o .kept) .out)
+      ∙ ap (λ a. a .0) (call-taken F R before file (start .0) refl (start .1) (length s) (streamsOf s) sent (tally pre) c b bs post o .1)
+
+  guess-until : (pre post : List Call) → OnWay pre post → 0 < offered post → verdictOf (after w pre) ≡ guess
+  guess-until pre post o h =
+      let p = some-offered post h in
+      after-list pre .guess-is .1 (o .clean, incomplete F R before file (start .0) refl (start .1) (length s) (streamsOf s) sent (tally pre) post (p .0) (p .1) (p .2 .0) o (p .2 .1))
+
+  result-then : (pre post : List Call) → OnWay pre post → offered post ≡ 0 → verdictOf (after w pre) ≡ result
+  result-then pre post o h =
+      after-list pre .result-is .1 (o .clean, complete F R before file (start .0) refl (start .1) (length s) (streamsOf s) sent (tally pre) post o (none-offered post h))
+
+  -- ---- the file
+
+  abbrev File : List ℕ
+  File = after w ks .lent .file
+
+  file-sent : File ≡ placed (sentBlocks s) file
+  file-sent =
+      after-list ks .file-is
+      ∙ ap (λ ss. placed (blocksOf ss) file) (all-there F R before file (start .0) refl (start .1) (length s) (streamsOf s) sent (tally ks) [] (way ks [] (sym (append-nil ks))) (λ c. unfold piecesOn in refl))
+      ∙ placed-sent F s file (wf .each) (wf .once) (λ q. omega (arith, wf .apart q))
+
+  blocks : SentBlocks F (sentBlocks s)
+  blocks = sent-all F s (wf .each)
+
+  at-place : (p v : ℕ) → Has p v (sentBlocks s) → getD File p 0 ≡ v
+  at-place p v h =
+      ap (λ f. getD f p 0) file-sent ∙ has-placed p v (sentBlocks s) file (sent-bodies F (sentBlocks s) blocks) (omega (arith, wf .apart p)) (sent-inside F p v (sentBlocks s) blocks h) h
+
+  all-of-it : Arrives w file s ks
+  all-of-it =
+      record {
+        all-taken = λ pre post c b bs e. taken-whole pre post c b bs (way pre (receive c (b ∷ bs) ∷ post) e);
+        shows-guess = λ pre post e h. guess-until pre post (way pre post e) (omega (arith, h, ap offered e, offered-append pre post));
+        shows-result = λ pre post e h. result-then pre post (way pre post e) (omega (arith, h, ap offered e, offered-append pre post));
+        file-is = file-sent;
+        payloads-stand = whole-stand File (sentBlocks s) (sent-whole F (sentBlocks s) blocks) at-place;
+        rest-stays = λ p h. ap (λ f. getD f p 0) file-sent ∙ none-placed p (sentBlocks s) file h;
+      }
+
+pub arrives : (w : World) (file : List ℕ) (R : ℕ) (before : Pairs) → Begun w file R before → (s : List Life) → WellFormed (length file) R before s → (ks : List Call) → Arrival s ks
+    → Arrives w file s ks
+arrives = all-of-it
