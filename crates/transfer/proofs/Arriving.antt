@@ -11,20 +11,19 @@ use Rattle.transfer.specs.Receive.{took}
 use Rattle.transfer.specs.Fit.{pairLimit}
 use Rattle.transfer.specs.Calls.{Call, receive, callOf, after}
 use Rattle.transfer.specs.Block.{Block, placed}
-use Rattle.transfer.specs.Tally.{Tally, blocksOf, empty}
-use Rattle.transfer.specs.AfterList.{Begun, tallyOf, Has, AfterList}
+use Rattle.transfer.specs.Tally.{Tally, blocksOf, verdict, empty}
+use Rattle.transfer.specs.AfterList.{Begun, tallyOf, Has}
 use Rattle.transfer.specs.Sending.{Life, SentBlocks, SentLives, sentBlocks, WellFormed, piecesOn, Arrival, offered}
 use Rattle.transfer.specs.Arrivals.{Arrives}
 use Rattle.transfer.proofs.States.{worldOf}
 use Rattle.transfer.proofs.Invariant.{Invariant}
-use Rattle.transfer.proofs.Runs.{run, call}
+use Rattle.transfer.proofs.Runs.{verdict-is, run, call}
 use Rattle.transfer.proofs.Stored.{has-placed, none-placed}
 use Rattle.transfer.proofs.Wholes.{AllWhole, whole-stand}
 use Rattle.transfer.proofs.Begins.{begins}
-use Rattle.transfer.proofs.AfterLists.{every-list}
 use Rattle.transfer.proofs.Sendings.{streamsOf, bytes-all}
 use Rattle.transfer.proofs.Sendable.{Sendable, sendable, sent-bodies, placed-sent}
-use Rattle.transfer.proofs.Ways.{Way, way-empty, incomplete, all-there, complete, call-taken, run-taken}
+use Rattle.transfer.proofs.Ways.{Way, way-empty, guess-still, all-there, result-then, call-taken, run-taken}
 use Rattle.transfer.proofs.Offered.{offered-append, some-offered, none-offered}
 
 -- ---- what is sent
@@ -63,34 +62,33 @@ module _ (w : World) (file : List ℕ) (R : ℕ) (before : Pairs) (begun : Begun
   sent = sendable F R before s wf
 
   abbrev OnWay : List Call → List Call → Type 0
-  OnWay pre post = Way F R before file (start .0) refl (start .1) (length s) (streamsOf s) sent (tally pre) post
+  OnWay pre post = Way F R before (start .0) (length s) (streamsOf s) sent (tally pre) post
 
   way : (pre post : List Call) → ks ≡ pre ++ post → OnWay pre post
   way pre post e =
-      run-taken F R before file (start .0) refl (start .1) (length s) (streamsOf s) sent pre post empty
-      (way-empty F R before file (start .0) refl (start .1) (length s) (streamsOf s) sent (pre ++ post) (start .2)
+      run-taken F R before (start .0) (length s) (streamsOf s) sent pre post empty
+      (way-empty F R before (start .0) (length s) (streamsOf s) sent (pre ++ post) (start .2)
       (λ c. ap (piecesOn c) (sym e) ∙ arrival c ∙ sym (bytes-all F s (wf .each) (wf .once) c)))
 
   after-is : (pre : List Call) → after w pre ≡ worldOf F R before file (tally pre)
   after-is pre = ap (λ v. after v pre) (start .3) ∙ ap (λ a. a .1) (run F R before file (start .0) refl (start .1) pre empty (start .2) .out)
 
-  after-list : (pre : List Call) → AfterList R before file (after w pre) (tally pre)
-  after-list pre = every-list .after-list w file R before begun pre
-
   taken-whole : (pre post : List Call) (c b : ℕ) (bs : List ℕ) → OnWay pre (receive c (b ∷ bs) ∷ post) → callOf (after w pre) (receive c (b ∷ bs)) .0 ≡ took (suc (length bs))
   taken-whole pre post c b bs o =
       ap (λ v. callOf v (receive c (b ∷ bs)) .0) (after-is pre)
       ∙ ap (λ a. a .0) (call F R before file (start .0) refl (start .1) (tally pre) (receive c (b ∷ bs)) (o .kept) .out)
-      ∙ ap (λ a. a .0) (call-taken F R before file (start .0) refl (start .1) (length s) (streamsOf s) sent (tally pre) c b bs post o .1)
+      ∙ ap (λ a. a .0) (call-taken F R before (start .0) (length s) (streamsOf s) sent (tally pre) c b bs post o .1)
 
-  guess-until : (pre post : List Call) → OnWay pre post → 0 < offered post → verdictOf (after w pre) ≡ guess
-  guess-until pre post o h =
+  shown : (pre post : List Call) → OnWay pre post → verdictOf (after w pre) ≡ verdict (tally pre)
+  shown pre post o = ap verdictOf (after-is pre) ∙ verdict-is F R before file (tally pre) (o .kept)
+
+  shown-guess : (pre post : List Call) → OnWay pre post → 0 < offered post → verdictOf (after w pre) ≡ guess
+  shown-guess pre post o h =
       let p = some-offered post h in
-      after-list pre .guess-is .1 (o .clean, incomplete F R before file (start .0) refl (start .1) (length s) (streamsOf s) sent (tally pre) post (p .0) (p .1) (p .2 .0) o (p .2 .1))
+      shown pre post o ∙ guess-still F R before (start .0) (length s) (streamsOf s) sent (tally pre) post (p .0) (p .1) (p .2 .0) o (p .2 .1)
 
-  result-then : (pre post : List Call) → OnWay pre post → offered post ≡ 0 → verdictOf (after w pre) ≡ result
-  result-then pre post o h =
-      after-list pre .result-is .1 (o .clean, complete F R before file (start .0) refl (start .1) (length s) (streamsOf s) sent (tally pre) post o (none-offered post h))
+  shown-result : (pre post : List Call) → OnWay pre post → offered post ≡ 0 → verdictOf (after w pre) ≡ result
+  shown-result pre post o h = shown pre post o ∙ result-then F R before (start .0) (length s) (streamsOf s) sent (tally pre) post o (none-offered post h)
 
   -- ---- the file
 
@@ -99,9 +97,13 @@ module _ (w : World) (file : List ℕ) (R : ℕ) (before : Pairs) (begun : Begun
 
   file-sent : File ≡ placed (sentBlocks s) file
   file-sent =
-      after-list ks .file-is
-      ∙ ap (λ ss. placed (blocksOf ss) file) (all-there F R before file (start .0) refl (start .1) (length s) (streamsOf s) sent (tally ks) [] (way ks [] (sym (append-nil ks))) (λ c. unfold piecesOn in refl))
+      ap (λ v. v .lent .file) (after-is ks)
+      ∙ as-placed
+      ∙ ap (λ ss. placed (blocksOf ss) file) (all-there F R before (start .0) (length s) (streamsOf s) sent (tally ks) [] (way ks [] (sym (append-nil ks))) (λ c. unfold piecesOn in refl))
       ∙ placed-sent F s file (wf .each) (wf .once) (λ q. omega (arith, wf .apart q))
+    where
+      as-placed : worldOf F R before file (tally ks) .lent .file ≡ placed (blocksOf (tally ks .streams)) file
+      as-placed = unfold worldOf in refl
 
   blocks : SentBlocks F (sentBlocks s)
   blocks = sent-all F s (wf .each)
@@ -114,8 +116,8 @@ module _ (w : World) (file : List ℕ) (R : ℕ) (before : Pairs) (begun : Begun
   all-of-it =
       record {
         all-taken = λ pre post c b bs e. taken-whole pre post c b bs (way pre (receive c (b ∷ bs) ∷ post) e);
-        shows-guess = λ pre post e h. guess-until pre post (way pre post e) (omega (arith, h, ap offered e, offered-append pre post));
-        shows-result = λ pre post e h. result-then pre post (way pre post e) (omega (arith, h, ap offered e, offered-append pre post));
+        shows-guess = λ pre post e h. shown-guess pre post (way pre post e) (omega (arith, h, ap offered e, offered-append pre post));
+        shows-result = λ pre post e h. shown-result pre post (way pre post e) (omega (arith, h, ap offered e, offered-append pre post));
         file-is = file-sent;
         payloads-stand = whole-stand File (sentBlocks s) (sent-whole F (sentBlocks s) blocks) at-place;
         rest-stays = λ p h. ap (λ f. getD f p 0) file-sent ∙ none-placed p (sentBlocks s) file h;

@@ -8,7 +8,7 @@ use native.Mathlib.Omega.{arith}
 use native.Mathlib.Decide.{ℕ-discrete}
 use borrow.Author.Tests.{lt-ltb, le-ltb, eq-eqb, ne-eqb}
 use lib.Dec.{ltb, eqb}
-use lib.ListN.{length, getD, set, length-append}
+use lib.ListN.{length, getD, set}
 use Rattle.ledger.specs.Pairs.{Pairs, size, hit, holds, Ruled, join, shares}
 use Rattle.ledger.proofs.Shared.{none-shares}
 use Rattle.eblock.specs.Descriptor.{faultOf}
@@ -24,14 +24,14 @@ use Rattle.transfer.proofs.Claimed.{hitBy, claims-ruled, claims-holds}
 use Rattle.transfer.proofs.Counted.{sum-counts}
 use Rattle.transfer.proofs.Cuts.{Done, cuts-header, cuts-payload}
 use Rattle.transfer.proofs.Shapes.{Shape, no-byte, in-header, in-payload, at-end, Proper}
-use Rattle.transfer.proofs.Streams.{proper-at}
+use Rattle.transfer.proofs.Streams.{streamIn, proper-at}
 use Rattle.transfer.proofs.Asked.{faultless}
 use Rattle.transfer.proofs.Invariant.{sound-at, Invariant}
 use Rattle.transfer.proofs.Follows.{stream-now}
 use Rattle.transfer.proofs.Accepts.{new, claims-are, sum-is, sized, joins}
 use Rattle.transfer.proofs.Parts.{FirstOf, Part}
 use Rattle.transfer.proofs.Sendable.{Sendable}
-use Rattle.transfer.proofs.Underway.{Underway, part-at, apart, room, counts-are, known-is, used-most, on-channel, not-ended, ended-below, used-below, one-more}
+use Rattle.transfer.proofs.Underway.{Underway, part-at, apart, room, counts-are, known-is, used-most, on-channel, ended-below, used-below, one-more}
 
 -- a header that has come is one that was sent
 first-sent : (F : ℕ) (done : List Block) (x : Block) (ys : List Block) → SentBlocks F ys → FirstOf (done ++ (x ∷ [])) ys
@@ -47,7 +47,7 @@ Takes y next m = (y ≡ goes next) ⊎ ((y ≡ stops next) × (m ≡ []))
 
 module _ (F R : ℕ) (before : Pairs) (ruled : Ruled 0 before) (n : ℕ) (all : List Stream) (sent : Sendable F R before n all) where
   module _ (t : Tally) (c b : ℕ) (m : List ℕ) (i : Invariant F R before t) (z : t .fault ≡ 0) (u : Underway F R before n all sent (t .streams))
-      (e : taken (streamAt t c) ++ b ∷ m ≡ taken (getD all c (sound []))) where
+      (e : taken (streamAt t c) ++ b ∷ m ≡ taken (streamIn all c)) where
     abbrev bs : List ℕ
     bs = taken (streamAt t c)
 
@@ -66,7 +66,7 @@ module _ (F R : ℕ) (before : Pairs) (ruled : Ruled 0 before) (n : ℕ) (all : 
     u′ : Underway F R before n all sent next
     u′ = one-more F R before n all sent (t .streams) u c b m e
 
-    part : Part (accepted (getD all c (sound []))) (accepted (getD next c (sound []))) m
+    part : Part (accepted (streamIn all c)) (accepted (streamIn next c)) m
     part = part-at F R before n all sent next c m (u′ .clean) (ap (λ s. taken s ++ m) now ∙ append-assoc bs (b ∷ []) m ∙ e)
 
     -- ---- fault 19, fault 20
@@ -103,8 +103,8 @@ module _ (F R : ℕ) (before : Pairs) (ruled : Ruled 0 before) (n : ℕ) (all : 
 
       fits : (faultOf (descriptorOf head) ≡ 0) × (0 < payloadLength head → thirdOf head + payloadLength head ≤ F)
       fits =
-          first-sent F done (block head []) (accepted (getD all c (sound []))) (sent .each c .each)
-          (subst (λ xs. FirstOf xs (accepted (getD all c (sound [])))) (ap accepted now ∙ new F R before [] ruled t c bs done r b i z k is d y v g .blocks) (part .first))
+          first-sent F done (block head []) (accepted (streamIn all c)) (sent .each c .each)
+          (subst (λ xs. FirstOf xs (accepted (streamIn all c))) (ap accepted now ∙ new F R before [] ruled t c bs done r b i z k is d y v g .blocks) (part .first))
 
       added : (w : Block → ℕ) → sum w (blocksOf next) ≡ w (block head []) + sum w (blocksOf (t .streams))
       added = sum-is F R before [] ruled t c bs done r b i z k is d y v g

@@ -7,7 +7,6 @@ use mathlib.Core.List.{List, [], _∷_, _++_, map}
 use native.Mathlib.Omega.{arith}
 use borrow.Author.Tests.{eq-eqb, ne-eqb}
 use lib.Dec.{eqb}
-use lib.ListN.{length}
 use Rattle.transfer.specs.Calls.{Call, receive}
 use Rattle.transfer.specs.Block.{flat}
 use Rattle.transfer.specs.Sending.{Life, bytesOn, piecesOn, Arrival, offered}

@@ -6,20 +6,20 @@ use mathlib.Core.Bool.{cond}
 use mathlib.Core.List.{List, [], _∷_, _++_}
 use native.Mathlib.Omega.{arith}
 use lib.Dec.{eqb}
-use lib.ListN.{length, getD, replicate}
+use lib.ListN.{length, replicate}
 use Rattle.ledger.specs.Pairs.{Pairs, size, holds}
 use Rattle.eblock.specs.Header.{countLimit, thirdOf}
 use Rattle.transfer.specs.Channel.{channelCount}
 use Rattle.transfer.specs.Transfer.{sum}
 use Rattle.transfer.specs.Header.{isCount}
 use Rattle.transfer.specs.Receive.{isSome}
-use Rattle.transfer.specs.Block.{Block, sizeOf, flat, cutBy, countsIn, hasEnd, placed}
+use Rattle.transfer.specs.Block.{Block, sizeOf, flat, cutBy, hasEnd, placed}
 use Rattle.transfer.specs.Tally.{Stream, sound, taken, accepted, blocksOf, countsOf, one, used, endedIn}
 use Rattle.transfer.specs.Sending.{Life, SentBlocks, SentLives, sentBlocks, nonEmpty, WellFormed}
 use Rattle.transfer.proofs.Claimed.{sum-append, hitBy, cover}
 use Rattle.transfer.proofs.Counted.{sum-counts, at-most-one}
 use Rattle.transfer.proofs.Placed.{placed-append, Bodies, bodies-append, bodies-left, placed-moved}
-use Rattle.transfer.proofs.Streams.{Split, split}
+use Rattle.transfer.proofs.Streams.{streamIn, Split, split}
 use Rattle.transfer.proofs.Invariant.{AllSound}
 use Rattle.transfer.proofs.Sendings.{streamsOf, number-all, sound-all, SentStream, accepted-life, each-all, Once, once-rest, alone, free, within, sum-all, used-most, ended-lives, sum-sent}
 
@@ -29,7 +29,7 @@ pub record Sendable (F R : ℕ) (before : Pairs) (n : ℕ) (all : List Stream) :
   pub clean : AllSound all
   pub some : 0 < n
   pub few : n ≤ countLimit
-  pub each : (c : ℕ) → SentStream F (getD all c (sound []))
+  pub each : (c : ℕ) → SentStream F (streamIn all c)
   pub used-most : used all ≤ n
   pub ended-are : endedIn all ≡ n
   pub counts-are : countsOf all ≡ n ∷ []
@@ -44,7 +44,7 @@ sendable F R before s w =
       some = w .some;
       few = w .few;
       each = each-all F s (w .each);
-      used-most = omega (arith, sum-all F (λ (s : Stream). one (isSome (taken s))) refl s (w .each) (w .once), used-most F s);
+      used-most = omega (arith, sum-all F (λ (s : Stream). one (isSome (taken s))) refl s (w .each) (w .once), used-most s);
       ended-are = sum-all F (λ (s : Stream). one (hasEnd (accepted s))) (unfold accepted cutBy hasEnd in refl) s (w .each) (w .once) ∙ ended-lives F s (w .each);
       counts-are = one-count (at-most-one (length s) (countsOf (streamsOf s)) (λ f. omega (arith, added f)));
       apart = λ q. omega (arith, w .apart q, sum-sent F (hitBy q) s (w .each) (w .once));
@@ -67,7 +67,7 @@ pub sent-bodies : (F : ℕ) (xs : List Block) → SentBlocks F xs → Bodies xs
 sent-bodies F [] s = tt
 sent-bodies F (x ∷ xs) s = (omega (arith, s .0 .whole), sent-bodies F xs (s .1))
 
-bodies-all : (F : ℕ) (ss : List Stream) → ((c : ℕ) → SentStream F (getD ss c (sound []))) → Bodies (blocksOf ss)
+bodies-all : (F : ℕ) (ss : List Stream) → ((c : ℕ) → SentStream F (streamIn ss c)) → Bodies (blocksOf ss)
 unfolding blocksOf
 bodies-all F [] h = tt
 bodies-all F (s ∷ ss) h = bodies-append (accepted s) (blocksOf ss) (sent-bodies F (accepted s) (h 0 .each)) (bodies-all F ss (λ c. h (suc c)))

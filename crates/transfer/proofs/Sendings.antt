@@ -1,5 +1,5 @@
 -- The streams that all bytes of a sending make: each channel's, and numbers added up over all of them.
-use Prim.Native.Nat.{ℕ, zero, suc, _+_, _≤_, _<_}
+use Prim.Native.Nat.{ℕ, zero, suc, _≤_, _<_}
 use mathlib.Core.Path.{_≡_, refl, sym, ap, _∙_, subst}
 use mathlib.Core.Bool.{Bool, true, false, cond}
 use mathlib.Core.List.{List, [], _∷_, _++_, append-nil}
@@ -7,7 +7,7 @@ use native.Mathlib.Omega.{arith}
 use native.Mathlib.Decide.{ℕ-discrete}
 use borrow.Author.Tests.{eq-eqb, ne-eqb}
 use lib.Dec.{eqb}
-use lib.ListN.{length, getD, set, replicate, length-set, length-replicate}
+use lib.ListN.{length, set, replicate, length-set, length-replicate}
 use lib.Seq.{getD-set-same, getD-set-other}
 use Rattle.transfer.specs.Channel.{channelCount}
 use Rattle.transfer.specs.Transfer.{sum}
@@ -16,7 +16,7 @@ use Rattle.transfer.specs.Block.{Block, flat, cutBy, hasEnd}
 use Rattle.transfer.specs.Tally.{Stream, sound, taken, accepted, blocksOf, one}
 use Rattle.transfer.specs.Sending.{Life, SentBlocks, SentLife, SentLives, sentBlocks, livesOn, bytesOn}
 use Rattle.transfer.proofs.Claimed.{sum-append}
-use Rattle.transfer.proofs.Streams.{sum-set, sum-blocks}
+use Rattle.transfer.proofs.Streams.{streamIn, sum-set, sum-blocks}
 use Rattle.transfer.proofs.Invariant.{AllSound, sound-set}
 use Rattle.transfer.proofs.Begins.{sound-empty}
 use Rattle.transfer.proofs.Parts.{Ending, ends-ending, sent-ends, cut-flat}
@@ -56,20 +56,20 @@ sent-life F x l =
     let e = accepted-life F x l in
     record { each = rw e (l .each); ends = rw e (ends-ending (x .blocks) (l .ends)); bytes = rw e }
 
-pub none-at : (n c : ℕ) → getD (replicate n (sound [])) c (sound []) ≡ sound []
+pub none-at : (n c : ℕ) → streamIn (replicate n (sound [])) c ≡ sound []
 none-at zero c = refl
 none-at (suc n) zero = refl
 none-at (suc n) (suc c) = none-at n c
 
 -- what holds of the old and of the new holds after a change
-at-set : (P : Stream → Type 0) (ss : List Stream) (c d : ℕ) (s : Stream) → P s → P (getD ss d (sound [])) → P (getD (set ss c s) d (sound []))
+at-set : (P : Stream → Type 0) (ss : List Stream) (c d : ℕ) (s : Stream) → P s → P (streamIn ss d) → P (streamIn (set ss c s) d)
 at-set P [] c d s p q = q
 at-set P (x ∷ ss) zero zero s p q = p
 at-set P (x ∷ ss) zero (suc d) s p q = q
 at-set P (x ∷ ss) (suc c) zero s p q = q
 at-set P (x ∷ ss) (suc c) (suc d) s p q = at-set P ss c d s p q
 
-pub each-all : (F : ℕ) (s : List Life) → SentLives F s → (c : ℕ) → SentStream F (getD (streamsOf s) c (sound []))
+pub each-all : (F : ℕ) (s : List Life) → SentLives F s → (c : ℕ) → SentStream F (streamIn (streamsOf s) c)
 unfolding streamsOf
 each-all F [] l c = subst (SentStream F) (sym (none-at channelCount c)) (sent-none F)
 each-all F (x ∷ s) l c = at-set (SentStream F) (streamsOf s) (x .number) c (sound (flat (x .blocks))) (sent-life F x (l .0)) (each-all F s (l .1) c)
@@ -87,54 +87,54 @@ pub alone : (x : Life) (s : List Life) → Once (x ∷ s) → livesOn (x .number
 unfolding sum
 alone x s o = omega (arith, rw (eq-eqb (x .number) (x .number) refl) at (o (x .number)))
 
-pub free : (c : ℕ) (s : List Life) → livesOn c s ≡ 0 → getD (streamsOf s) c (sound []) ≡ sound []
+pub free : (c : ℕ) (s : List Life) → livesOn c s ≡ 0 → streamIn (streamsOf s) c ≡ sound []
 unfolding streamsOf sum
 free c [] h = none-at channelCount c
 free c (x ∷ s) h = go (ℕ-discrete (x .number) c) (λ z. free c s z)
   where
-    go : Dec (x .number ≡ c) → (livesOn c s ≡ 0 → getD (streamsOf s) c (sound []) ≡ sound []) → getD (set (streamsOf s) (x .number) (sound (flat (x .blocks)))) c (sound []) ≡ sound []
+    go : Dec (x .number ≡ c) → (livesOn c s ≡ 0 → streamIn (streamsOf s) c ≡ sound []) → streamIn (set (streamsOf s) (x .number) (sound (flat (x .blocks)))) c ≡ sound []
     go (yes e) i = absurd (omega (arith, rw (eq-eqb (x .number) c e) at h))
     go (no e) i = getD-set-other (streamsOf s) (x .number) c (sound (flat (x .blocks))) (sound []) (λ q. e (sym q)) ∙ i (omega (arith, h))
+
+sum-none : (f : Stream → ℕ) → f (sound []) ≡ 0 → (n : ℕ) → sum f (replicate n (sound [])) ≡ 0
+unfolding sum
+sum-none f z zero = refl
+sum-none f z (suc n) = omega (arith, z, sum-none f z n)
+
+pub used-most : (s : List Life) → sum (λ (x : Life). one (isSome (flat (x .blocks)))) s ≤ length s
+unfolding sum
+used-most [] = omega arith
+used-most (x ∷ s) = omega (arith, used-most s, most (isSome (flat (x .blocks))))
+  where
+    most : (b : Bool) → one b ≤ 1
+    most true = omega arith
+    most false = omega arith
 
 module _ (F : ℕ) where
   pub within : (x : Life) (s : List Life) → SentLives F (x ∷ s) → x .number < length (streamsOf s)
   within x s l = omega (arith, l .0 .channel, number-all s)
 
-  pub bytes-all : (s : List Life) → SentLives F s → Once s → (c : ℕ) → taken (getD (streamsOf s) c (sound [])) ≡ bytesOn c s
+  pub bytes-all : (s : List Life) → SentLives F s → Once s → (c : ℕ) → taken (streamIn (streamsOf s) c) ≡ bytesOn c s
   unfolding streamsOf bytesOn
   bytes-all [] l o c = ap taken (none-at channelCount c)
   bytes-all (x ∷ s) l o c = go (ℕ-discrete (x .number) c) (bytes-all s (l .1) (once-rest x s o) c)
     where
-      go : Dec (x .number ≡ c) → taken (getD (streamsOf s) c (sound [])) ≡ bytesOn c s
-          → taken (getD (set (streamsOf s) (x .number) (sound (flat (x .blocks)))) c (sound [])) ≡ cond (eqb (x .number) c) (flat (x .blocks) ++ bytesOn c s) (bytesOn c s)
+      go : Dec (x .number ≡ c) → taken (streamIn (streamsOf s) c) ≡ bytesOn c s
+          → taken (streamIn (set (streamsOf s) (x .number) (sound (flat (x .blocks)))) c) ≡ cond (eqb (x .number) c) (flat (x .blocks) ++ bytesOn c s) (bytesOn c s)
       go (yes e) i =
-          let none : bytesOn c s ≡ [] = sym i ∙ ap (λ d. taken (getD (streamsOf s) d (sound []))) (sym e) ∙ ap taken (free (x .number) s (alone x s o)) in
+          let none : bytesOn c s ≡ [] = sym i ∙ ap (λ d. taken (streamIn (streamsOf s) d)) (sym e) ∙ ap taken (free (x .number) s (alone x s o)) in
           let here = getD-set-same (streamsOf s) (x .number) (sound (flat (x .blocks))) (sound []) (within x s l) in
           rw (eq-eqb (x .number) c e, none)
-          (ap (λ d. taken (getD (set (streamsOf s) (x .number) (sound (flat (x .blocks)))) d (sound []))) (sym e) ∙ ap taken here ∙ sym (append-nil (flat (x .blocks))))
+          (ap (λ d. taken (streamIn (set (streamsOf s) (x .number) (sound (flat (x .blocks)))) d)) (sym e) ∙ ap taken here ∙ sym (append-nil (flat (x .blocks))))
       go (no e) i = rw (ne-eqb (x .number) c e) (ap taken (getD-set-other (streamsOf s) (x .number) c (sound (flat (x .blocks))) (sound []) (λ q. e (sym q))) ∙ i)
 
   -- ---- sums
-
-  sum-none : (f : Stream → ℕ) → f (sound []) ≡ 0 → (n : ℕ) → sum f (replicate n (sound [])) ≡ 0
-  unfolding sum
-  sum-none f z zero = refl
-  sum-none f z (suc n) = omega (arith, z, sum-none f z n)
 
   pub sum-all : (f : Stream → ℕ) → f (sound []) ≡ 0 → (s : List Life) → SentLives F s → Once s → sum f (streamsOf s) ≡ sum (λ (x : Life). f (sound (flat (x .blocks)))) s
   unfolding sum streamsOf
   sum-all f z [] l o = sum-none f z channelCount
   sum-all f z (x ∷ s) l o =
       omega (arith, z, ap f (free (x .number) s (alone x s o)), sum-set f (streamsOf s) (x .number) (sound (flat (x .blocks))) (within x s l), sum-all f z s (l .1) (once-rest x s o))
-
-  pub used-most : (s : List Life) → sum (λ (x : Life). one (isSome (flat (x .blocks)))) s ≤ length s
-  unfolding sum
-  used-most [] = omega arith
-  used-most (x ∷ s) = omega (arith, used-most s, most (isSome (flat (x .blocks))))
-    where
-      most : (b : Bool) → one b ≤ 1
-      most true = omega arith
-      most false = omega arith
 
   pub ended-lives : (s : List Life) → SentLives F s → sum (λ (x : Life). one (hasEnd (accepted (sound (flat (x .blocks)))))) s ≡ length s
   unfolding sum

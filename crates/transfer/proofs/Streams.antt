@@ -13,6 +13,10 @@ use Rattle.transfer.proofs.Placed.{Bodies, bodies-append}
 use Rattle.transfer.specs.View.{view}
 use Rattle.transfer.proofs.Shapes.{no-byte, Proper, kind, kind-bodies}
 
+-- the stream of channel c
+abbrev pub streamIn : List Stream → ℕ → Stream
+streamIn ss c = getD ss c (sound [])
+
 abbrev pub AllProper : List Stream → Type 0
 AllProper [] = Unit
 AllProper (s ∷ ss) = Proper s × AllProper ss

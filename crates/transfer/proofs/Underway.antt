@@ -20,14 +20,11 @@ use Rattle.transfer.specs.Tally.{Stream, sound, taken, accepted, blocksO
 use Rattle.transfer.specs.Sending.{SentBlocks}
 use Rattle.transfer.proofs.Claimed.{cover, claims-size}
 use Rattle.transfer.proofs.Counted.{sum-counts, at-most-one}
-use Rattle.transfer.proofs.Streams.{sum-blocks, sum-le, sum-lt}
+use Rattle.transfer.proofs.Streams.{streamIn, sum-blocks, sum-le, sum-lt}
 use Rattle.transfer.proofs.Invariant.{AllSound, sound-at, sound-set}
 use Rattle.transfer.proofs.Follows.{isSome-append}
 use Rattle.transfer.proofs.Parts.{Ending, sent-ends, first-sum, Part, first-part}
 use Rattle.transfer.proofs.Sendable.{Sendable}
-
-abbrev pub at : List Stream → ℕ → Stream
-at ss c = getD ss c (sound [])
 
 some-part : (bs m l : List ℕ) → bs ++ m ≡ l → one (isSome bs) ≤ one (isSome l)
 some-part [] m l e = omega arith
@@ -37,19 +34,19 @@ module _ (F R : ℕ) (before : Pairs) (n : ℕ) (all : List Stream) (sent : Send
   pub record Underway (ss : List Stream) : Type 0 where
     pub number : length ss ≡ channelCount
     pub clean : AllSound ss
-    pub to-come : (c : ℕ) → (m : List ℕ) × (taken (at ss c) ++ m ≡ taken (at all c))
+    pub to-come : (c : ℕ) → (m : List ℕ) × (taken (streamIn ss c) ++ m ≡ taken (streamIn all c))
 
-  pub part-at : (ss : List Stream) (c : ℕ) (m : List ℕ) → AllSound ss → taken (at ss c) ++ m ≡ taken (at all c) → Part (accepted (at all c)) (accepted (at ss c)) m
+  pub part-at : (ss : List Stream) (c : ℕ) (m : List ℕ) → AllSound ss → taken (streamIn ss c) ++ m ≡ taken (streamIn all c) → Part (accepted (streamIn all c)) (accepted (streamIn ss c)) m
   unfolding accepted
   part-at ss c m k h =
-      let a : accepted (at ss c) ≡ cut (taken (at ss c)) = ap accepted (sound-at ss c k) in
-      rw a (first-part F (accepted (at all c)) (taken (at ss c)) m (length (taken (at ss c))) (sent .each c .each) (sent .each c .ends) (h ∙ sent .each c .bytes) (omega arith))
+      let a : accepted (streamIn ss c) ≡ cut (taken (streamIn ss c)) = ap accepted (sound-at ss c k) in
+      rw a (first-part F (accepted (streamIn all c)) (taken (streamIn ss c)) m (length (taken (streamIn ss c))) (sent .each c .each) (sent .each c .ends) (h ∙ sent .each c .bytes) (omega arith))
 
   module _ (ss : List Stream) (u : Underway ss) where
     same-number : length ss ≡ length all
     same-number = u .number ∙ sym (sent .number)
 
-    part : (c : ℕ) → Part (accepted (at all c)) (accepted (at ss c)) (u .to-come c .0)
+    part : (c : ℕ) → Part (accepted (streamIn all c)) (accepted (streamIn ss c)) (u .to-come c .0)
     part c = part-at ss c (u .to-come c .0) (u .clean) (u .to-come c .1)
 
     -- a number of each header, added up
@@ -59,7 +56,7 @@ module _ (F R : ℕ) (before : Pairs) (n : ℕ) (all : List Stream) (sent : Send
           arith,
           sum-blocks (λ (x : Block). v (x .head)) ss,
           sum-blocks (λ (x : Block). v (x .head)) all,
-          sum-le (λ (s : Stream). sum (λ (x : Block). v (x .head)) (accepted s)) ss all same-number (λ c. first-sum v (accepted (at ss c)) (accepted (at all c)) (part c .first)),
+          sum-le (λ (s : Stream). sum (λ (x : Block). v (x .head)) (accepted s)) ss all same-number (λ c. first-sum v (accepted (streamIn ss c)) (accepted (streamIn all c)) (part c .first)),
         )
 
     pub apart : (q : ℕ) → cover q (blocksOf ss) + holds q before ≤ 1
@@ -81,45 +78,45 @@ module _ (F R : ℕ) (before : Pairs) (n : ℕ) (all : List Stream) (sent : Send
         go (inl e) = inl (ap (λ cs. getD cs 0 0) e)
         go (inr e) = inr (ap (λ cs. getD cs 0 0) e)
 
-    used-each : (c : ℕ) → one (isSome (taken (at ss c))) ≤ one (isSome (taken (at all c)))
-    used-each c = some-part (taken (at ss c)) (u .to-come c .0) (taken (at all c)) (u .to-come c .1)
+    used-each : (c : ℕ) → one (isSome (taken (streamIn ss c))) ≤ one (isSome (taken (streamIn all c)))
+    used-each c = some-part (taken (streamIn ss c)) (u .to-come c .0) (taken (streamIn all c)) (u .to-come c .1)
 
     pub used-most : used ss ≤ n
     used-most = omega (arith, sent .used-most, sum-le (λ (s : Stream). one (isSome (taken s))) ss all same-number used-each)
 
-    ended-each : (c : ℕ) → one (hasEnd (accepted (at ss c))) ≤ one (hasEnd (accepted (at all c)))
-    ended-each c = go (hasEnd (accepted (at ss c))) refl
+    ended-each : (c : ℕ) → one (hasEnd (accepted (streamIn ss c))) ≤ one (hasEnd (accepted (streamIn all c)))
+    ended-each c = go (hasEnd (accepted (streamIn ss c))) refl
       where
-        go : (b : Bool) → hasEnd (accepted (at ss c)) ≡ b → one b ≤ one (hasEnd (accepted (at all c)))
+        go : (b : Bool) → hasEnd (accepted (streamIn ss c)) ≡ b → one b ≤ one (hasEnd (accepted (streamIn all c)))
         go false e = omega arith
         go true e = omega (arith, ap one (sym (ap hasEnd (part c .whole (part c .ended-last e))) ∙ e))
 
     -- ---- a channel with a byte to come
 
-    module _ (c b : ℕ) (m : List ℕ) (e : taken (at ss c) ++ b ∷ m ≡ taken (at all c)) where
+    module _ (c b : ℕ) (m : List ℕ) (e : taken (streamIn ss c) ++ b ∷ m ≡ taken (streamIn all c)) where
       pub on-channel : c < channelCount
       on-channel = go (decLt c channelCount)
         where
           go : Dec (c < channelCount) → c < channelCount
           go (yes h) = h
           go (no h) =
-              let none : at all c ≡ sound [] = List·getD-eq-default all (sound []) {n = c} (omega (arith, sent .number)) in
-              absurd (omega (arith, ap length (e ∙ ap taken none), length-append (taken (at ss c)) (b ∷ m)))
+              let none : streamIn all c ≡ sound [] = List·getD-eq-default all (sound []) {n = c} (omega (arith, sent .number)) in
+              absurd (omega (arith, ap length (e ∙ ap taken none), length-append (taken (streamIn ss c)) (b ∷ m)))
 
-      pub not-ended : hasEnd (accepted (at ss c)) ≡ false
-      not-ended = go (hasEnd (accepted (at ss c))) refl
+      pub not-ended : hasEnd (accepted (streamIn ss c)) ≡ false
+      not-ended = go (hasEnd (accepted (streamIn ss c))) refl
         where
-          go : (v : Bool) → hasEnd (accepted (at ss c)) ≡ v → v ≡ false
+          go : (v : Bool) → hasEnd (accepted (streamIn ss c)) ≡ v → v ≡ false
           go false h = refl
           go true h = absurd (omega (arith, ap length (part-at ss c (b ∷ m) (u .clean) e .ended-last h)))
 
-      ends-later : hasEnd (accepted (at all c)) ≡ true
-      ends-later = go (accepted (at all c)) (sent .each c .each) (sent .each c .ends) (e ∙ sent .each c .bytes)
+      ends-later : hasEnd (accepted (streamIn all c)) ≡ true
+      ends-later = go (accepted (streamIn all c)) (sent .each c .each) (sent .each c .ends) (e ∙ sent .each c .bytes)
         where
-          go : (xs : List Block) → SentBlocks F xs → Ending xs → taken (at ss c) ++ b ∷ m ≡ flat xs → hasEnd xs ≡ true
+          go : (xs : List Block) → SentBlocks F xs → Ending xs → taken (streamIn ss c) ++ b ∷ m ≡ flat xs → hasEnd xs ≡ true
           go [] s z h =
               let none : flat [] ≡ [] = unfold flat in refl in
-              absurd (omega (arith, ap length (h ∙ none), length-append (taken (at ss c)) (b ∷ m)))
+              absurd (omega (arith, ap length (h ∙ none), length-append (taken (streamIn ss c)) (b ∷ m)))
           go (x ∷ xs) s z h = sent-ends F (x ∷ xs) s z
 
       here : c < length ss
@@ -129,20 +126,20 @@ module _ (F R : ℕ) (before : Pairs) (n : ℕ) (all : List Stream) (sent : Send
       ended-below =
           omega (arith, sent .ended-are, sum-lt (λ (s : Stream). one (hasEnd (accepted s))) ss all c here same-number ended-each (omega (arith, ap one not-ended, ap one ends-later)))
 
-      pub used-below : isSome (taken (at ss c)) ≡ false → used ss < n
+      pub used-below : isSome (taken (streamIn ss c)) ≡ false → used ss < n
       used-below h =
-          let some = some-part (taken (at ss c) ++ b ∷ []) m (taken (at all c)) (append-assoc (taken (at ss c)) (b ∷ []) m ∙ e) in
-          omega (arith, sent .used-most, sum-lt (λ (s : Stream). one (isSome (taken s))) ss all c here same-number used-each (omega (arith, ap one h, some, ap one (isSome-append (taken (at ss c)) b))))
+          let some = some-part (taken (streamIn ss c) ++ b ∷ []) m (taken (streamIn all c)) (append-assoc (taken (streamIn ss c)) (b ∷ []) m ∙ e) in
+          omega (arith, sent .used-most, sum-lt (λ (s : Stream). one (isSome (taken s))) ss all c here same-number used-each (omega (arith, ap one h, some, ap one (isSome-append (taken (streamIn ss c)) b))))
 
       -- with that byte
-      pub one-more : Underway (set ss c (sound (taken (at ss c) ++ b ∷ [])))
+      pub one-more : Underway (set ss c (sound (taken (streamIn ss c) ++ b ∷ [])))
       one-more =
           record {
-            number = length-set ss c (sound (taken (at ss c) ++ b ∷ [])) ∙ u .number;
-            clean = sound-set ss c (taken (at ss c) ++ b ∷ []) (u .clean);
+            number = length-set ss c (sound (taken (streamIn ss c) ++ b ∷ [])) ∙ u .number;
+            clean = sound-set ss c (taken (streamIn ss c) ++ b ∷ []) (u .clean);
             to-come = λ d. left d (ℕ-discrete d c);
           }
         where
-          left : (d : ℕ) → Dec (d ≡ c) → (l : List ℕ) × (taken (at (set ss c (sound (taken (at ss c) ++ b ∷ []))) d) ++ l ≡ taken (at all d))
-          left d (yes p) = (m, rw p (rw (getD-set-same ss c (sound (taken (at ss c) ++ b ∷ [])) (sound []) here) (append-assoc (taken (at ss c)) (b ∷ []) m ∙ e)))
-          left d (no p) = (u .to-come d .0, rw (getD-set-other ss c d (sound (taken (at ss c) ++ b ∷ [])) (sound []) p) (u .to-come d .1))
+          left : (d : ℕ) → Dec (d ≡ c) → (l : List ℕ) × (taken (streamIn (set ss c (sound (taken (streamIn ss c) ++ b ∷ []))) d) ++ l ≡ taken (streamIn all d))
+          left d (yes p) = (m, rw p (rw (getD-set-same ss c (sound (taken (streamIn ss c) ++ b ∷ [])) (sound []) here) (append-assoc (taken (streamIn ss c)) (b ∷ []) m ∙ e)))
+          left d (no p) = (u .to-come d .0, rw (getD-set-other ss c d (sound (taken (streamIn ss c) ++ b ∷ [])) (sound []) p) (u .to-come d .1))

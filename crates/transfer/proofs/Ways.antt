@@ -1,50 +1,46 @@
--- A tally on the way through an arrival: every byte is taken, and the count is complete where no byte is to come and only there.
-use Prim.Native.Nat.{ℕ, suc, _+_, _≤_, _<_}
+-- A tally on the way through an arrival: every byte is taken, and the verdict is GUESS while a byte is to come, then RESULT.
+use Prim.Native.Nat.{ℕ, suc, _+_, _<_}
 use mathlib.Core.Path.{_≡_, refl, sym, ap, _∙_, subst}
 use mathlib.Core.Logic.{_⊎_, inl, inr}
-use mathlib.Core.Bool.{Bool, true, false, cond}
+use mathlib.Core.Bool.{Bool, true, false, cond, _&&_}
 use mathlib.Core.List.{List, [], _∷_, _++_, append-assoc, append-nil}
 use native.Mathlib.Omega.{arith}
 use native.Mathlib.Decide.{ℕ-discrete}
-use borrow.Author.Tests.{lt-leb}
-use lib.Dec.{ltb}
-use lib.ListN.{length, getD}
+use borrow.Author.Tests.{lt-leb, le-ltb, eq-eqb, ne-eqb}
+use lib.Dec.{ltb, eqb}
+use lib.ListN.{length}
 use lib.Seq.{getD-set-other, ext-getD}
 use Rattle.ledger.specs.Pairs.{Pairs, Ruled}
 use Rattle.transfer.specs.Channel.{channelCount}
-use Rattle.transfer.specs.Transfer.{guess}
-use Rattle.transfer.specs.Receive.{Took, goes, stops, byteOf, Answer, refused, took, bytesBy, isSome, isEnded}
-use Rattle.transfer.specs.Fit.{pairLimit}
+use Rattle.transfer.specs.Transfer.{guess, result}
+use Rattle.transfer.specs.Receive.{Took, stops, byteOf, Answer, refused, took, bytesBy, isSome}
 use Rattle.transfer.specs.Calls.{Call, receive, runBy}
 use Rattle.transfer.specs.Block.{hasEnd}
-use Rattle.transfer.specs.Tally.{Tally, Stream, sound, taken, accepted, countsOf, endedIn, verdict, empty, streamAt, withStream, byteOf as tallyByteOf, refusalOf, callOf}
-use Rattle.transfer.specs.AfterList.{Complete}
+use Rattle.transfer.specs.Tally.{Tally, Stream, sound, taken, accepted, countsOf, known, endedIn, verdict, empty, streamAt, withStream, byteOf as tallyByteOf, refusalOf, callOf}
 use Rattle.transfer.specs.View.{view}
 use Rattle.transfer.specs.Sending.{piecesOn}
 use Rattle.transfer.proofs.Rowed.{goes-on, stops-there}
 use Rattle.transfer.proofs.Counted.{append-nothing}
 use Rattle.transfer.proofs.Shapes.{kind, kind-ended}
-use Rattle.transfer.proofs.Streams.{proper-at}
+use Rattle.transfer.proofs.Streams.{streamIn, proper-at}
 use Rattle.transfer.proofs.States.{worldOf}
 use Rattle.transfer.proofs.Invariant.{sound-at, Invariant}
 use Rattle.transfer.proofs.Follows.{Follows, both-go, both-stop, both-leave, stream-now}
 use Rattle.transfer.proofs.Steps.{step}
-use Rattle.transfer.proofs.Runs.{verdict-is}
-use Rattle.transfer.proofs.AfterLists.{after-tally}
 use Rattle.transfer.proofs.Sendings.{none-at}
 use Rattle.transfer.proofs.Sendable.{Sendable}
 use Rattle.transfer.proofs.Underway.{Underway, counts-are, on-channel, not-ended, ended-below}
 use Rattle.transfer.proofs.Faultless.{Takes, takes-byte}
 use Rattle.transfer.proofs.Offered.{pieces-here, pieces-other, pieces-none}
 
-module _ (F R : ℕ) (before : Pairs) (file : List ℕ) (ruled : Ruled 0 before) (l : length file ≡ F) (r : R ≤ pairLimit) (n : ℕ) (all : List Stream) (sent : Sendable F R before n all) where
+module _ (F R : ℕ) (before : Pairs) (ruled : Ruled 0 before) (n : ℕ) (all : List Stream) (sent : Sendable F R before n all) where
   -- the calls ks are to come
   pub record Way (t : Tally) (ks : List Call) : Type 0 where
     pub clean : t .fault ≡ 0
     pub kept : Invariant F R before t
-    pub comes : (c : ℕ) → taken (streamAt t c) ++ piecesOn c ks ≡ taken (getD all c (sound []))
+    pub comes : (c : ℕ) → taken (streamAt t c) ++ piecesOn c ks ≡ taken (streamIn all c)
 
-  pub way-empty : (ks : List Call) → Invariant F R before empty → ((c : ℕ) → piecesOn c ks ≡ taken (getD all c (sound []))) → Way empty ks
+  pub way-empty : (ks : List Call) → Invariant F R before empty → ((c : ℕ) → piecesOn c ks ≡ taken (streamIn all c)) → Way empty ks
   unfolding empty
   way-empty ks i a = record { clean = refl; kept = i; comes = λ c. ap (λ s. taken s ++ piecesOn c ks) (none-at channelCount c) ∙ a c }
 
@@ -54,28 +50,31 @@ module _ (F R : ℕ) (before : Pairs) (file : List ℕ) (ruled : Ruled 0 before)
   underway : (t : Tally) (ks : List Call) → Way t ks → Underway F R before n all sent (t .streams)
   underway t ks w = record { number = w .kept .number; clean = w .kept .clean (w .clean); to-come = λ c. (piecesOn c ks, w .comes c) }
 
-  -- ---- complete or not
+  -- ---- the verdict
 
-  pub incomplete : (t : Tally) (ks : List Call) (c b : ℕ) (m : List ℕ) → Way t ks → piecesOn c ks ≡ b ∷ m → Complete t → ⊥
-  incomplete t ks c b m w e q = go (counts-are F R before n all sent (t .streams) (underway t ks w))
+  pub guess-still : (t : Tally) (ks : List Call) (c b : ℕ) (m : List ℕ) → Way t ks → piecesOn c ks ≡ b ∷ m → verdict t ≡ guess
+  unfolding verdict
+  guess-still t ks c b m w e = rw (le-ltb 0 (t .fault) (omega (arith, w .clean))) (go (counts-are F R before n all sent (t .streams) (underway t ks w)))
     where
       less : endedIn (t .streams) < n
       less = ended-below F R before n all sent (t .streams) (underway t ks w) c b m (ap (λ bs. taken (streamAt t c) ++ bs) (sym e) ∙ w .comes c)
 
-      go : (countsOf (t .streams) ≡ []) ⊎ (countsOf (t .streams) ≡ n ∷ []) → ⊥
-      go (inl h) = omega (arith, ap length (sym h ∙ q .1))
-      go (inr h) = omega (arith, less, q .2, ap (λ cs. getD cs 0 0) (sym h ∙ q .1))
+      go : (countsOf (t .streams) ≡ []) ⊎ (countsOf (t .streams) ≡ n ∷ [])
+          → cond (eqb (length (countsOf (t .streams))) 1 && eqb (endedIn (t .streams)) (known (t .streams))) result guess ≡ guess
+      go (inl h) = rw h
+      go (inr h) = rw (h, ne-eqb (endedIn (t .streams)) n (λ q. omega (arith, less)))
 
   pub all-there : (t : Tally) (ks : List Call) → Way t ks → ((c : ℕ) → piecesOn c ks ≡ []) → t .streams ≡ all
   all-there t ks w none =
       ext-getD (sound []) (t .streams) all (w .kept .number ∙ sym (sent .number))
       (λ c h. sound-at (t .streams) c (w .kept .clean (w .clean)) ∙ ap sound (same c) ∙ sym (sound-at all c (sent .clean)))
     where
-      same : (c : ℕ) → taken (streamAt t c) ≡ taken (getD all c (sound []))
+      same : (c : ℕ) → taken (streamAt t c) ≡ taken (streamIn all c)
       same c = sym (append-nil (taken (streamAt t c))) ∙ ap (λ bs. taken (streamAt t c) ++ bs) (sym (none c)) ∙ w .comes c
 
-  pub complete : (t : Tally) (ks : List Call) → Way t ks → ((c : ℕ) → piecesOn c ks ≡ []) → Complete t
-  complete t ks w none = subst (λ ss. (k : ℕ) × (countsOf ss ≡ k ∷ []) × (endedIn ss ≡ k)) (sym (all-there t ks w none)) (n, sent .counts-are, sent .ended-are)
+  pub result-then : (t : Tally) (ks : List Call) → Way t ks → ((c : ℕ) → piecesOn c ks ≡ []) → verdict t ≡ result
+  unfolding verdict
+  result-then t ks w none = rw (le-ltb 0 (t .fault) (omega (arith, w .clean)), all-there t ks w none, sent .counts-are, eq-eqb (endedIn all) n (sent .ended-are))
 
   -- ---- a byte
 
@@ -86,7 +85,7 @@ module _ (F R : ℕ) (before : Pairs) (file : List ℕ) (ruled : Ruled 0 before)
     u : Underway F R before n all sent (t .streams)
     u = underway t (receive c (b ∷ bs) ∷ ks) w
 
-    e : taken (streamAt t c) ++ b ∷ (bs ++ piecesOn c ks) ≡ taken (getD all c (sound []))
+    e : taken (streamAt t c) ++ b ∷ (bs ++ piecesOn c ks) ≡ taken (streamIn all c)
     e = ap (λ m. taken (streamAt t c) ++ m) (sym (pieces-here c (b ∷ bs) ks)) ∙ w .comes c
 
     k : c < channelCount
@@ -100,9 +99,9 @@ module _ (F R : ℕ) (before : Pairs) (file : List ℕ) (ruled : Ruled 0 before)
 
     kept-next : Invariant F R before next
     kept-next =
-        go (step F R before file ruled t c b (w .kept) (w .clean) k (sym (kind-ended (view (streamAt t c)) (accepted (streamAt t c)) (isSome (taken (streamAt t c))) (kind (streamAt t c) (proper-at (t .streams) c (w .kept .proper)))) ∙ alive)) takes
+        go (step F R before [] ruled t c b (w .kept) (w .clean) k (sym (kind-ended (view (streamAt t c)) (accepted (streamAt t c)) (isSome (taken (streamAt t c))) (kind (streamAt t c) (proper-at (t .streams) c (w .kept .proper)))) ∙ alive)) takes
       where
-        go : Follows F R before file t c (byteOf (worldOf F R before file t) c b) (tallyByteOf F R before t c b) → Takes (tallyByteOf F R before t c b) next (bs ++ piecesOn c ks) → Invariant F R before next
+        go : Follows F R before [] t c (byteOf (worldOf F R before [] t) c b) (tallyByteOf F R before t c b) → Takes (tallyByteOf F R before t c b) next (bs ++ piecesOn c ks) → Invariant F R before next
         go (both-go t′ y x i g z o) (inl q) = let p : t′ ≡ next = cc in subst (Invariant F R before) p i
         go (both-go t′ y x i g z o) (inr q) = let q′ : tallyByteOf F R before t c b ≡ stops next = q .0 in let v : _≡_ {A = ℕ} 0 1 = cc in absurd (omega arith)
         go (both-stop t′ y x i g) (inl q) = let v : _≡_ {A = ℕ} 0 1 = cc in absurd (omega arith)
@@ -113,7 +112,7 @@ module _ (F R : ℕ) (before : Pairs) (file : List ℕ) (ruled : Ruled 0 before)
     way-next : Way next (receive c bs ∷ ks)
     way-next = record { clean = w .clean; kept = kept-next; comes = λ d. go d (ℕ-discrete d c) }
       where
-        go : (d : ℕ) → Dec (d ≡ c) → taken (streamAt next d) ++ piecesOn d (receive c bs ∷ ks) ≡ taken (getD all d (sound []))
+        go : (d : ℕ) → Dec (d ≡ c) → taken (streamAt next d) ++ piecesOn d (receive c bs ∷ ks) ≡ taken (streamIn all d)
         go d (yes p) =
             rw p (rw (stream-now t c (sound (taken (streamAt t c) ++ b ∷ [])) (omega (arith, k, w .kept .number)), pieces-here c bs ks) (append-assoc (taken (streamAt t c)) (b ∷ []) (bs ++ piecesOn c ks) ∙ e))
         go d (no p) =
@@ -153,9 +152,7 @@ module _ (F R : ℕ) (before : Pairs) (file : List ℕ) (ruled : Ruled 0 before)
       (i .0, goes-through ∙ i .1 ∙ ap (λ j. (took j, i .0)) e, i .2)
     where
       guesses : verdict t ≡ guess
-      guesses =
-          sym (verdict-is F R before file t (w .kept))
-          ∙ after-tally F R before file ruled t l r (w .kept) .guess-is .1 (w .clean, incomplete t (receive c (b ∷ bs) ∷ ks) c b (bs ++ piecesOn c ks) w (pieces-here c (b ∷ bs) ks))
+      guesses = guess-still t (receive c (b ∷ bs) ∷ ks) c b (bs ++ piecesOn c ks) w (pieces-here c (b ∷ bs) ks)
 
       not-refused : refusalOf t c (b ∷ bs) ≡ 0
       not-refused = unfold refusalOf in rw (lt-leb channelCount c (k t c b bs ks w), guesses, alive t c b bs ks w)
