@@ -1,5 +1,5 @@
 -- A byte of a well-formed sending meets no fault.
-use Prim.Native.Nat.{ℕ, _+_, _≤_, _<_}
+use Prim.Native.Nat.{ℕ, suc, _+_, _≤_, _<_}
 use mathlib.Core.Path.{_≡_, refl, sym, ap, _∙_, subst}
 use mathlib.Core.Logic.{_⊎_, inl, inr}
 use mathlib.Core.Bool.{Bool, true, false, cond, _&&_, not}
@@ -8,7 +8,7 @@ use native.Mathlib.Omega.{arith}
 use native.Mathlib.Decide.{ℕ-discrete}
 use borrow.Author.Tests.{lt-ltb, le-ltb, eq-eqb, ne-eqb}
 use lib.Dec.{ltb, eqb}
-use lib.ListN.{length, getD, set}
+use lib.ListN.{length, getD}
 use Rattle.ledger.specs.Pairs.{Pairs, size, hit, holds, Ruled, join, shares}
 use Rattle.ledger.proofs.Shared.{none-shares}
 use Rattle.eblock.specs.Descriptor.{faultOf}
@@ -51,8 +51,8 @@ module _ (F R : ℕ) (before : Pairs) (ruled : Ruled 0 before) (n : ℕ) (all : 
     abbrev bs : List ℕ
     bs = taken (streamAt t c)
 
-    abbrev next : List Stream
-    next = set (t .streams) c (sound (bs ++ b ∷ []))
+    abbrev next : Tally
+    next = withStream t c (sound (bs ++ b ∷ []))
 
     k : c < channelCount
     k = on-channel F R before n all sent (t .streams) u c b m e
@@ -60,14 +60,14 @@ module _ (F R : ℕ) (before : Pairs) (ruled : Ruled 0 before) (n : ℕ) (all : 
     is : streamAt t c ≡ sound bs
     is = sound-at (t .streams) c (u .clean)
 
-    now : streamAt (withStream t c (sound (bs ++ b ∷ []))) c ≡ sound (bs ++ b ∷ [])
+    now : streamAt next c ≡ sound (bs ++ b ∷ [])
     now = stream-now t c (sound (bs ++ b ∷ [])) (omega (arith, k, u .number))
 
-    u′ : Underway F R before n all sent next
+    u′ : Underway F R before n all sent (next .streams)
     u′ = one-more F R before n all sent (t .streams) u c b m e
 
-    part : Part (accepted (streamIn all c)) (accepted (streamIn next c)) m
-    part = part-at F R before n all sent next c m (u′ .clean) (ap (λ s. taken s ++ m) now ∙ append-assoc bs (b ∷ []) m ∙ e)
+    part : Part (accepted (streamIn all c)) (accepted (streamAt next c)) m
+    part = part-at F R before n all sent (next .streams) c m (u′ .clean) (ap (λ s. taken s ++ m) now ∙ append-assoc bs (b ∷ []) m ∙ e)
 
     -- ---- fault 19, fault 20
 
@@ -78,20 +78,23 @@ module _ (F R : ℕ) (before : Pairs) (ruled : Ruled 0 before) (n : ℕ) (all : 
         go true v h = refl
         go false v (inl h) = rw (le-ltb 0 (known (t .streams)) (omega arith))
         go false v (inr h) =
-            rw (lt-ltb 0 (known (t .streams)) (omega (arith, sent .some)), ne-eqb (used (t .streams)) (known (t .streams)) (λ q. omega (arith, used-below F R before n all sent (t .streams) u c b m e v)))
+            let less = used-below F R before n all sent (t .streams) u c b m e v in
+            rw (lt-ltb 0 (known (t .streams)) (omega (arith, sent .some)), ne-eqb (used (t .streams)) (known (t .streams)) (λ q. omega (arith, less)))
 
-    no-twenty : (ltb 0 (known next) && eqb (endedIn (t .streams)) (known next)) ≡ false
-    no-twenty = go (known-is F R before n all sent next u′)
+    no-twenty : (ltb 0 (known (next .streams)) && eqb (endedIn (t .streams)) (known (next .streams))) ≡ false
+    no-twenty = go (known-is F R before n all sent (next .streams) u′)
       where
-        go : (known next ≡ 0) ⊎ (known next ≡ n) → (ltb 0 (known next) && eqb (endedIn (t .streams)) (known next)) ≡ false
-        go (inl h) = rw (le-ltb 0 (known next) (omega arith))
-        go (inr h) = rw (lt-ltb 0 (known next) (omega (arith, sent .some)), ne-eqb (endedIn (t .streams)) (known next) (λ q. omega (arith, ended-below F R before n all sent (t .streams) u c b m e)))
+        go : (known (next .streams) ≡ 0) ⊎ (known (next .streams) ≡ n) → (ltb 0 (known (next .streams)) && eqb (endedIn (t .streams)) (known (next .streams))) ≡ false
+        go (inl h) = rw (le-ltb 0 (known (next .streams)) (omega arith))
+        go (inr h) =
+            let less = ended-below F R before n all sent (t .streams) u c b m e in
+            rw (lt-ltb 0 (known (next .streams)) (omega (arith, sent .some)), ne-eqb (endedIn (t .streams)) (known (next .streams)) (λ q. omega (arith, less)))
 
-    keeps-byte : Takes (keeps t c (bs ++ b ∷ [])) (withStream t c (sound (bs ++ b ∷ []))) m
+    keeps-byte : Takes (keeps t c (bs ++ b ∷ [])) next m
     unfolding keeps accepted
     keeps-byte = go (hasEnd (cut (bs ++ b ∷ []))) refl
       where
-        go : (v : Bool) → hasEnd (cut (bs ++ b ∷ [])) ≡ v → Takes (keeps t c (bs ++ b ∷ [])) (withStream t c (sound (bs ++ b ∷ []))) m
+        go : (v : Bool) → hasEnd (cut (bs ++ b ∷ [])) ≡ v → Takes (keeps t c (bs ++ b ∷ [])) next m
         go true h = inr (rw (h, no-twenty), part .ended-last (ap (λ s. hasEnd (accepted s)) now ∙ h))
         go false h = inl (rw h)
 
@@ -106,25 +109,28 @@ module _ (F R : ℕ) (before : Pairs) (ruled : Ruled 0 before) (n : ℕ) (all : 
           first-sent F done (block head []) (accepted (streamIn all c)) (sent .each c .each)
           (subst (λ xs. FirstOf xs (accepted (streamIn all c))) (ap accepted now ∙ new F R before [] ruled t c bs done r b i z k is d y v g .blocks) (part .first))
 
-      added : (w : Block → ℕ) → sum w (blocksOf next) ≡ w (block head []) + sum w (blocksOf (t .streams))
+      added : (w : Block → ℕ) → sum w (blocksOf (next .streams)) ≡ w (block head []) + sum w (blocksOf (t .streams))
       added = sum-is F R before [] ruled t c bs done r b i z k is d y v g
 
       count-fits : isCount head ≡ true → (known (t .streams) ≡ 0) × (0 < thirdOf head) × (thirdOf head ≤ countLimit) × (used (t .streams) ≤ thirdOf head)
       unfolding sum
-      count-fits q = go (counts-are F R before n all sent (t .streams) u) (counts-are F R before n all sent next u′)
+      count-fits q = go (counts-are F R before n all sent (t .streams) u) (counts-are F R before n all sent (next .streams) u′)
         where
-          one-more-count : (f : ℕ → ℕ) → sum f (countsOf next) ≡ f (thirdOf head) + sum f (countsOf (t .streams))
+          one-more-count : (f : ℕ → ℕ) → sum f (countsOf (next .streams)) ≡ f (thirdOf head) + sum f (countsOf (t .streams))
           one-more-count f =
               let this : cond (isCount head) (f (thirdOf head)) 0 ≡ f (thirdOf head) = rw q in
-              omega (arith, sum-counts f (blocksOf next), sum-counts f (blocksOf (t .streams)), added (λ (x : Block). cond (isCount (x .head)) (f (thirdOf (x .head))) 0), this)
+              omega (arith, sum-counts f (blocksOf (next .streams)), sum-counts f (blocksOf (t .streams)), added (λ (x : Block). cond (isCount (x .head)) (f (thirdOf (x .head))) 0), this)
 
-          go : (countsOf (t .streams) ≡ []) ⊎ (countsOf (t .streams) ≡ n ∷ []) → (countsOf next ≡ []) ⊎ (countsOf next ≡ n ∷ [])
+          ones : sum (λ x. 1) (countsOf (next .streams)) ≡ suc (sum (λ x. 1) (countsOf (t .streams)))
+          ones = omega (arith, one-more-count (λ x. 1))
+
+          go : (countsOf (t .streams) ≡ []) ⊎ (countsOf (t .streams) ≡ n ∷ []) → (countsOf (next .streams) ≡ []) ⊎ (countsOf (next .streams) ≡ n ∷ [])
               → (known (t .streams) ≡ 0) × (0 < thirdOf head) × (thirdOf head ≤ countLimit) × (used (t .streams) ≤ thirdOf head)
-          go (inl h) (inl h′) = absurd (omega (arith, one-more-count (λ x. 1), ap (sum (λ x. 1)) h, ap (sum (λ x. 1)) h′))
-          go (inr h) (inl h′) = absurd (omega (arith, one-more-count (λ x. 1), ap (sum (λ x. 1)) h, ap (sum (λ x. 1)) h′))
-          go (inr h) (inr h′) = absurd (omega (arith, one-more-count (λ x. 1), ap (sum (λ x. 1)) h, ap (sum (λ x. 1)) h′))
+          go (inl h) (inl h′) = absurd (omega (arith, rw (h, h′) at ones))
+          go (inr h) (inl h′) = absurd (omega (arith, rw (h, h′) at ones))
+          go (inr h) (inr h′) = absurd (omega (arith, rw (h, h′) at ones))
           go (inl h) (inr h′) =
-              let is-n : thirdOf head ≡ n = omega (arith, one-more-count (λ x. x), ap (sum (λ x. x)) h, ap (sum (λ x. x)) h′) in
+              let is-n : thirdOf head ≡ n = omega (arith, rw (h, h′) at (one-more-count (λ x. x))) in
               (ap (λ cs. getD cs 0 0) h, omega (arith, sent .some), omega (arith, sent .few), omega (arith, used-most F R before n all sent (t .streams) u))
 
       range-fits : isCount head ≡ false → 0 < secondOf head
@@ -133,16 +139,24 @@ module _ (F R : ℕ) (before : Pairs) (ruled : Ruled 0 before) (n : ℕ) (all : 
       range-fits q q₀ = (
         omega (arith, size-is, fits .1 (omega (arith, size-is))),
         none-shares (thirdOf head) (thirdOf head + secondOf head) 0 (claimed before (t .streams)) (omega arith) (claims-ruled (blocksOf (t .streams)) before ruled) free,
-        omega (arith, room F R before n all sent next u′, ap size (claims-are F R before [] ruled t c bs done r b i z k is d y v g ∙ joins F R before [] ruled t c bs done r b i z k is d y v g q q₀)),
+        omega (arith, room F R before n all sent (next .streams) u′, ap size joined),
       )
         where
           size-is : payloadLength head ≡ secondOf head
           size-is = sized F R before [] ruled t c bs done r b i z k is d y v g q
 
-          free : (p : ℕ) → hit (thirdOf head) (thirdOf head + secondOf head) p + holds p (claimed before (t .streams)) ≤ 1
-          free p = omega (arith, claims-holds p (blocksOf (t .streams)) before ruled, apart F R before n all sent next u′ p, added (hitBy p), ap (λ l. hit (thirdOf head) (thirdOf head + l) p) size-is)
+          joined : claimed before (next .streams) ≡ join (thirdOf head) (thirdOf head + secondOf head) (claimed before (t .streams))
+          joined = claims-are F R before [] ruled t c bs done r b i z k is d y v g ∙ joins F R before [] ruled t c bs done r b i z k is d y v g q q₀
 
-    no-header-fault : Shape bs → length (over bs) ≡ heldLimit → faultIn R (claimed before (t .streams)) (askedOf F (known (t .streams)) (used (t .streams)) (over bs ++ b ∷ [])) ≡ 0
+          free : (p : ℕ) → hit (thirdOf head) (thirdOf head + secondOf head) p + holds p (claimed before (t .streams)) ≤ 1
+          free p =
+              omega (arith, claims-holds p (blocksOf (t .streams)) before ruled, apart F R before n all sent (next .streams) u′ p, added (hitBy p), ap (λ l. hit (thirdOf head) (thirdOf head + l) p) size-is)
+
+    -- the judgement of the header that the byte makes whole
+    abbrev judged : ℕ
+    judged = faultIn R (claimed before (t .streams)) (askedOf F (known (t .streams)) (used (t .streams)) (over bs ++ b ∷ []))
+
+    no-header-fault : Shape bs → length (over bs) ≡ heldLimit → judged ≡ 0
     unfolding overBy
     no-header-fault (no-byte h) y = absurd (omega (arith, ap (λ l. length (over l)) h))
     no-header-fault (in-payload done h p d l q v g) y = absurd (omega (arith, ap length (ap over g ∙ cuts-payload done h p d l (omega arith) .1)))
@@ -150,15 +164,15 @@ module _ (F R : ℕ) (before : Pairs) (ruled : Ruled 0 before) (n : ℕ) (all : 
     no-header-fault (in-header done r d l v g) y =
         let over-is : over bs ≡ r = ap over g ∙ cuts-header done r d l .1 in
         let y′ : length r ≡ heldLimit = ap length (sym over-is) ∙ y in
-        rw over-is (faultless F R (known (t .streams)) (used (t .streams)) (claimed before (t .streams)) (r ++ b ∷ []) (fits done r d y′ v g .0) (count-fits done r d y′ v g) (range-fits done r d y′ v g))
+        rw over-is
+        (faultless F R (known (t .streams)) (used (t .streams)) (claimed before (t .streams)) (r ++ b ∷ []) (fits done r d y′ v g .0) (count-fits done r d y′ v g) (range-fits done r d y′ v g))
 
     -- ---- any byte
 
-    pub takes-byte : Takes (byteOf F R before t c b) (withStream t c (sound (bs ++ b ∷ []))) m
+    pub takes-byte : Takes (byteOf F R before t c b) next m
     unfolding byteOf byteOn judgedBy
     takes-byte = rw no-nineteen (go (ℕ-discrete (length (over bs)) heldLimit))
       where
-        go : Dec (length (over bs) ≡ heldLimit)
-            → Takes (cond (eqb (length (over bs)) heldLimit) (judgedBy t c (bs ++ b ∷ []) (faultIn R (claimed before (t .streams)) (askedOf F (known (t .streams)) (used (t .streams)) (over bs ++ b ∷ [])))) (keeps t c (bs ++ b ∷ []))) (withStream t c (sound (bs ++ b ∷ []))) m
+        go : Dec (length (over bs) ≡ heldLimit) → Takes (cond (eqb (length (over bs)) heldLimit) (judgedBy t c (bs ++ b ∷ []) judged) (keeps t c (bs ++ b ∷ []))) next m
         go (no h) = rw (ne-eqb (length (over bs)) heldLimit h) keeps-byte
         go (yes h) = rw (eq-eqb (length (over bs)) heldLimit h, no-header-fault (subst Proper is (proper-at (t .streams) c (i .proper))) h) keeps-byte

@@ -13,6 +13,7 @@ use Rattle.transfer.specs.Transfer.{sum}
 use Rattle.transfer.specs.Header.{endsChannel}
 use Rattle.transfer.specs.Block.{Block, block, sizeOf, isWhole, flat, cut, cutBy, closes, hasEnd}
 use Rattle.transfer.specs.Sending.{SentBlock, SentBlocks, EndsAtLast}
+use Rattle.transfer.proofs.Counted.{append-nothing}
 use Rattle.transfer.proofs.Cuts.{cuts-block, cuts-short, cuts-part}
 
 -- the last block has bit 8 and no other, where there are blocks
@@ -69,6 +70,7 @@ split-append a b c d h k = (
 )
 
 module _ (F : ℕ) where
+  -- k cuts are enough
   pub first-part : (xs : List Block) (bs m : List ℕ) (k : ℕ) → SentBlocks F xs → Ending xs → bs ++ m ≡ flat xs → length bs ≤ k → Part xs (cutBy k bs) m
   unfolding flat hasEnd
   first-part [] bs m k s z h q =
@@ -84,8 +86,11 @@ module _ (F : ℕ) where
 
       -- some of the payload
       some : (e : List ℕ) → length e < sizeOf x → e ++ m ≡ x .body ++ flat xs → Part (x ∷ xs) (block (x .head) e ∷ []) m
-      some e w g = record { first = (refl, tt); ended-last = λ r. absurd (false≢true (sym shut ∙ r)); whole = λ r. absurd (omega (arith, ap length g, length-append e m, length-append (x .body) (flat xs), ap length r, size)) }
+      some e w g = record { first = (refl, tt); ended-last = λ r. absurd (false≢true (sym shut ∙ r)); whole = λ r. absurd (short r) }
         where
+          short : m ≡ [] → ⊥
+          short r = omega (arith, ap length g, length-append e m, length-append (x .body) (flat xs), ap length r, size)
+
           shut : hasEnd (block (x .head) e ∷ []) ≡ false
           shut = unfold closes isWhole in rw (lt-leb (sizeOf x) (length e) w, and-false (endsChannel (x .head)))
 
@@ -94,17 +99,15 @@ module _ (F : ℕ) where
       behind e j g p = record { first = (refl, p .first); ended-last = last xs z g (p .ended-last); whole = λ r. ap {B = List Block} (λ ys. x ∷ ys) (p .whole r) }
         where
           last : (ys : List Block) → Ending (x ∷ ys) → e ++ m ≡ flat ys → (hasEnd (cutBy j e) ≡ true → m ≡ []) → (closes x || hasEnd (cutBy j e)) ≡ true → m ≡ []
-          last [] y g i r = nothing m (omega (arith, ap length g, length-append e m))
-            where
-              nothing : (l : List ℕ) → length l ≡ 0 → l ≡ []
-              nothing [] o = refl
-              nothing (v ∷ l) o = absurd (omega arith)
+          last [] y g i r = append-nothing e m g .1
           last (y ∷ ys) u g i r = i (unfold closes in rw (u .0) at r)
 
       headed : Dec (headerLength ≤ length bs) → (k : ℕ) → length bs ≤ k → On → Part (x ∷ xs) (cutBy k bs) m
       headed (no w) k q on =
-          rw (cuts-short k bs (omega arith) .0)
-          (record { first = tt; ended-last = λ r. absurd (false≢true r); whole = λ r. absurd (omega (arith, ap length h, length-append bs m, length-append (x .head) (x .body ++ flat xs), ap length r, s .0 .seventeen)) })
+          rw (cuts-short k bs (omega arith) .0) (record { first = tt; ended-last = λ r. absurd (false≢true r); whole = λ r. absurd (short r) })
+        where
+          short : m ≡ [] → ⊥
+          short r = omega (arith, ap length h, length-append bs m, length-append (x .head) (x .body ++ flat xs), ap length r, s .0 .seventeen)
       headed (yes w) k q on = bodied (split-append bs m (x .head) (x .body ++ flat xs) h (omega (arith, s .0 .seventeen)))
         where
           bodied : (e : List ℕ) × (bs ≡ x .head ++ e) × (e ++ m ≡ x .body ++ flat xs) → Part (x ∷ xs) (cutBy k bs) m

@@ -13,7 +13,7 @@ use Rattle.transfer.specs.Channel.{channelCount}
 use Rattle.transfer.specs.Transfer.{sum}
 use Rattle.transfer.specs.Header.{isCount}
 use Rattle.transfer.specs.Receive.{isSome}
-use Rattle.transfer.specs.Block.{Block, sizeOf, flat, cutBy, hasEnd, placed}
+use Rattle.transfer.specs.Block.{Block, sizeOf, cutBy, hasEnd, placed}
 use Rattle.transfer.specs.Tally.{Stream, sound, taken, accepted, blocksOf, countsOf, one, used, endedIn}
 use Rattle.transfer.specs.Sending.{Life, SentBlocks, SentLives, sentBlocks, nonEmpty, WellFormed}
 use Rattle.transfer.proofs.Claimed.{sum-append, hitBy, cover}
@@ -21,7 +21,7 @@ use Rattle.transfer.proofs.Counted.{sum-counts, at-most-one}
 use Rattle.transfer.proofs.Placed.{placed-append, Bodies, bodies-append, bodies-left, placed-moved}
 use Rattle.transfer.proofs.Streams.{streamIn, Split, split}
 use Rattle.transfer.proofs.Invariant.{AllSound}
-use Rattle.transfer.proofs.Sendings.{streamsOf, number-all, sound-all, SentStream, accepted-life, each-all, Once, once-rest, alone, free, within, sum-all, used-most, ended-lives, sum-sent}
+use Rattle.transfer.proofs.Sendings.{streamOf, streamsOf, number-all, sound-all, SentStream, accepted-life, each-all, Once, once-rest, alone, free, within, sum-all, used-lives, ended-lives, sum-sent}
 
 -- `all` are the streams that all bytes of a sending make, n the number of channels that it is sent on
 pub record Sendable (F R : ℕ) (before : Pairs) (n : ℕ) (all : List Stream) : Type 0 where
@@ -44,7 +44,7 @@ sendable F R before s w =
       some = w .some;
       few = w .few;
       each = each-all F s (w .each);
-      used-most = omega (arith, sum-all F (λ (s : Stream). one (isSome (taken s))) refl s (w .each) (w .once), used-most s);
+      used-most = omega (arith, sum-all F (λ (s : Stream). one (isSome (taken s))) refl s (w .each) (w .once), used-lives s);
       ended-are = sum-all F (λ (s : Stream). one (hasEnd (accepted s))) (unfold accepted cutBy hasEnd in refl) s (w .each) (w .once) ∙ ended-lives F s (w .each);
       counts-are = one-count (at-most-one (length s) (countsOf (streamsOf s)) (λ f. omega (arith, added f)));
       apart = λ q. omega (arith, w .apart q, sum-sent F (hitBy q) s (w .each) (w .once));
@@ -83,7 +83,7 @@ unfolding streamsOf sentBlocks sum
 placed-sent F [] file l o d = ap (λ xs. placed xs file) (no-blocks channelCount)
 placed-sent F (x ∷ s) file l o d =
     ap (λ xs. placed xs file) new
-    ∙ placed-moved (r .front) (x .blocks) (r .back) file (bodies-left (r .front) (r .back) (subst Bodies old (bodies-all F (streamsOf s) (each-all F s (l .1))))) (sent-bodies F (x .blocks) (l .0 .each)) apart
+    ∙ placed-moved (r .front) (x .blocks) (r .back) file in-front (sent-bodies F (x .blocks) (l .0 .each)) apart
     ∙ placed-append (x .blocks) (r .front ++ r .back) file
     ∙ ap (λ xs. placed (x .blocks) (placed xs file)) (sym old)
     ∙ ap (placed (x .blocks)) (placed-sent F s file (l .1) (once-rest x s o) rest)
@@ -93,10 +93,13 @@ placed-sent F (x ∷ s) file l o d =
     r = split (streamsOf s) (x .number) (within F x s l)
 
     new : blocksOf (streamsOf (x ∷ s)) ≡ r .front ++ (x .blocks ++ r .back)
-    new = r .then (sound (flat (x .blocks))) ∙ ap (λ xs. r .front ++ (xs ++ r .back)) (accepted-life F x (l .0))
+    new = r .then (streamOf x) ∙ ap (λ xs. r .front ++ (xs ++ r .back)) (accepted-life F x (l .0))
 
     old : blocksOf (streamsOf s) ≡ r .front ++ r .back
     old = r .now ∙ ap (λ y. r .front ++ (accepted y ++ r .back)) (free (x .number) s (alone x s o)) ∙ (unfold accepted cutBy in refl)
+
+    in-front : Bodies (r .front)
+    in-front = bodies-left (r .front) (r .back) (subst Bodies old (bodies-all F (streamsOf s) (each-all F s (l .1))))
 
     apart : (q : ℕ) → cover q (r .front ++ (x .blocks ++ r .back)) ≤ 1
     apart q = omega (arith, ap (cover q) new, sum-sent F (hitBy q) (x ∷ s) l o, d q)

@@ -129,17 +129,16 @@ module _ (F R : ℕ) (before : Pairs) (n : ℕ) (all : List Stream) (sent : Send
       pub used-below : isSome (taken (streamIn ss c)) ≡ false → used ss < n
       used-below h =
           let some = some-part (taken (streamIn ss c) ++ b ∷ []) m (taken (streamIn all c)) (append-assoc (taken (streamIn ss c)) (b ∷ []) m ∙ e) in
-          omega (arith, sent .used-most, sum-lt (λ (s : Stream). one (isSome (taken s))) ss all c here same-number used-each (omega (arith, ap one h, some, ap one (isSome-append (taken (streamIn ss c)) b))))
+          let one-there : one (isSome (taken (streamIn ss c) ++ b ∷ [])) ≡ 1 = ap one (isSome-append (taken (streamIn ss c)) b) in
+          omega (arith, sent .used-most, sum-lt (λ (s : Stream). one (isSome (taken s))) ss all c here same-number used-each (omega (arith, ap one h, some, one-there)))
 
       -- with that byte
-      pub one-more : Underway (set ss c (sound (taken (streamIn ss c) ++ b ∷ [])))
-      one-more =
-          record {
-            number = length-set ss c (sound (taken (streamIn ss c) ++ b ∷ [])) ∙ u .number;
-            clean = sound-set ss c (taken (streamIn ss c) ++ b ∷ []) (u .clean);
-            to-come = λ d. left d (ℕ-discrete d c);
-          }
+      abbrev more : Stream
+      more = sound (taken (streamIn ss c) ++ b ∷ [])
+
+      pub one-more : Underway (set ss c more)
+      one-more = record { number = length-set ss c more ∙ u .number; clean = sound-set ss c (taken (streamIn ss c) ++ b ∷ []) (u .clean); to-come = λ d. left d (ℕ-discrete d c) }
         where
-          left : (d : ℕ) → Dec (d ≡ c) → (l : List ℕ) × (taken (streamIn (set ss c (sound (taken (streamIn ss c) ++ b ∷ []))) d) ++ l ≡ taken (streamIn all d))
-          left d (yes p) = (m, rw p (rw (getD-set-same ss c (sound (taken (streamIn ss c) ++ b ∷ [])) (sound []) here) (append-assoc (taken (streamIn ss c)) (b ∷ []) m ∙ e)))
-          left d (no p) = (u .to-come d .0, rw (getD-set-other ss c d (sound (taken (streamIn ss c) ++ b ∷ [])) (sound []) p) (u .to-come d .1))
+          left : (d : ℕ) → Dec (d ≡ c) → (l : List ℕ) × (taken (streamIn (set ss c more) d) ++ l ≡ taken (streamIn all d))
+          left d (yes p) = (m, rw p (rw (getD-set-same ss c more (sound []) here) (append-assoc (taken (streamIn ss c)) (b ∷ []) m ∙ e)))
+          left d (no p) = (u .to-come d .0, rw (getD-set-other ss c d more (sound []) p) (u .to-come d .1))

@@ -13,7 +13,7 @@ use lib.Seq.{getD-set-other, ext-getD}
 use Rattle.ledger.specs.Pairs.{Pairs, Ruled}
 use Rattle.transfer.specs.Channel.{channelCount}
 use Rattle.transfer.specs.Transfer.{guess, result}
-use Rattle.transfer.specs.Receive.{Took, stops, byteOf, Answer, refused, took, bytesBy, isSome}
+use Rattle.transfer.specs.Receive.{Took, leftBy, byteOf, Answer, refused, took, bytesBy, isSome, isEnded}
 use Rattle.transfer.specs.Calls.{Call, receive, runBy}
 use Rattle.transfer.specs.Block.{hasEnd}
 use Rattle.transfer.specs.Tally.{Tally, Stream, sound, taken, accepted, countsOf, known, endedIn, verdict, empty, streamAt, withStream, byteOf as tallyByteOf, refusalOf, callOf}
@@ -34,7 +34,7 @@ use Rattle.transfer.proofs.Faultless.{Takes, takes-byte}
 use Rattle.transfer.proofs.Offered.{pieces-here, pieces-other, pieces-none}
 
 module _ (F R : ℕ) (before : Pairs) (ruled : Ruled 0 before) (n : ℕ) (all : List Stream) (sent : Sendable F R before n all) where
-  -- the calls ks are to come
+  -- without a fault so far, and the calls ks are to come
   pub record Way (t : Tally) (ks : List Call) : Type 0 where
     pub clean : t .fault ≡ 0
     pub kept : Invariant F R before t
@@ -79,8 +79,11 @@ module _ (F R : ℕ) (before : Pairs) (ruled : Ruled 0 before) (n : ℕ) (all : 
   -- ---- a byte
 
   module _ (t : Tally) (c b : ℕ) (bs : List ℕ) (ks : List Call) (w : Way t (receive c (b ∷ bs) ∷ ks)) where
+    abbrev more : Stream
+    more = sound (taken (streamAt t c) ++ b ∷ [])
+
     abbrev next : Tally
-    next = withStream t c (sound (taken (streamAt t c) ++ b ∷ []))
+    next = withStream t c more
 
     u : Underway F R before n all sent (t .streams)
     u = underway t (receive c (b ∷ bs) ∷ ks) w
@@ -97,27 +100,29 @@ module _ (F R : ℕ) (before : Pairs) (ruled : Ruled 0 before) (n : ℕ) (all : 
     takes : Takes (tallyByteOf F R before t c b) next (bs ++ piecesOn c ks)
     takes = takes-byte F R before ruled n all sent t c b (bs ++ piecesOn c ks) (w .kept) (w .clean) u e
 
+    ended-not : isEnded (view (streamAt t c)) ≡ false
+    ended-not = sym (kind-ended (view (streamAt t c)) (accepted (streamAt t c)) (isSome (taken (streamAt t c))) (kind (streamAt t c) (proper-at (t .streams) c (w .kept .proper)))) ∙ alive
+
     kept-next : Invariant F R before next
-    kept-next =
-        go (step F R before [] ruled t c b (w .kept) (w .clean) k (sym (kind-ended (view (streamAt t c)) (accepted (streamAt t c)) (isSome (taken (streamAt t c))) (kind (streamAt t c) (proper-at (t .streams) c (w .kept .proper)))) ∙ alive)) takes
+    kept-next = subst (Invariant F R before) (left takes) (followed (step F R before [] ruled t c b (w .kept) (w .clean) k ended-not))
       where
-        go : Follows F R before [] t c (byteOf (worldOf F R before [] t) c b) (tallyByteOf F R before t c b) → Takes (tallyByteOf F R before t c b) next (bs ++ piecesOn c ks) → Invariant F R before next
-        go (both-go t′ y x i g z o) (inl q) = let p : t′ ≡ next = cc in subst (Invariant F R before) p i
-        go (both-go t′ y x i g z o) (inr q) = let q′ : tallyByteOf F R before t c b ≡ stops next = q .0 in let v : _≡_ {A = ℕ} 0 1 = cc in absurd (omega arith)
-        go (both-stop t′ y x i g) (inl q) = let v : _≡_ {A = ℕ} 0 1 = cc in absurd (omega arith)
-        go (both-stop t′ y x i g) (inr q) = let q′ : tallyByteOf F R before t c b ≡ stops next = q .0 in let p : t′ ≡ next = cc in subst (Invariant F R before) p i
-        go (both-leave t′ y x i g) (inl q) = let v : _≡_ {A = ℕ} 0 1 = cc in absurd (omega arith)
-        go (both-leave t′ y x i g) (inr q) = let q′ : tallyByteOf F R before t c b ≡ stops next = q .0 in let v : _≡_ {A = ℕ} 0 1 = cc in absurd (omega arith)
+        left : Takes (tallyByteOf F R before t c b) next (bs ++ piecesOn c ks) → leftBy (tallyByteOf F R before t c b) ≡ next
+        left (inl q) = ap leftBy q
+        left (inr q) = ap leftBy (q .0)
+
+        followed : Follows F R before [] t c (byteOf (worldOf F R before [] t) c b) (tallyByteOf F R before t c b) → Invariant F R before (leftBy (tallyByteOf F R before t c b))
+        followed (both-go t′ y x i g z o) = rw y i
+        followed (both-stop t′ y x i g) = rw y i
+        followed (both-leave t′ y x i g) = rw y i
 
     way-next : Way next (receive c bs ∷ ks)
     way-next = record { clean = w .clean; kept = kept-next; comes = λ d. go d (ℕ-discrete d c) }
       where
         go : (d : ℕ) → Dec (d ≡ c) → taken (streamAt next d) ++ piecesOn d (receive c bs ∷ ks) ≡ taken (streamIn all d)
         go d (yes p) =
-            rw p (rw (stream-now t c (sound (taken (streamAt t c) ++ b ∷ [])) (omega (arith, k, w .kept .number)), pieces-here c bs ks) (append-assoc (taken (streamAt t c)) (b ∷ []) (bs ++ piecesOn c ks) ∙ e))
+            rw p (rw (stream-now t c more (omega (arith, k, w .kept .number)), pieces-here c bs ks) (append-assoc (taken (streamAt t c)) (b ∷ []) (bs ++ piecesOn c ks) ∙ e))
         go d (no p) =
-            rw (getD-set-other (t .streams) c d (sound (taken (streamAt t c) ++ b ∷ [])) (sound []) p, pieces-other c d bs ks p)
-            (ap (λ m. taken (streamAt t d) ++ m) (sym (pieces-other c d (b ∷ bs) ks p)) ∙ w .comes d)
+            rw (getD-set-other (t .streams) c d more (sound []) p, pieces-other c d bs ks p) (ap (λ m. taken (streamAt t d) ++ m) (sym (pieces-other c d (b ∷ bs) ks p)) ∙ w .comes d)
 
   -- ---- a piece, a call, a list of calls
 
