@@ -8,8 +8,8 @@ use native.Mathlib.Omega.{arith}
 use borrow.Author.Tests.{eq-eqb, ltb-true, ltb-false, eqb-true}
 use lib.Dec.{ltb, eqb}
 use lib.ListN.{length, getD}
-use Rattle.ledger.specs.Pairs.{Pairs, none, total, Ruled}
-use Rattle.ledger.specs.Ledger.{obeys, roomOf}
+use Rattle.ledger.specs.Pairs.{Pairs, total, Ruled}
+use Rattle.ledger.specs.Ledger.{obeys}
 use Rattle.ledger.proofs.Lents.{rule-lent}
 use Rattle.transfer.specs.Channel.{numbersOf}
 use Rattle.transfer.specs.Transfer.{sum, leftOf, World, Verdict, guess, result, broken, verdictOf, storedOf}
@@ -18,7 +18,7 @@ use Rattle.transfer.specs.Fit.{pairLimit}
 use Rattle.transfer.specs.Calls.{Call, callOf, runBy, after}
 use Rattle.transfer.specs.Block.{Block, sizeOf, bytesIn}
 use Rattle.transfer.specs.Tally.{Tally, Stream, taken, accepted, blocksOf, countsOf, known, claimed, used, endedIn, verdict, empty, callOf as tallyCallOf}
-use Rattle.transfer.specs.AfterList.{Begun, fresh-start, tallyOf, Complete, Has, AfterList, EveryList}
+use Rattle.transfer.specs.AfterList.{Begun, tallyOf, Complete, Has, AfterList, EveryList}
 use Rattle.transfer.proofs.Claimed.{sum-append, claims-ruled, claims-holds, claims-total}
 use Rattle.transfer.proofs.Placed.{length-placed}
 use Rattle.transfer.specs.View.{view}
@@ -31,7 +31,7 @@ use Rattle.transfer.proofs.Fits.{fits-always}
 use Rattle.transfer.proofs.Runs.{Grown, verdict-is, run}
 use Rattle.transfer.proofs.Stored.{has-cover, has-placed, none-placed, holds-below-end, grown-has, grown-bytes}
 use Rattle.transfer.proofs.Wholes.{whole-all, whole-stand}
-use Rattle.transfer.proofs.Begins.{invariant-empty, begun-is}
+use Rattle.transfer.proofs.Begins.{begins}
 
 -- ---- the verdict
 
@@ -162,13 +162,13 @@ module _ (F R : ℕ) (before : Pairs) (file : List ℕ) (ruled : Ruled 0 before)
 
 -- ---- every list
 
-same : (w : World) (file : List ℕ) (R : ℕ) (before : Pairs) → Begun w file R before → (ks : List Call)
+pub same : (w : World) (file : List ℕ) (R : ℕ) (before : Pairs) → Begun w file R before → (ks : List Call)
     → (runBy callOf w ks ≡ (runBy (tallyCallOf (length file) R before) empty ks .0, worldOf (length file) R before file (tallyOf (length file) R before ks)))
     × AfterList R before file (worldOf (length file) R before file (tallyOf (length file) R before ks)) (tallyOf (length file) R before ks)
-same w file R before (fresh-start f ledger e) ks =
-    let b = begun-is f ledger e in
-    let s = run (length f) (roomOf ledger) none f tt refl (b .0) ks empty (invariant-empty (length f) (roomOf ledger)) in
-    (ap (λ v. runBy callOf v ks) (b .1) ∙ s .out, after-tally (length f) (roomOf ledger) none f tt (tallyOf (length f) (roomOf ledger) none ks) refl (b .0) (s .kept))
+same w file R before b ks =
+    let i = begins w file R before b in
+    let s = run (length file) R before file (i .0) refl (i .1) ks empty (i .2) in
+    (ap (λ v. runBy callOf v ks) (i .3) ∙ s .out, after-tally (length file) R before file (i .0) (tallyOf (length file) R before ks) refl (i .1) (s .kept))
 
 -- the tally of a longer list is the tally of what comes behind, from that of the first part
 tally-append : (F R : ℕ) (before : Pairs) (t : Tally) (ks more : List Call)
@@ -179,11 +179,11 @@ tally-append F R before t (k ∷ ks) more = tally-append F R before (tallyCallOf
 
 grew : (w : World) (file : List ℕ) (R : ℕ) (before : Pairs) → Begun w file R before → (ks more : List Call)
     → Grown (blocksOf (tallyOf (length file) R before ks .streams)) (blocksOf (tallyOf (length file) R before (ks ++ more) .streams))
-grew w file R before (fresh-start f ledger e) ks more =
-    let b = begun-is f ledger e in
-    let s = run (length f) (roomOf ledger) none f tt refl (b .0) ks empty (invariant-empty (length f) (roomOf ledger)) in
-    let m = run (length f) (roomOf ledger) none f tt refl (b .0) more (tallyOf (length f) (roomOf ledger) none ks) (s .kept) in
-    subst (λ u. Grown (blocksOf (tallyOf (length f) (roomOf ledger) none ks .streams)) (blocksOf (u .streams))) (sym (tally-append (length f) (roomOf ledger) none empty ks more)) (m .grown)
+grew w file R before b ks more =
+    let i = begins w file R before b in
+    let s = run (length file) R before file (i .0) refl (i .1) ks empty (i .2) in
+    let m = run (length file) R before file (i .0) refl (i .1) more (tallyOf (length file) R before ks) (s .kept) in
+    subst (λ u. Grown (blocksOf (tallyOf (length file) R before ks .streams)) (blocksOf (u .streams))) (sym (tally-append (length file) R before empty ks more)) (m .grown)
 
 after-list-is : (w : World) (file : List ℕ) (R : ℕ) (before : Pairs) → Begun w file R before → (ks : List Call) → AfterList R before file (after w ks) (tallyOf (length file) R before ks)
 after-list-is w file R before b ks =

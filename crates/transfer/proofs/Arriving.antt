@@ -17,10 +17,11 @@ use Rattle.transfer.specs.Sending.{Life, SentBlocks, SentLives, sentBloc
 use Rattle.transfer.specs.Arrivals.{Arrives}
 use Rattle.transfer.proofs.States.{worldOf}
 use Rattle.transfer.proofs.Invariant.{Invariant}
-use Rattle.transfer.proofs.Runs.{verdict-is, run, call}
+use Rattle.transfer.proofs.Runs.{verdict-is, call}
 use Rattle.transfer.proofs.Stored.{has-placed, none-placed}
 use Rattle.transfer.proofs.Wholes.{AllWhole, whole-stand}
 use Rattle.transfer.proofs.Begins.{begins}
+use Rattle.transfer.proofs.AfterLists.{same}
 use Rattle.transfer.proofs.Sendings.{streamsOf, bytes-all}
 use Rattle.transfer.proofs.Sendable.{Sendable, sendable, sent-bodies, placed-sent}
 use Rattle.transfer.proofs.Ways.{Way, way-empty, guess-still, all-there, result-then, call-taken, run-taken}
@@ -71,7 +72,7 @@ module _ (w : World) (file : List ℕ) (R : ℕ) (before : Pairs) (begun : Begun
       (λ c. ap (piecesOn c) (sym e) ∙ arrival c ∙ sym (bytes-all F s (wf .each) (wf .once) c)))
 
   after-is : (pre : List Call) → after w pre ≡ worldOf F R before file (tally pre)
-  after-is pre = ap (λ v. after v pre) (start .3) ∙ ap (λ a. a .1) (run F R before file (start .0) refl (start .1) pre empty (start .2) .out)
+  after-is pre = ap (λ a. a .1) (same w file R before begun pre .0)
 
   taken-whole : (pre post : List Call) (c b : ℕ) (bs : List ℕ) → OnWay pre (receive c (b ∷ bs) ∷ post) → callOf (after w pre) (receive c (b ∷ bs)) .0 ≡ took (suc (length bs))
   taken-whole pre post c b bs o =
