@@ -19,7 +19,7 @@ use Rattle.transfer.specs.Header.{isCount, endsChannel, payloadLength}
 use Rattle.transfer.specs.Receive.{opens, claimsRange, isSome, isEnded}
 use Rattle.transfer.specs.Block.{Block, block, placeOf, sizeOf, cut, countsIn, claim, claimsOf, hasEnd, placed, flat}
 use Rattle.transfer.specs.Tally.{Tally, Stream, sound, taken, accepted, blocksOf, countsOf, known, claimed, one, used, streamAt, withStream, keeps}
-use Rattle.transfer.proofs.Claimed.{hitBy, cover, claims-ruled, claims-holds, claims-insert}
+use Rattle.transfer.proofs.Claimed.{sum-insert, hitBy, cover, claims-ruled, claims-holds, claims-insert}
 use Rattle.transfer.proofs.Counted.{counts-without, counts-first}
 use Rattle.transfer.proofs.Placed.{placed-insert}
 use Rattle.transfer.proofs.Cuts.{Done, cuts-header}
@@ -27,7 +27,7 @@ use Rattle.transfer.specs.View.{view}
 use Rattle.transfer.proofs.Shapes.{in-header, kind, kind-ended, view-header, hit-nothing}
 use Rattle.transfer.proofs.Streams.{proper-set, Split, split}
 use Rattle.transfer.proofs.States.{transferOf, worldOf, put-is, put-count-is, ended-is}
-use Rattle.transfer.proofs.Invariant.{Count, unknown, announced, sound-set, headerFault, Invariant, opens-block, used-same, sum-insert}
+use Rattle.transfer.proofs.Invariant.{Count, unknown, announced, sound-set, headerFault, Invariant, opens-block, used-same}
 use Rattle.transfer.proofs.Follows.{Follows, world-is, isSome-append, tipOf, Opened, opened, opens-on}
 
 claim-none : (x : Block) (ps : Pairs) → sizeOf x ≡ 0 → claim x ps ≡ ps
@@ -44,7 +44,7 @@ module _ (F R : ℕ) (before : Pairs) (file : List ℕ) (ruled : Ruled 0 before)
   pairs-are t i = pairsOf-lent R 0 (claimed before (t .streams)) (claims-ruled (blocksOf (t .streams)) before ruled) (i .room)
 
   module _ (t : Tally) (c : ℕ) (bs : List ℕ) (done : List Block) (r : List ℕ) (b : ℕ) (i : Invariant F R before t) (z : t .fault ≡ 0) (k : c < channelCount) (e : streamAt t c ≡ sound bs)
-      (d : Done done) (y : length r ≡ heldLimit) (u : isSome bs ≡ true) (g : bs ≡ flat done ++ r) (f₀ : faultOf (descriptorOf (r ++ b ∷ [])) ≡ 0) where
+      (d : Done done) (y : length r ≡ heldLimit) (u : isSome bs ≡ true) (g : bs ≡ flat done ++ r) where
     abbrev head : List ℕ
     head = r ++ b ∷ []
 
@@ -88,11 +88,12 @@ module _ (F R : ℕ) (before : Pairs) (file : List ℕ) (ruled : Ruled 0 before)
         around .then (sound (bs ++ b ∷ [])) ∙ ap (λ m. around .front ++ (m ++ around .back)) (new .blocks) ∙ ap (λ m. around .front ++ m) (append-assoc done (x ∷ []) (around .back))
         ∙ sym (append-assoc (around .front) done (x ∷ around .back))
 
-    claims-are : claimed before next ≡ claim x (claimed before (t .streams))
+    pub claims-are : claimed before next ≡ claim x (claimed before (t .streams))
     claims-are = ap (λ m. claimsOf m before) then ∙ claims-insert front x (around .back) before ruled ∙ ap (λ m. claim x (claimsOf m before)) (sym now)
 
-    cover-is : (o : ℕ) → cover o (blocksOf next) ≡ hitBy o x + cover o (blocksOf (t .streams))
-    cover-is o = ap (cover o) then ∙ sum-insert (hitBy o) front x (around .back) ∙ ap (λ m. hitBy o x + cover o m) (sym now)
+    -- the block adds its number
+    pub sum-is : (w : Block → ℕ) → sum w (blocksOf next) ≡ w x + sum w (blocksOf (t .streams))
+    sum-is w = ap (sum w) then ∙ sum-insert w front x (around .back) ∙ ap (λ m. w x + sum w m) (sym now)
 
     same-file : placed (blocksOf next) file ≡ placed (blocksOf (t .streams)) file
     same-file = ap (λ m. placed m file) then ∙ placed-insert front x (around .back) file refl ∙ ap (λ m. placed m file) (sym now)
@@ -108,19 +109,19 @@ module _ (F R : ℕ) (before : Pairs) (file : List ℕ) (ruled : Ruled 0 before)
     same-used : used next ≡ used (t .streams)
     same-used = used-same t c (sound (bs ++ b ∷ [])) h′ used-now (isSome-append bs b)
 
-    kept : ((o : ℕ) → hitBy o x + cover o (blocksOf (t .streams)) + holds o before ≤ 1) → endsBy F (claim x (claimed before (t .streams))) ≡ true → size (claim x (claimed before (t .streams))) ≤ R
+    kept : faultOf (descriptorOf head) ≡ 0 → ((o : ℕ) → hitBy o x + cover o (blocksOf (t .streams)) + holds o before ≤ 1) → endsBy F (claim x (claimed before (t .streams))) ≡ true → size (claim x (claimed before (t .streams))) ≤ R
         → Count (countsOf next) (used (t .streams)) → Invariant F R before (withStream t c (sound (bs ++ b ∷ [])))
-    kept p₁ p₂ p₃ p₄ =
+    kept f₀ p₁ p₂ p₃ p₄ =
         record {
           number = length-set (t .streams) c (sound (bs ++ b ∷ [])) ∙ i .number;
           proper = proper-set (t .streams) c (sound (bs ++ b ∷ [])) (i .proper) (new .shape);
           clean = λ o. sound-set (t .streams) c (bs ++ b ∷ []) (i .clean o);
-          apart = λ o. rw (cover-is o) (p₁ o);
+          apart = λ o. rw (sum-is (hitBy o)) (p₁ o);
           ends = rw claims-are p₂;
           room = rw claims-are p₃;
           count = rw same-used p₄;
           fault = i .fault;
-          headers = ap (sum headerFault) then ∙ sum-insert headerFault front x (around .back) ∙ omega (arith, f₀, ap (sum headerFault) (sym now), i .headers);
+          headers = sum-is headerFault ∙ omega (arith, f₀, i .headers);
         }
 
     same-counts : isCount head ≡ false → countsOf next ≡ countsOf (t .streams)
@@ -128,9 +129,9 @@ module _ (F R : ℕ) (before : Pairs) (file : List ℕ) (ruled : Ruled 0 before)
 
     -- a block without a payload
     module _ (s₀ : payloadLength head ≡ 0) where
-      kept-empty : Count (countsOf next) (used (t .streams)) → Invariant F R before (withStream t c (sound (bs ++ b ∷ [])))
-      kept-empty n =
-          kept (λ o. omega (arith, i .apart o, hit-nothing (placeOf x) (placeOf x + sizeOf x) o (omega arith)))
+      kept-empty : faultOf (descriptorOf head) ≡ 0 → Count (countsOf next) (used (t .streams)) → Invariant F R before (withStream t c (sound (bs ++ b ∷ [])))
+      kept-empty f₀ n =
+          kept f₀ (λ o. omega (arith, i .apart o, hit-nothing (placeOf x) (placeOf x + sizeOf x) o (omega arith)))
           (rw (claim-none x (claimed before (t .streams)) s₀) (i .ends)) (rw (claim-none x (claimed before (t .streams)) s₀) (i .room)) n
 
       same-claims : claimed before next ≡ claimed before (t .streams)
@@ -143,11 +144,11 @@ module _ (F R : ℕ) (before : Pairs) (file : List ℕ) (ruled : Ruled 0 before)
           no-place true = refl
           no-place false = refl
 
-    pub accepts-count : isCount head ≡ true → known (t .streams) ≡ 0 → 0 < thirdOf head → thirdOf head ≤ countLimit → used (t .streams) ≤ thirdOf head
+    pub accepts-count : faultOf (descriptorOf head) ≡ 0 → isCount head ≡ true → known (t .streams) ≡ 0 → 0 < thirdOf head → thirdOf head ≤ countLimit → used (t .streams) ≤ thirdOf head
         → Follows F R before file t c (opens (withTransfer (worldOf F R before file t) (putCount (transferOf F R t) (thirdOf head))) c 0 0 (endsChannel head)) (keeps t c (bs ++ b ∷ []))
     unfolding worldOf transferOf putCount endedOf
-    accepts-count q k₀ n₀ n₁ n₂ =
-        opens-on F R before file t c (bs ++ b ∷ []) i z k (isSome-append bs b) (new .shape) (kept-empty s₀ (announced (thirdOf head) the-count n₀ n₁ n₂))
+    accepts-count f₀ q k₀ n₀ n₁ n₂ =
+        opens-on F R before file t c (bs ++ b ∷ []) i z k (isSome-append bs b) (new .shape) (kept-empty s₀ f₀ (announced (thirdOf head) the-count n₀ n₁ n₂))
         used-now not-ended (opens-block front x (around .back) now then) (withTransfer (worldOf F R before file t) (putCount (transferOf F R t) (thirdOf head)))
         (world-is (put-count-is F R t c (sound (bs ++ b ∷ [])) (thirdOf head) (i .proper) h′ (ap (λ m. getD m 0 0) the-count)) (sym same-file) (ap (lent R) (sym (same-claims s₀))))
         (sym (ap (λ m. getD m 0 0) the-count)) (ended-is F R t (i .proper)) 0 0 (endsChannel head) (tip-empty s₀)
@@ -162,11 +163,11 @@ module _ (F R : ℕ) (before : Pairs) (file : List ℕ) (ruled : Ruled 0 before)
         the-count : countsOf next ≡ thirdOf head ∷ []
         the-count = ap countsIn then ∙ counts-first front x (around .back) q (ap countsIn (sym now) ∙ none-yet (i .count))
 
-    pub accepts-nothing : isCount head ≡ false → secondOf head ≡ 0
+    pub accepts-nothing : faultOf (descriptorOf head) ≡ 0 → isCount head ≡ false → secondOf head ≡ 0
         → Follows F R before file t c (opens (worldOf F R before file t) c 0 0 (endsChannel head)) (keeps t c (bs ++ b ∷ []))
     unfolding worldOf transferOf
-    accepts-nothing q q₀ =
-        opens-on F R before file t c (bs ++ b ∷ []) i z k (isSome-append bs b) (new .shape) (kept-empty s₀ (rw (same-counts q) (i .count)))
+    accepts-nothing f₀ q q₀ =
+        opens-on F R before file t c (bs ++ b ∷ []) i z k (isSome-append bs b) (new .shape) (kept-empty s₀ f₀ (rw (same-counts q) (i .count)))
         used-now not-ended (opens-block front x (around .back) now then) (worldOf F R before file t)
         (world-is (put-is F R t c (sound (bs ++ b ∷ [])) (i .proper) h′ (ap (λ m. getD m 0 0) (same-counts q))) (sym same-file) (ap (lent R) (sym (same-claims s₀))))
         (sym (ap (λ m. getD m 0 0) (same-counts q))) (ended-is F R t (i .proper)) 0 0 (endsChannel head) (tip-empty s₀)
@@ -174,23 +175,23 @@ module _ (F R : ℕ) (before : Pairs) (file : List ℕ) (ruled : Ruled 0 before)
         s₀ : payloadLength head ≡ 0
         s₀ = unfold payloadLength in rw q q₀
 
-    pub accepts-claim : isCount head ≡ false → 0 < secondOf head → thirdOf head + secondOf head ≤ F → shares (thirdOf head) (thirdOf head + secondOf head) (claimed before (t .streams)) ≡ false
+    pub sized : isCount head ≡ false → payloadLength head ≡ secondOf head
+    sized q = unfold payloadLength in rw q
+
+    pub joins : isCount head ≡ false → 0 < secondOf head → claim x (claimed before (t .streams)) ≡ join (thirdOf head) (thirdOf head + secondOf head) (claimed before (t .streams))
+    joins q q₀ = claim-some x (claimed before (t .streams)) (omega (arith, sized q)) ∙ ap (λ m. join (thirdOf head) (thirdOf head + m) (claimed before (t .streams))) (sized q)
+
+    pub accepts-claim : faultOf (descriptorOf head) ≡ 0 → isCount head ≡ false → 0 < secondOf head → thirdOf head + secondOf head ≤ F → shares (thirdOf head) (thirdOf head + secondOf head) (claimed before (t .streams)) ≡ false
         → size (join (thirdOf head) (thirdOf head + secondOf head) (claimed before (t .streams))) ≤ R
         → Follows F R before file t c (opens (claimsRange (worldOf F R before file t) (thirdOf head) (thirdOf head + secondOf head)) c (thirdOf head) (payloadLength head) (endsChannel head))
         (keeps t c (bs ++ b ∷ []))
     unfolding worldOf transferOf claimsRange
-    accepts-claim q q₀ q₁ q₂ q₃ =
+    accepts-claim f₀ q q₀ q₁ q₂ q₃ =
         opens-on F R before file t c (bs ++ b ∷ []) i z k (isSome-append bs b) (new .shape)
-        (kept
-        (λ o. omega (arith, i .apart o, shares-none (thirdOf head) (thirdOf head + secondOf head) o (claimed before (t .streams)) q₂, claims-holds o (blocksOf (t .streams)) before ruled, ap (λ m. hit (thirdOf head) (thirdOf head + m) o) s₀))
-        (rw joins (join-ends (thirdOf head) (thirdOf head + secondOf head) F (claimed before (t .streams)) q₁ (i .ends))) (rw joins q₃) (rw (same-counts q) (i .count)))
+        (kept f₀
+        (λ o. omega (arith, i .apart o, shares-none (thirdOf head) (thirdOf head + secondOf head) o (claimed before (t .streams)) q₂, claims-holds o (blocksOf (t .streams)) before ruled, ap (λ m. hit (thirdOf head) (thirdOf head + m) o) (sized q)))
+        (rw (joins q q₀) (join-ends (thirdOf head) (thirdOf head + secondOf head) F (claimed before (t .streams)) q₁ (i .ends))) (rw (joins q q₀) q₃) (rw (same-counts q) (i .count)))
         used-now not-ended (opens-block front x (around .back) now then) (claimsRange (worldOf F R before file t) (thirdOf head) (thirdOf head + secondOf head))
         (world-is (put-is F R t c (sound (bs ++ b ∷ [])) (i .proper) h′ (ap (λ m. getD m 0 0) (same-counts q))) (sym same-file)
-        (ap (λ m. lent R (join (thirdOf head) (thirdOf head + secondOf head) m)) (pairs-are t i) ∙ ap (lent R) (sym (claims-are ∙ joins))))
+        (ap (λ m. lent R (join (thirdOf head) (thirdOf head + secondOf head) m)) (pairs-are t i) ∙ ap (lent R) (sym (claims-are ∙ joins q q₀))))
         (sym (ap (λ m. getD m 0 0) (same-counts q))) (ended-is F R t (i .proper)) (thirdOf head) (payloadLength head) (endsChannel head) looks
-      where
-        s₀ : payloadLength head ≡ secondOf head
-        s₀ = unfold payloadLength in rw q
-
-        joins : claim x (claimed before (t .streams)) ≡ join (thirdOf head) (thirdOf head + secondOf head) (claimed before (t .streams))
-        joins = claim-some x (claimed before (t .streams)) (omega (arith, s₀)) ∙ ap (λ m. join (thirdOf head) (thirdOf head + m) (claimed before (t .streams))) s₀

@@ -3,17 +3,16 @@ use Prim.Native.Nat.{ℕ, _≤_}
 use mathlib.Core.Path.{_≡_, refl, ap, _∙_}
 use mathlib.Core.List.{List}
 use lib.ListN.{length}
-use Rattle.ledger.specs.Pairs.{Pairs, none, Ruled}
-use Rattle.ledger.specs.Ledger.{roomOf}
+use Rattle.ledger.specs.Pairs.{Pairs, Ruled}
 use Rattle.transfer.specs.Transfer.{World}
 use Rattle.transfer.specs.Fit.{pairLimit}
 use Rattle.transfer.specs.Calls.{Call, callOf, runBy, after}
 use Rattle.transfer.specs.Tally.{empty}
-use Rattle.transfer.specs.AfterList.{Begun, fresh-start, tallyOf, tallyAnswers}
+use Rattle.transfer.specs.AfterList.{Begun, tallyOf, tallyAnswers}
 use Rattle.transfer.proofs.States.{worldOf}
 use Rattle.transfer.proofs.Invariant.{Invariant}
 use Rattle.transfer.proofs.Runs.{run}
-use Rattle.transfer.proofs.Begins.{invariant-empty, begun-is}
+use Rattle.transfer.proofs.Begins.{begins}
 
 pub record Along (w : World) (file : List ℕ) (R : ℕ) (before : Pairs) (ks : List Call) : Type 0 where
   pub ruled : Ruled 0 before
@@ -22,10 +21,10 @@ pub record Along (w : World) (file : List ℕ) (R : ℕ) (before : Pairs) (ks : 
   pub kept : Invariant (length file) R before (tallyOf (length file) R before ks)
 
 pub along : (w : World) (file : List ℕ) (R : ℕ) (before : Pairs) → Begun w file R before → (ks : List Call) → Along w file R before ks
-along w file R before (fresh-start f ledger e) ks =
-    let b = begun-is f ledger e in
-    let s = run (length f) (roomOf ledger) none f tt refl (b .0) ks empty (invariant-empty (length f) (roomOf ledger)) in
-    record { ruled = tt; few = b .0; out = ap (λ v. runBy callOf v ks) (b .1) ∙ s .out; kept = s .kept }
+along w file R before b ks =
+    let i = begins w file R before b in
+    let s = run (length file) R before file (i .0) refl (i .1) ks empty (i .2) in
+    record { ruled = i .0; few = i .1; out = ap (λ v. runBy callOf v ks) (i .3) ∙ s .out; kept = s .kept }
 
 pub world-along : (w : World) (file : List ℕ) (R : ℕ) (before : Pairs) → Begun w file R before → (ks : List Call)
     → after w ks ≡ worldOf (length file) R before file (tallyOf (length file) R before ks)

@@ -7,14 +7,15 @@ use native.Mathlib.Omega.{arith}
 use borrow.Author.Tests.{eqb-true, ltb-false}
 use lib.Dec.{ltb, eqb}
 use lib.ListN.{length, replicate}
-use Rattle.ledger.specs.Pairs.{none, size, holds, endsBy}
+use Rattle.ledger.specs.Pairs.{Pairs, none, size, holds, Ruled, endsBy}
 use Rattle.ledger.specs.Ledger.{entryLimit, lengthWrong, roomOf, lent}
 use Rattle.transfer.specs.Channel.{channelCount, stateNumber, heldNumber, nextNumber, leftNumber, heldBytes, numbersOf}
-use Rattle.transfer.specs.Transfer.{sum, world, fresh, startNumber, startOf, startLeaves}
+use Rattle.transfer.specs.Transfer.{sum, World, world, fresh, startNumber, startOf, startLeaves}
 use Rattle.transfer.specs.Fit.{pairLimit}
 use Rattle.transfer.specs.Calls.{begun}
 use Rattle.transfer.specs.Block.{cutBy, countsIn, claimsOf, placed}
 use Rattle.transfer.specs.Tally.{sound, accepted, blocksOf, empty}
+use Rattle.transfer.specs.AfterList.{Begun, fresh-start}
 use Rattle.transfer.specs.View.{view}
 use Rattle.transfer.proofs.Shapes.{no-byte}
 use Rattle.transfer.proofs.Streams.{AllProper}
@@ -25,7 +26,7 @@ proper-empty : (n : ℕ) → AllProper (replicate n (sound []))
 proper-empty zero = tt
 proper-empty (suc n) = (no-byte refl, proper-empty n)
 
-sound-empty : (n : ℕ) → AllSound (replicate n (sound []))
+pub sound-empty : (n : ℕ) → AllSound (replicate n (sound []))
 sound-empty zero = tt
 sound-empty (suc n) = (refl, sound-empty n)
 
@@ -66,3 +67,8 @@ begun-is file claimed h = go (eqb (length claimed % 2) 0) (ltb entryLimit (lengt
           omega (arith, ltb-false entryLimit (length claimed) y),
           rw (x, y) (ap (world (fresh (length file) (roomOf claimed)) file) (ap (λ n. replicate n 0) e ∙ lent-none (roomOf claimed)) ∙ world-empty file (roomOf claimed)),
         )
+
+-- whatever the ledger held before
+pub begins : (w : World) (file : List ℕ) (R : ℕ) (before : Pairs) → Begun w file R before
+    → Ruled 0 before × (R ≤ pairLimit) × Invariant (length file) R before empty × (w ≡ worldOf (length file) R before file empty)
+begins w file R before (fresh-start f ledger e) = (tt, begun-is f ledger e .0, invariant-empty (length f) (roomOf ledger), begun-is f ledger e .1)

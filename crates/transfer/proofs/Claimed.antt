@@ -7,18 +7,23 @@ use native.Mathlib.Omega.{arith}
 use native.Mathlib.Decide.{ℕ-discrete}
 use borrow.Author.Tests.{eq-eqb, ne-eqb}
 use lib.Dec.{eqb}
-use Rattle.ledger.specs.Pairs.{Pairs, total, hit, holds, Ruled, join}
+use Rattle.ledger.specs.Pairs.{Pairs, size, total, hit, holds, Ruled, join}
 use Rattle.ledger.proofs.Places.{Where, under, within, past, stand, hit-le}
-use Rattle.ledger.proofs.Joined.{join-holds, join-ruled}
+use Rattle.ledger.proofs.Joined.{join-holds, join-ruled, join-size}
 use Rattle.ledger.proofs.Unique.{ruled-unique}
 use Rattle.ledger.proofs.Shared.{join-total}
 use Rattle.transfer.specs.Transfer.{sum}
 use Rattle.transfer.specs.Block.{Block, placeOf, sizeOf, claim, claimsOf}
+use Rattle.transfer.specs.Sending.{nonEmpty}
 
 pub sum-append {ℓ} : {A : Type ℓ} (f : A → ℕ) (a b : List A) → sum f (a ++ b) ≡ sum f a + sum f b
 unfolding sum
 sum-append f [] b = omega arith
 sum-append f (x ∷ a) b = omega (arith, sum-append f a b)
+
+pub sum-insert {ℓ} : {A : Type ℓ} (w : A → ℕ) (a : List A) (x : A) (b : List A) → sum w (a ++ x ∷ b) ≡ w x + sum w (a ++ b)
+unfolding sum
+sum-insert w a x b = omega (arith, sum-append w a (x ∷ b), sum-append w a b)
 
 -- 1 where block x claims place q
 abbrev pub hitBy : ℕ → Block → ℕ
@@ -82,6 +87,14 @@ unfolding claimsOf sum
 claims-total [] ps c d = omega arith
 claims-total (x ∷ xs) ps c d =
     omega (arith, claim-total x (claimsOf xs ps) (claims-ruled xs ps c) (λ q. omega (arith, d q, claims-holds q xs ps c)), claims-total xs ps c (λ q. omega (arith, d q)))
+
+-- a payload that is not empty takes one more pair at most
+pub claims-size : (xs : List Block) (ps : Pairs) → size (claimsOf xs ps) ≤ nonEmpty xs + size ps
+unfolding claimsOf sum
+claims-size [] ps = omega arith
+claims-size (x ∷ xs) ps =
+    claim-cases (λ r. size r ≤ cond (eqb (sizeOf x) 0) 0 1 + nonEmpty xs + size ps) x (claimsOf xs ps) (λ h. rw (eq-eqb (sizeOf x) 0 h) (omega (arith, claims-size xs ps)))
+    (λ h. rw (ne-eqb (sizeOf x) 0 (λ e. omega arith)) (omega (arith, claims-size xs ps, join-size (placeOf x) (placeOf x + sizeOf x) (claimsOf xs ps))))
 
 -- a block put in anywhere is claimed last
 pub claims-insert : (a : List Block) (x : Block) (b : List Block) (ps : Pairs) → Ruled 0 ps → claimsOf (a ++ x ∷ b) ps ≡ claim x (claimsOf (a ++ b) ps)

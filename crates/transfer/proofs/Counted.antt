@@ -1,10 +1,15 @@
 -- The counts that a list of blocks gives.
-use Prim.Native.Nat.{ℕ}
+use Prim.Native.Nat.{ℕ, _+_, _≤_}
 use mathlib.Core.Path.{_≡_, refl, sym, ap, _∙_}
+use mathlib.Core.Logic.{_⊎_, inl, inr}
 use mathlib.Core.Bool.{Bool, true, false, cond}
 use mathlib.Core.List.{List, [], _∷_, _++_}
 use native.Mathlib.Omega.{arith}
+use native.Mathlib.Decide.{ℕ-discrete}
+use borrow.Author.Tests.{eq-eqb, ne-eqb}
+use lib.Dec.{eqb}
 use Rattle.eblock.specs.Header.{thirdOf}
+use Rattle.transfer.specs.Transfer.{sum}
 use Rattle.transfer.specs.Header.{isCount}
 use Rattle.transfer.specs.Block.{Block, countsIn}
 
@@ -27,7 +32,7 @@ pub counts-without : (a : List Block) (x : Block) (b : List Block) → isCount (
 unfolding countsIn
 counts-without a x b h = rw (counts-append a (x ∷ b), counts-append a b, h)
 
-append-nothing : (a b : List ℕ) → a ++ b ≡ [] → (a ≡ []) × (b ≡ [])
+pub append-nothing : (a b : List ℕ) → a ++ b ≡ [] → (a ≡ []) × (b ≡ [])
 append-nothing [] b h = (refl, h)
 append-nothing (x ∷ a) b h = let z : _≡_ {A = ℕ} 0 1 = cc in absurd (omega arith)
 
@@ -37,3 +42,25 @@ unfolding countsIn
 counts-first a x b h k =
     let e : (countsIn a ≡ []) × (countsIn b ≡ []) = append-nothing (countsIn a) (countsIn b) (sym (counts-append a b) ∙ k) in
     rw (counts-append a (x ∷ b), h, e .0, e .1)
+
+-- a number of each count, added up
+pub sum-counts : (f : ℕ → ℕ) (xs : List Block) → sum f (countsIn xs) ≡ sum (λ (x : Block). cond (isCount (x .head)) (f (thirdOf (x .head))) 0) xs
+unfolding sum countsIn
+sum-counts f [] = refl
+sum-counts f (x ∷ xs) = go (isCount (x .head)) (sum-counts f xs)
+  where
+    go : (t : Bool) → sum f (countsIn xs) ≡ sum (λ (x : Block). cond (isCount (x .head)) (f (thirdOf (x .head))) 0) xs
+        → sum f (cond t (thirdOf (x .head) ∷ countsIn xs) (countsIn xs)) ≡ cond t (f (thirdOf (x .head))) 0 + sum (λ (x : Block). cond (isCount (x .head)) (f (thirdOf (x .head))) 0) xs
+    go true i = omega (arith, i)
+    go false i = omega (arith, i)
+
+-- by every number added up, counts are no more than the one count n
+pub at-most-one : (n : ℕ) (cs : List ℕ) → ((f : ℕ → ℕ) → sum f cs ≤ f n) → (cs ≡ []) ⊎ (cs ≡ n ∷ [])
+unfolding sum
+at-most-one n [] h = inl refl
+at-most-one n (k ∷ []) h = inr (same (ℕ-discrete k n))
+  where
+    same : Dec (k ≡ n) → k ∷ [] ≡ n ∷ []
+    same (yes e) = rw e
+    same (no e) = let z : _≤_ 1 0 = rw (ne-eqb k n e, eq-eqb n n refl) at (h (λ m. cond (eqb m n) 0 1)) in absurd (omega arith)
+at-most-one n (k ∷ m ∷ cs) h = absurd (omega (arith, h (λ x. 1)))

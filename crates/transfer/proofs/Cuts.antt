@@ -38,7 +38,7 @@ abbrev pub Cuts : ℕ → List ℕ → List Block → List ℕ → Type 0
 Cuts k bs xs r = (cutBy k bs ≡ xs) × (overBy k bs ≡ r)
 
 -- one whole block in front
-cuts-block : (k : ℕ) (h p bs : List ℕ) (xs : List Block) (r : List ℕ) → length h ≡ headerLength → length p ≡ payloadLength h → Cuts k bs xs r
+pub cuts-block : (k : ℕ) (h p bs : List ℕ) (xs : List Block) (r : List ℕ) → length h ≡ headerLength → length p ≡ payloadLength h → Cuts k bs xs r
     → Cuts (suc k) (h ++ (p ++ bs)) (block h p ∷ xs) r
 unfolding cutBy overBy
 cuts-block k h p bs xs r e f c =
@@ -68,7 +68,7 @@ cuts-short zero r h = (refl, refl)
 cuts-short (suc k) r h = let near = lt-ltb (length r) headerLength (omega arith) in (rw near, rw near)
 
 -- a header and some of its payload
-cuts-part : (k : ℕ) (h p : List ℕ) → length h ≡ headerLength → length p ≤ payloadLength h → length (h ++ p) ≤ k → Cuts k (h ++ p) (block h p ∷ []) []
+pub cuts-part : (k : ℕ) (h p : List ℕ) → length h ≡ headerLength → length p ≤ payloadLength h → length (h ++ p) ≤ k → Cuts k (h ++ p) (block h p ∷ []) []
 unfolding cutBy overBy
 cuts-part zero h p e f g = absurd (omega (arith, length-append h p))
 cuts-part (suc k) h p e f g =

@@ -79,6 +79,6 @@ arrival zero = refl
 arrival (suc zero) = refl
 arrival (suc (suc c)) = rw (ne-eqb 0 (suc (suc c)) (λ e. omega arith), ne-eqb 1 (suc (suc c)) (λ e. omega arith))
 
-pub start : Begun (begun (replicate 8 0) (replicate 4 7)) (replicate 8 0) 2 none
+pub begins : Begun (begun (replicate 8 0) (replicate 4 7)) (replicate 8 0) 2 none
 unfolding startNumber lengthWrong
-start = fresh-start (replicate 8 0) (replicate 4 7) refl
+begins = fresh-start (replicate 8 0) (replicate 4 7) refl

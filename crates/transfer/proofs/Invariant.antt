@@ -102,10 +102,6 @@ pub sum-same : (f : Block → ℕ) (a : List Block) (x y : Block) (b : List Bloc
 unfolding sum
 sum-same f a x y b h = rw (sum-append f a (x ∷ b), sum-append f a (y ∷ b), h)
 
-pub sum-insert : (f : Block → ℕ) (a : List Block) (x : Block) (b : List Block) → sum f (a ++ x ∷ b) ≡ f x + sum f (a ++ b)
-unfolding sum
-sum-insert f a x b = omega (arith, sum-append f a (x ∷ b), sum-append f a b)
-
 -- ---- kept
 
 pub same-blocks : (t : Tally) (c : ℕ) (s : Stream) → c < length (t .streams) → accepted s ≡ accepted (streamAt t c) → blocksOf (set (t .streams) c s) ≡ blocksOf (t .streams)

@@ -2,8 +2,10 @@
 use Prim.Native.Nat.{ℕ, _+_, _≤_, _<_}
 use mathlib.Core.Path.{_≡_, refl, sym, ap, _∙_}
 use mathlib.Core.Logic.{inl, inr}
+use mathlib.Core.List.{List}
 use mathlib.Core.Bool.{Bool, true, false, cond}
 use native.Mathlib.Omega.{arith}
+use native.Mathlib.Decide.{ℕ-discrete}
 use borrow.Author.Tests.{lt-ltb, le-ltb, ltb-true, ltb-false}
 use lib.Dec.{ltb}
 use Rattle.ledger.specs.Pairs.{Pairs, size, hit, holds, Ruled, join, shares}
@@ -11,9 +13,11 @@ use Rattle.ledger.proofs.Places.{hit-in, Where, under, within, past, stand, hol
 use Rattle.ledger.proofs.Joined.{join-holds, join-ruled}
 use Rattle.ledger.proofs.Unique.{ruled-unique}
 use Rattle.ledger.proofs.Shared.{shares-none, none-shares, shares-some}
-use Rattle.eblock.specs.Descriptor.{has}
-use Rattle.transfer.specs.Header.{payloadLength, claimFault}
-use Rattle.transfer.specs.Judgement.{Union, Claim, by-17, by-18, is-claimed, Judgement}
+use Rattle.eblock.specs.Descriptor.{has, faultOf}
+use Rattle.eblock.specs.Header.{countLimit, descriptorOf, secondOf, thirdOf}
+use Rattle.transfer.specs.Header.{isCount, payloadLength, Asks, counts, claims, nothing, askedOf, claimFault}
+use Rattle.transfer.specs.Judgement.{Asked, for-count, for-nothing, for-claim, Union, Claim, by-17, by-18, is-claimed, Judgement}
+use Rattle.transfer.specs.Tally.{faultIn}
 use Rattle.transfer.proofs.Asked.{Numbered, asked, asked-only}
 
 module _ (R : ℕ) (ps : Pairs) (s e : ℕ) (h : s < e) (ruled : Ruled 0 ps) where
@@ -71,6 +75,28 @@ module _ (R : ℕ) (ps : Pairs) (s e : ℕ) (h : s < e) (ruled : Ruled 0 ps) whe
       go _ (by-17 p a b q) z = absurd (omega arith)
       go _ (by-18 f m u l) z = absurd (omega arith)
       go _ (is-claimed f m u l) z = (not-shared f, omega (arith, only-joined m u, l))
+
+-- no fault: an accepted descriptor, then a count that may come or a payload that is empty or may be claimed
+pub faultless : (F R known used : ℕ) (ps : Pairs) (h : List ℕ) → faultOf (descriptorOf h) ≡ 0
+    → (isCount h ≡ true → (known ≡ 0) × (0 < thirdOf h) × (thirdOf h ≤ countLimit) × (used ≤ thirdOf h))
+    → (isCount h ≡ false → 0 < secondOf h → (thirdOf h + secondOf h ≤ F) × (shares (thirdOf h) (thirdOf h + secondOf h) ps ≡ false) × (size (join (thirdOf h) (thirdOf h + secondOf h) ps) ≤ R))
+    → faultIn R ps (askedOf F known used h) ≡ 0
+unfolding faultIn claimFault
+faultless F R known used ps h d n p = go (isCount h) refl
+  where
+    asks : (a : Asks) → Asked F known used h a → faultIn R ps a ≡ 0 → faultIn R ps (askedOf F known used h) ≡ 0
+    asks a q z = ap (faultIn R ps) (sym (asked-only F known used h a q)) ∙ z
+
+    claimable : isCount h ≡ false → 0 < secondOf h → claimFault R ps (thirdOf h) (thirdOf h + secondOf h) ≡ 0
+    claimable q l = let k = p q l in rw (k .1, le-ltb R (size (join (thirdOf h) (thirdOf h + secondOf h) ps)) (k .2))
+
+    sized : isCount h ≡ false → Dec (secondOf h ≡ 0) → faultIn R ps (askedOf F known used h) ≡ 0
+    sized q (yes e) = asks nothing (for-nothing d q e) refl
+    sized q (no e) = asks (claims (thirdOf h) (thirdOf h + secondOf h)) (for-claim d q (omega arith) (p q (omega arith) .0)) (claimable q (omega arith))
+
+    go : (q : Bool) → isCount h ≡ q → faultIn R ps (askedOf F known used h) ≡ 0
+    go true q = let k = n q in asks (counts (thirdOf h)) (for-count d q (k .0) (k .1) (k .2) (k .3)) refl
+    go false q = sized q (ℕ-discrete (secondOf h) 0)
 
 pub judgement : Judgement
 unfolding has payloadLength

@@ -43,3 +43,12 @@ pub mod FitUsed
 pub mod FitPuts
 pub mod FitKept
 pub mod Fitted
+pub mod Parts
+pub mod Sendings
+pub mod Sendable
+pub mod Underway
+pub mod Faultless
+pub mod Offered
+pub mod Ways
+pub mod Arriving
+pub mod Demand

@@ -76,3 +76,20 @@ placed-extend a x c f b k h d =
 pub placed-insert : (a : List Block) (x : Block) (c : List Block) (f : List ℕ) → x .body ≡ [] → placed (a ++ x ∷ c) f ≡ placed (a ++ c) f
 unfolding placed
 placed-insert a x c f h = rw (placed-append a (x ∷ c) f, placed-append a c f, h)
+
+-- a payload that shares no place with the blocks a
+placed-sets : (a : List Block) (f : List ℕ) (o : ℕ) (p : List ℕ) → Bodies a → ((q : ℕ) → o ≤ q → q < o + length p → cover q a ≡ 0) → placed a (sets f o p) ≡ sets (placed a f) o p
+placed-sets a f o [] k h = refl
+placed-sets a f o (x ∷ p) k h =
+    placed-sets a (set f o x) (suc o) p k (λ q l m. h q (omega arith) (omega arith)) ∙ ap (λ g. sets g (suc o) p) (placed-set a f o x k (h o (omega arith) (omega arith)))
+
+-- blocks that share no place may come in another order
+pub placed-moved : (a b c : List Block) (f : List ℕ) → Bodies a → Bodies b → ((q : ℕ) → cover q (a ++ (b ++ c)) ≤ 1) → placed (a ++ (b ++ c)) f ≡ placed (b ++ (a ++ c)) f
+unfolding placed sum
+placed-moved a [] c f k l d = refl
+placed-moved a (x ∷ b) c f k l d =
+    placed-append a (x ∷ (b ++ c)) f
+    ∙ placed-sets a (placed (b ++ c) f) (placeOf x) (x .body) k
+    (λ q g h. omega (arith, d q, sum-append (hitBy q) a (x ∷ (b ++ c)), hit-in (placeOf x) (placeOf x + sizeOf x) q g (omega (arith, l .0))))
+    ∙ ap (λ g. sets g (placeOf x) (x .body))
+    (sym (placed-append a (b ++ c) f) ∙ placed-moved a b c f k (l .1) (λ q. omega (arith, d q, sum-append (hitBy q) a (x ∷ (b ++ c)), sum-append (hitBy q) a (b ++ c))))

@@ -1,15 +1,21 @@
--- All channels: what holds of each, and the blocks round one channel's.
-use Prim.Native.Nat.{ℕ, zero, suc, _<_}
+-- All channels: what holds of each, the blocks round one channel's, and sums compared channel by channel.
+use Prim.Native.Nat.{ℕ, zero, suc, _≤_, _<_}
 use mathlib.Core.Path.{_≡_, refl, sym, ap, _∙_}
 use mathlib.Core.List.{List, [], _∷_, _++_, append-assoc}
 use native.Mathlib.Omega.{arith}
 use lib.ListN.{length, getD, set}
+use Rattle.transfer.specs.Transfer.{sum}
 use Rattle.transfer.specs.Receive.{isSome}
 use Rattle.transfer.specs.Block.{Block}
 use Rattle.transfer.specs.Tally.{Stream, sound, taken, accepted, blocksOf}
+use Rattle.transfer.proofs.Claimed.{sum-append}
 use Rattle.transfer.proofs.Placed.{Bodies, bodies-append}
 use Rattle.transfer.specs.View.{view}
 use Rattle.transfer.proofs.Shapes.{no-byte, Proper, kind, kind-bodies}
+
+-- the stream of channel c
+abbrev pub streamIn : List Stream → ℕ → Stream
+streamIn ss c = getD ss c (sound [])
 
 abbrev pub AllProper : List Stream → Type 0
 AllProper [] = Unit
@@ -50,3 +56,25 @@ split (x ∷ ss) (suc c) h =
       now = ap {B = List Block} (λ xs. accepted x ++ xs) (r .now) ∙ sym (append-assoc (accepted x) (r .front) (accepted (getD ss c (sound [])) ++ r .back));
       then = λ s. ap {B = List Block} (λ xs. accepted x ++ xs) (r .then s) ∙ sym (append-assoc (accepted x) (r .front) (accepted s ++ r .back));
     }
+
+-- a number of each block, added up channel by channel
+pub sum-blocks : (w : Block → ℕ) (ss : List Stream) → sum w (blocksOf ss) ≡ sum (λ (s : Stream). sum w (accepted s)) ss
+unfolding sum blocksOf
+sum-blocks w [] = refl
+sum-blocks w (s ∷ ss) = omega (arith, sum-append w (accepted s) (blocksOf ss), sum-blocks w ss)
+
+-- sums compared channel by channel
+pub sum-le : (f : Stream → ℕ) (ss ts : List Stream) → length ss ≡ length ts → ((c : ℕ) → f (getD ss c (sound [])) ≤ f (getD ts c (sound []))) → sum f ss ≤ sum f ts
+unfolding sum
+sum-le f [] [] e h = omega arith
+sum-le f [] (t ∷ ts) e h = absurd (omega arith)
+sum-le f (s ∷ ss) [] e h = absurd (omega arith)
+sum-le f (s ∷ ss) (t ∷ ts) e h = omega (arith, h 0, sum-le f ss ts (omega arith) (λ c. h (suc c)))
+
+pub sum-lt : (f : Stream → ℕ) (ss ts : List Stream) (c : ℕ) → c < length ss → length ss ≡ length ts → ((c : ℕ) → f (getD ss c (sound [])) ≤ f (getD ts c (sound [])))
+    → f (getD ss c (sound [])) < f (getD ts c (sound [])) → sum f ss < sum f ts
+unfolding sum
+sum-lt f [] ts c k e h q = absurd (omega arith)
+sum-lt f (s ∷ ss) [] c k e h q = absurd (omega arith)
+sum-lt f (s ∷ ss) (t ∷ ts) zero k e h q = omega (arith, sum-le f ss ts (omega arith) (λ c. h (suc c)))
+sum-lt f (s ∷ ss) (t ∷ ts) (suc c) k e h q = omega (arith, h 0, sum-lt f ss ts c (omega arith) (omega arith) (λ c. h (suc c)) q)

@@ -23,5 +23,5 @@ calls = first ∷ second ∷ third ∷ []
 pub record Example : Type 0 where
   pub well-formed : WellFormed 8 2 none plaid
   pub arrival : Arrival plaid calls
-  pub start : Begun (begun (replicate 8 0) (replicate 4 7)) (replicate 8 0) 2 none
+  pub begins : Begun (begun (replicate 8 0) (replicate 4 7)) (replicate 8 0) 2 none
   pub arrives : Arrives (begun (replicate 8 0) (replicate 4 7)) (replicate 8 0) plaid calls

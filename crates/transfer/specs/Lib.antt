@@ -18,3 +18,4 @@ pub mod Fitting
 pub mod Sending
 pub mod Arrivals
 pub mod Example
+pub mod Demand

@@ -1,0 +1,46 @@
+-- Demand 3, put together.
+use Rattle.transfer.specs.Arrivals.{EveryArrival}
+use Rattle.transfer.specs.Example.{plaid, calls, Example}
+use Rattle.transfer.specs.Calls.{begun}
+use Rattle.transfer.specs.Demand.{Demand3}
+use Rattle.ledger.specs.Pairs.{none}
+use lib.ListN.{replicate}
+use Rattle.transfer.proofs.ProvedSets.{proved-set}
+use Rattle.transfer.proofs.Starts.{start}
+use Rattle.transfer.proofs.Judged.{judgement}
+use Rattle.transfer.proofs.Cutting.{cutting}
+use Rattle.transfer.proofs.Fitted.{fitting}
+use Rattle.transfer.proofs.Rowed.{rows}
+use Rattle.transfer.proofs.EachCalls.{each-call}
+use Rattle.transfer.proofs.AfterLists.{every-list}
+use Rattle.transfer.proofs.Offered.{has-arrival}
+use Rattle.transfer.proofs.Arriving.{arrives}
+use Rattle.transfer.proofs.NoneLeftOut.{only-well-formed}
+use Rattle.transfer.proofs.Examples.{well-formed, arrival, begins}
+
+pub every-arrival : EveryArrival
+every-arrival = record { arrives = arrives; has-arrival = has-arrival; only-well-formed = only-well-formed }
+
+pub example : Example
+example =
+    record {
+      well-formed = well-formed;
+      arrival = arrival;
+      begins = begins;
+      arrives = arrives (begun (replicate 8 0) (replicate 4 7)) (replicate 8 0) 2 none begins plaid well-formed calls arrival;
+    }
+
+pub demand-3 : Demand3
+demand-3 =
+    record {
+      start = start;
+      judgement = judgement;
+      cutting = cutting;
+      fitting = fitting;
+      rows = rows;
+      each-call = each-call;
+      every-list = every-list;
+      every-arrival = every-arrival;
+      example = example;
+      proved-set = proved-set;
+    }
