@@ -1,0 +1,65 @@
+// Counts over the 64 channels of a transfer.
+use transfer::state::Transfer;
+ghost use mathlib.Core.Path.{_≡_};
+ghost use Prim.Native.Nat.{_+_, min};
+ghost use Rattle.transfer.specs.Transfer.{endedOf, usedOf, leftOf};
+
+pub const CHANNELS: usize = 64;
+
+// How many have ended.
+pub fn ended(t: Transfer) -> u64
+    ensures { λ r. ⌜ r ≡ endedOf t ⌝ }
+{
+    let mut n: u64 = 0;
+    let mut c = 0;
+    while c < CHANNELS {
+        let k = t.channels[c];
+        if k.state == 4 {
+            n += 1;
+        }
+        c += 1;
+    }
+    n
+}
+
+// How many are not unused: those that have ended and those in a header or a payload.
+pub fn used(t: Transfer) -> u64
+    ensures { λ r. ⌜ r ≡ usedOf t ⌝ }
+{
+    let mut n: u64 = 0;
+    let mut c = 0;
+    while c < CHANNELS {
+        let k = t.channels[c];
+        if 0 < k.state {
+            if k.state <= 4 {
+                n += 1;
+            }
+        }
+        c += 1;
+    }
+    n
+}
+
+// a + b, or the largest number where that is more.
+fn add_up_to_largest(a: u64, b: u64) -> u64
+    ensures { λ r. ⌜ r ≡ min 18446744073709551615 (a + b) ⌝ }
+{
+    if 18446744073709551615 - a < b {
+        return 18446744073709551615;
+    }
+    a + b
+}
+
+// The bytes left in all payloads, or the largest number where there are more.
+pub fn left(t: Transfer) -> u64
+    ensures { λ r. ⌜ r ≡ min 18446744073709551615 (leftOf t) ⌝ }
+{
+    let mut n: u64 = 0;
+    let mut c = 0;
+    while c < CHANNELS {
+        let k = t.channels[c];
+        n = add_up_to_largest(n, k.left);
+        c += 1;
+    }
+    n
+}

@@ -1,0 +1,1 @@
+// The screen line and the stored bytes.
