@@ -6,8 +6,7 @@ ghost use Rattle.ledger.specs.Pairs.{inside};
 ghost use Rattle.ledger.specs.Ledger.{obeys, pairsOf};
 
 // How many pairs, from the first on, are used and start at the place or before it.
-fn started(ledger: &[u64], place: u64) -> usize
-{
+fn started(ledger: &[u64], place: u64) -> usize {
     let mut low = 0;
     let mut high = ledger.len() / 2;
     while low < high {
