@@ -11,7 +11,7 @@ use Rattle.transfer.specs.Transfer.{sum}
 use Rattle.transfer.specs.Block.{Block, block, placeOf, sizeOf, placed}
 use Rattle.transfer.proofs.Claimed.{sum-append, hitBy, cover}
 
-sets-snoc : (f : List ℕ) (o : ℕ) (p : List ℕ) (b : ℕ) → sets f o (p ++ b ∷ []) ≡ set (sets f o p) (o + length p) b
+pub sets-snoc : (f : List ℕ) (o : ℕ) (p : List ℕ) (b : ℕ) → sets f o (p ++ b ∷ []) ≡ set (sets f o p) (o + length p) b
 sets-snoc f o [] b = ap (λ k. set f k b) (omega arith)
 sets-snoc f o (x ∷ p) b = sets-snoc (set f o x) (suc o) p b ∙ ap (λ k. set (sets (set f o x) (suc o) p) k b) (omega arith)
 
