@@ -24,10 +24,7 @@ ghost use Rattle.receiver.specs.Leaves.{filledBy, asksOf, tookOf, claims
 // What a header asks for: a count, a range, or neither; or the number of its fault.
 pub enum Request {
     Counts(u64),
-    Claims {
-        start: u64,
-        end: u64,
-    },
+    Claims { start: u64, end: u64 },
     Nothing,
     Faulty(u8),
 }
