@@ -39,8 +39,7 @@ loop-again c =
     let a = l .before .args in (
       omega arith,
       l .loop .inv .1,
-      stores-more (a .t1) (l .loop .t) (16 * a .c) (replicate 16 0) (l .loop .i) 0 (omega arith) (c .loop-test .taken)
-          (getD-replicate 16 (l .loop .i) 0 0 (c .loop-test .taken)) (l .loop .inv .2),
+      stores-more (a .t1) (l .loop .t) (16 * a .c) (replicate 16 0) (l .loop .i) 0 (omega arith) (omega arith) (getD-replicate 16 (l .loop .i) 0 0 (omega arith)) (l .loop .inv .2),
     )
 
 mul-k : tie.Need-mul-k Inv-loop μ-loop

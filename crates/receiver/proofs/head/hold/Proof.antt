@@ -1,14 +1,19 @@
 -- `head::hold`.
-use Prim.Native.Nat.{_+_, _*_, _-_, _≤_}
+use Prim.Native.Nat.{ℕ, _+_, _*_, _-_, _≤_}
 use mathlib.Core.Path.{_≡_, refl, ap}
 use native.Mathlib.Omega.{arith}
 use borrow.Author.Needs.{needs}
 use lib.ListN.{length, getD}
+use Rattle.transfer.specs.declared.state.Transfer.{Transfer}
 use Rattle.transfer.specs.Channel.{channelAt}
 use Rattle.receiver.specs.Leaves.{filledBy}
 use Rattle.receiver.proofs.Heads.{withNumbers, storing, stores-none, stores-more, stores-all}
 use Rattle.receiver.proofs.head.hold.Statement.{statement}
 use Rattle.receiver.proofs.head.hold.Tie as tie
+
+-- the place behind the bytes that are held
+abbrev behind : Transfer → ℕ → ℕ
+behind t c = 16 * c + channelAt t c .held
 
 abbrev Inv-loop : tie.InvT-loop
 Inv-loop c bytes t₀ k at i₀ t i =
@@ -35,7 +40,7 @@ add-at c = omega arith
 loop-holds : tie.Need-loop-holds Inv-loop μ-loop
 loop-holds c =
     let x = c .before .before .args in
-    (omega arith, omega arith, search needs, stores-none (x .t1) (16 * x .c + channelAt (x .t1) (x .c) .held) (x .bytes .now))
+    (omega arith, omega arith, search needs, stores-none (x .t1) (behind (x .t1) (x .c)) (x .bytes .now))
 
 shared-slice-read-t : tie.Need-shared-slice-read-t Inv-loop μ-loop
 shared-slice-read-t c = omega arith
@@ -56,9 +61,8 @@ loop-again : tie.Need-loop-again Inv-loop μ-loop
 loop-again c =
     let l = c .before .before in
     let x = l .before .before .before .args in
-    let at = 16 * x .c + channelAt (x .t1) (x .c) .held in
     let v = l .loop .inv in
-    (omega arith, v .1, v .2, stores-more (x .t1) (l .loop .t) at (x .bytes .now) (l .loop .i) (getD (x .bytes .now) (l .loop .i) 0) (omega arith) (omega arith) refl (v .3))
+    (omega arith, v .1, v .2, stores-more (x .t1) (l .loop .t) (behind (x .t1) (x .c)) (x .bytes .now) (l .loop .i) (getD (x .bytes .now) (l .loop .i) 0) (omega arith) (omega arith) refl (v .3))
 
 cast-t19 : tie.Need-cast-t19 Inv-loop μ-loop
 cast-t19 c = omega arith
@@ -77,9 +81,8 @@ unfolding filledBy
 returns c =
     let l = c .before .before in
     let x = l .before .before .before .args in
-    let at = 16 * x .c + channelAt (x .t1) (x .c) .held in
     ap (withNumbers (x .c) (record { state = 1; held = channelAt (x .t1) (x .c) .held + length (x .bytes .now); next = 0; left = 0 }))
-    (stores-all (x .t1) (l .loop .t) at (x .bytes .now) (l .loop .i) (omega arith) (l .loop .inv .3))
+    (stores-all (x .t1) (l .loop .t) (behind (x .t1) (x .c)) (x .bytes .now) (l .loop .i) (omega arith) (l .loop .inv .3))
 
 pub hold-spec : {M : Type 1} → statement M
 hold-spec =
