@@ -1,0 +1,176 @@
+-- What the two kinds of runs come to, from what their leaves answer.
+use Prim.Native.Nat.{ℕ, zero, suc, _+_, _*_, _-_, _≤_, _<_, min}
+use mathlib.Core.Path.{_≡_, refl, sym, ap, _∙_, subst}
+use mathlib.Core.Logic.{_⊎_, inl, inr}
+use mathlib.Core.Bool.{Bool, true, false, cond, true≢false, false≢true}
+use mathlib.Core.List.{List, [], _∷_, _++_, append-assoc, append-nil}
+use native.Mathlib.Omega.{arith}
+use native.Mathlib.Numerals.{add-one}
+use borrow.Author.Tests.{eq-eqb}
+use lib.Dec.{eqb}
+use lib.ListN.{length, getD, take, drop, replicate, length-append, length-replicate, take-append-drop}
+use lib.Seq.{sets, sets-eq, take-length, take-suc, take-at, drop-at, split-at, length-take-le}
+use Rattle.ledger.specs.Ledger.{obeys}
+use Rattle.transfer.specs.declared.state.Transfer.{Transfer}
+use Rattle.transfer.specs.Channel.{channelCount, heldLimit, header, payload, heldBytes, readState, channelAt, stateAt, putState}
+use Rattle.transfer.specs.Transfer.{World, world}
+use Rattle.transfer.specs.Receive.{took, opens, judges}
+use Rattle.transfer.specs.Fit.{fitsLedger, fits}
+use Rattle.transfer.specs.Fitting.{InPayload, Fit}
+use Rattle.transfer.proofs.Lens.{Has}
+use Rattle.transfer.proofs.Stages.{held-within, some-left}
+use Rattle.transfer.proofs.Together.{Together, together-fit}
+use Rattle.transfer.proofs.FitTests.{fits-together}
+use Rattle.receiver.specs.Leaves.{tookOf, filledBy, held16}
+use Rattle.receiver.specs.Runs.{Takes, bytesOn, RunOf}
+use Rattle.receiver.proofs.Standing.{heldNow, held-length, filled-is}
+use Rattle.receiver.proofs.HeaderRuns.{held-run, whole-run}
+use Rattle.receiver.proofs.PayloadRuns.{stored-run}
+
+-- ---- what FIT says where a run needs it
+
+fits-with : (t : Transfer) (file ledger : List ℕ) → length file ≡ t .len → fitsLedger t ledger ≡ true → Together (world t file ledger)
+fits-with t file ledger n e = fits-together (world t file ledger) (unfold fits in rw (eq-eqb (length file) (t .len) n) e)
+
+-- any file of that length serves
+fits-some : (t : Transfer) (ledger : List ℕ) → fitsLedger t ledger ≡ true → Together (world t (replicate (t .len) 0) ledger)
+fits-some t ledger e = fits-with t (replicate (t .len) 0) ledger (length-replicate {A = ℕ} (t .len) 0) e
+
+pub held-few : (t : Transfer) (ledger : List ℕ) (c : ℕ) → c < channelCount → fitsLedger t ledger ≡ true → channelAt t c .held ≤ heldLimit
+held-few t ledger c h e = held-within (channelAt t c) (fits-some t ledger e .stages c h)
+
+pub ledger-fits : (t : Transfer) (ledger : List ℕ) → fitsLedger t ledger ≡ true → (obeys ledger ≡ true) × (length ledger ≡ 2 * t .pairs)
+ledger-fits t ledger e = let f = fits-some t ledger e in (f .rule, f .entries)
+
+in-payload : (s : ℕ) → 1 < s → s < 4 → (s ≡ 2) ⊎ (s ≡ 3)
+in-payload zero a b = absurd (omega arith)
+in-payload (suc zero) a b = absurd (omega arith)
+in-payload (suc (suc zero)) a b = inl refl
+in-payload (suc (suc (suc zero))) a b = inr refl
+in-payload (suc (suc (suc (suc s)))) a b = absurd (omega arith)
+
+-- a rest lies in the file
+pub rest-inside : (w : World) (c : ℕ) → c < channelCount → fits w ≡ true → 1 < channelAt (w .t) c .state → channelAt (w .t) c .state < 4
+    → channelAt (w .t) c .next + channelAt (w .t) c .left ≤ length (w .lent .file)
+rest-inside w c h e a b =
+    let f = together-fit w (fits-together w e) in
+    let i = f .inside c h (in-payload (channelAt (w .t) c .state) a b) in
+    omega (arith, i .2, f .ends (i .0), f .file)
+
+-- ---- a header's bytes
+
+-- all of the piece is held
+pub held-ran : (t : Transfer) (ledger : List ℕ) (c : ℕ) (piece : List ℕ) → c < channelCount → fitsLedger t ledger ≡ true → Takes t c → 0 < length piece
+    → channelAt t c .held + length piece ≤ heldLimit → (u : Transfer) → u ≡ filledBy t c piece
+    → (file : List ℕ) → length file ≡ t .len → RunOf c (world t file ledger) piece (world u file ledger) (length piece) true
+held-ran t ledger c [] h e s z l u q file n = absurd (omega arith)
+held-ran t ledger c (b ∷ bs) h e s z l u q file n =
+    record {
+      few = omega arith;
+      some = λ o. omega arith;
+      goes-on = λ o rest k.
+          ap (λ x. bytesOn c (world t file ledger) (x ++ rest) k) (take-length (b ∷ bs))
+          ∙ held-run (world t file ledger) (fits-with t file ledger n e) c h s b bs rest k l
+          ∙ ap (λ x. bytesOn c (world x file ledger) rest (k + suc (length bs))) (sym q);
+      stops-there = λ o. absurd (true≢false o);
+    }
+
+held16-put : (t : Transfer) (c : ℕ) (x : List ℕ) → Has t c → length x ≡ heldLimit → held16 (putState t c (header x)) c ≡ x
+unfolding putState heldBytes
+held16-put t c x a l =
+    let z : heldLimit - length x ≡ 0 = omega arith in
+    let front : length (take (heldLimit * c) (t .heads)) ≡ heldLimit * c = length-take-le (heldLimit * c) (t .heads) (omega (arith, a .bytes)) in
+    rw (drop-at (take (heldLimit * c) (t .heads)) ((x ++ replicate (heldLimit - length x) 0) ++ drop (heldLimit * c + heldLimit) (t .heads)) (heldLimit * c) front, z, append-nil x)
+    (take-at x (drop (heldLimit * c + heldLimit) (t .heads)) heldLimit l)
+
+-- 16 bytes are held, and the next makes it whole
+pub judged-ran : (t : Transfer) (ledger ledger′ : List ℕ) (c : ℕ) (piece : List ℕ) (n : ℕ) → c < channelCount → fitsLedger t ledger ≡ true → Takes t c
+    → channelAt t c .held + n ≡ heldLimit → n < length piece → (u : Transfer) → u ≡ filledBy t c (take n piece) → (whole : List ℕ) → whole ≡ held16 u c ++ getD piece n 0 ∷ []
+    → (v : Transfer) (on : Bool) → ((file : List ℕ) → tookOf on (world v file ledger′) ≡ judges (world u file ledger) c whole)
+    → (file : List ℕ) → length file ≡ t .len → RunOf c (world t file ledger) piece (world v file ledger′) (n + 1) on
+judged-ran t ledger ledger′ c piece n h e s l m u q whole r v on j file i =
+    record {
+      few = omega arith;
+      some = λ o. omega arith;
+      goes-on = λ o rest k. ap (λ x. bytesOn c w x k) (taken-and rest) ∙ all rest k ∙ rw (o, next k);
+      stops-there = λ o k. ap (λ x. bytesOn c w x k) (split-at piece n 0 m) ∙ all (drop (suc n) piece) k ∙ rw (o, next k);
+    }
+  where
+    w : World
+    w = world t file ledger
+
+    f : Together (world t file ledger)
+    f = fits-with t file ledger i e
+
+    short : length (take n piece) ≡ n
+    short = length-take-le n piece (omega arith)
+
+    next : (k : ℕ) → k + suc (length (take n piece)) ≡ k + (n + 1)
+    next k = omega (arith, short)
+
+    taken-and : (rest : List ℕ) → take (n + 1) piece ++ rest ≡ take n piece ++ (getD piece n 0 ∷ rest)
+    taken-and rest = rw (add-one n, take-suc piece n 0 m) (append-assoc (take n piece) (getD piece n 0 ∷ []) rest)
+
+    filled : u ≡ putState t c (header (heldNow (world t file ledger) f c h ++ take n piece))
+    filled = q ∙ filled-is (world t file ledger) f c h (take n piece) (omega (arith, short))
+
+    head-is : whole ≡ (heldNow (world t file ledger) f c h ++ take n piece) ++ getD piece n 0 ∷ []
+    head-is =
+        r ∙ ap (λ x. x ++ getD piece n 0 ∷ [])
+        (ap (λ x. held16 x c) filled
+        ∙ held16-put t c (heldNow (world t file ledger) f c h ++ take n piece) (record { row = omega (arith, f .channels); bytes = omega (arith, f .heads) })
+        (omega (arith, short, held-length (world t file ledger) f c h, length-append (heldNow (world t file ledger) f c h) (take n piece))))
+
+    judged : tookOf on (world v file ledger′) ≡ judges (world (filledBy t c (take n piece)) file ledger) c ((heldNow (world t file ledger) f c h ++ take n piece) ++ getD piece n 0 ∷ [])
+    judged = j file ∙ ap (λ x. judges (world x file ledger) c whole) q ∙ ap (λ x. judges (world (filledBy t c (take n piece)) file ledger) c x) head-is
+
+    all : (rest : List ℕ) (k : ℕ) → bytesOn c w (take n piece ++ (getD piece n 0 ∷ rest)) k
+        ≡ cond on (bytesOn c (world v file ledger′) rest (k + suc (length (take n piece)))) (took (k + suc (length (take n piece))), world v file ledger′)
+    all = whole-run (world t file ledger) f c h s (take n piece) (getD piece n 0) (world v file ledger′) on (omega (arith, short)) judged
+
+-- ---- a payload's bytes
+
+pub stored-ran : (t : Transfer) (file file′ : List ℕ) (c : ℕ) (piece : List ℕ) (n : ℕ) → c < channelCount → 0 < length piece → 1 < channelAt t c .state → channelAt t c .state < 4
+    → channelAt t c .next + channelAt t c .left ≤ length file → n ≡ min (channelAt t c .left) (length piece)
+    → file′ ≡ take (channelAt t c .next) file ++ (take n piece ++ drop (channelAt t c .next + n) file)
+    → (v : Transfer) (on : Bool)
+    → ((f l : List ℕ) → tookOf on (world v f l) ≡ opens (world t f l) c (channelAt t c .next + n) (channelAt t c .left - n) (eqb (channelAt t c .state) 3))
+    → (ledger : List ℕ) → fits (world t file ledger) ≡ true → RunOf c (world t file ledger) piece (world v file′ ledger) n on
+stored-ran t file file′ c piece n h z a b m q d v on o ledger e =
+    record {
+      few = omega (arith, q);
+      some = λ x. omega (arith, q, left);
+      goes-on = λ x rest k. all rest k ∙ rw (x, short);
+      stops-there = λ x k. ap (λ y. bytesOn c (world t file ledger) y k) (sym (take-append-drop n piece)) ∙ all (drop n piece) k ∙ rw (x, short);
+    }
+  where
+    f : Together (world t file ledger)
+    f = fits-together (world t file ledger) e
+
+    left : 0 < channelAt t c .left
+    left = some-left (channelAt t c) (f .stages c h) (in-payload (channelAt t c .state) a b)
+
+    short : length (take n piece) ≡ n
+    short = length-take-le n piece (omega (arith, q))
+
+    state-is : stateAt t c ≡ payload (channelAt t c .next) (channelAt t c .left) (eqb (channelAt t c .state) 3)
+    state-is = unfold stateAt in go (channelAt t c .state) a b
+      where
+        go : (s : ℕ) → 1 < s → s < 4 → readState s (take (channelAt t c .held) (drop (heldLimit * c) (t .heads))) (channelAt t c .next) (channelAt t c .left) ≡ payload (channelAt t c .next) (channelAt t c .left) (eqb s 3)
+        go zero a b = absurd (omega arith)
+        go (suc zero) a b = absurd (omega arith)
+        go (suc (suc zero)) a b = unfold readState in refl
+        go (suc (suc (suc zero))) a b = unfold readState in refl
+        go (suc (suc (suc (suc s)))) a b = absurd (omega arith)
+
+    stored : file′ ≡ sets file (channelAt t c .next) (take n piece)
+    stored = d ∙ sym (sets-eq (take n piece) file (channelAt t c .next) (omega (arith, short, q, m)) ∙ rw short (append-assoc (take (channelAt t c .next) file) (take n piece) (drop (channelAt t c .next + n) file)))
+
+    opened : tookOf on (world v file′ ledger) ≡ opens (world t (sets file (channelAt t c .next) (take n piece)) ledger) c (channelAt t c .next + length (take n piece)) (channelAt t c .left - length (take n piece)) (eqb (channelAt t c .state) 3)
+    opened = rw short (o file′ ledger ∙ ap (λ x. opens (world t x ledger) c (channelAt t c .next + n) (channelAt t c .left - n) (eqb (channelAt t c .state) 3)) stored)
+
+    all : (rest : List ℕ) (k : ℕ) → bytesOn c (world t file ledger) (take n piece ++ rest) k
+        ≡ cond on (bytesOn c (world v file′ ledger) rest (k + length (take n piece))) (took (k + length (take n piece)), world v file′ ledger)
+    all =
+        stored-run (world t file ledger) f c h (channelAt t c .next) (channelAt t c .left) (eqb (channelAt t c .state) 3) state-is (take n piece) (omega (arith, short, q, left, z)) (omega (arith, short, q))
+        (world v file′ ledger) on opened
