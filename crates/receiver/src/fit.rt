@@ -14,9 +14,11 @@ ghost use Rattle.ledger.specs.Ledger.{zeros, obeys, pairsOf};
 ghost use Rattle.transfer.specs.Fit.{idle, heldFits, restFits, channelFits, channelsFit, restsApart, countFits, faultFits, fitsLedger};
 ghost use Rattle.receiver.specs.Rests.{nextsOf, leftsOf, runsApart, runApartFrom, allApart};
 
+// The most pairs of a ledger.
 const PAIR_LIMIT: u64 = 4096;
 
-const HELD_LIMIT: u8 = 16;
+// The most bytes of a header that a channel holds.
+const HELD_LIMIT: usize = 16;
 
 // ---- one channel
 
@@ -35,14 +37,16 @@ fn zero_from(held: &[u8], from: usize) -> bool
     true
 }
 
+// A channel in a header.
 fn held_fits(k: Channel, held: &[u8]) -> bool
     requires { ⌜ length (now held) ≡ 16 ⌝ }
     ensures { λ r. ⌜ r ≡ heldFits k (now (held .entry)) ⌝ }
 {
-    if HELD_LIMIT < k.held {
+    let n = k.held as usize;
+    if HELD_LIMIT < n {
         return false;
     }
-    if !zero_from(held, k.held as usize) {
+    if !zero_from(held, n) {
         return false;
     }
     if k.next != 0 {
@@ -51,6 +55,7 @@ fn held_fits(k: Channel, held: &[u8]) -> bool
     k.left == 0
 }
 
+// A channel that is unused or has ended: as in a header of which no byte has come.
 fn idle(k: Channel, held: &[u8]) -> bool
     requires { ⌜ length (now held) ≡ 16 ⌝ }
     ensures { λ r. ⌜ r ≡ idle k (now (held .entry)) ⌝ }
@@ -61,6 +66,7 @@ fn idle(k: Channel, held: &[u8]) -> bool
     held_fits(k, held)
 }
 
+// A channel in a payload.
 fn rest_fits(k: Channel, held: &[u8], ledger: &[u64]) -> bool
     requires { ⌜ obeys (now ledger) ≡ true ⌝ }
     ensures { λ r. ⌜ r ≡ restFits (pairsOf (now (ledger .entry))) k (now (held .entry)) ⌝ }
@@ -98,7 +104,11 @@ fn channels_fit(t: Transfer, ledger: &[u64]) -> bool
     let mut c = 0;
     while c < count::CHANNELS {
         let k = t.channels[c];
-        if !channel_fits(k, &heads[16 * c..16 * c + 16], ledger) {
+        if !channel_fits(
+            k,
+            &heads[HELD_LIMIT * c..HELD_LIMIT * c + HELD_LIMIT],
+            ledger,
+        ) {
             return false;
         }
         c += 1;
@@ -108,13 +118,14 @@ fn channels_fit(t: Transfer, ledger: &[u64]) -> bool
 
 // ---- no two rests share a byte
 
-// The rests, packed: next places and bytes left of the n channels that have some.
+// The next places and the bytes left of the n channels that have some, packed.
 struct Rests {
     next: [u64; 64],
     left: [u64; 64],
     n: usize,
 }
 
+// 1 where bytes are left.
 fn one_if_some(left: u64) -> usize
     ensures { λ r. ⌜ (r ≤ 1) × (r ≡ cond (eqb left 0) 0 1) ⌝ }
 {
@@ -124,7 +135,7 @@ fn one_if_some(left: u64) -> usize
     1
 }
 
-// Each channel's numbers are stored, and the next one's over them unless it has bytes left.
+// Every channel's numbers are stored at n, and n moves on only past those of a channel that has bytes left.
 fn gather(t: Transfer) -> Rests
     ensures { λ r. ⌜ (r .n ≤ 64) × (take (r .n) (r .next) ≡ nextsOf (t .channels)) × (take (r .n) (r .left) ≡ leftsOf (t .channels)) ⌝ }
 {
@@ -146,7 +157,7 @@ fn gather(t: Transfer) -> Rests
     }
 }
 
-// Whether x places from a on end by b. Their end need not be a number of 64 bits.
+// Whether x places from a on end by b; where they end may be too large for 64 bits.
 fn ends_by(a: u64, x: u64, b: u64) -> bool
     ensures { λ r. ⌜ r ≡ leb (a + x) b ⌝ }
 {
@@ -156,6 +167,7 @@ fn ends_by(a: u64, x: u64, b: u64) -> bool
     x <= b - a
 }
 
+// Whether x places from a on and y places from b on share none.
 fn apart(a: u64, x: u64, b: u64, y: u64) -> bool
     ensures { λ r. ⌜ r ≡ runsApart a x b y ⌝ }
 {
@@ -232,7 +244,7 @@ fn fault_fits(t: Transfer) -> bool
     if 20 < t.fault {
         return false;
     }
-    t.on < 64
+    t.on < count::CHANNELS as u64
 }
 
 // ---- the whole

@@ -50,7 +50,7 @@ pub fn inside(ledger: &[u64], start: u64, end: u64) -> bool
     end <= ledger[2 * n - 1]
 }
 
-// Whether so many places from next on lie inside one pair. No entry is above the largest number, so a run that ends past it lies in none.
+// Whether the `left` places from next on lie inside one pair. No entry is above the largest number, so places that end past it lie in none.
 pub fn claimed(ledger: &[u64], next: u64, left: u64) -> bool
     requires { ⌜ (0 < left) × (obeys (now ledger) ≡ true) ⌝ }
     ensures { λ r. ⌜ r ≡ inside next (next + left) (pairsOf (now (ledger .entry))) ⌝ }

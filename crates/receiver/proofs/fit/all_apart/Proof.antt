@@ -1,6 +1,7 @@
 -- `fit::all_apart`: the runs that are left decide.
-use Prim.Native.Nat.{_-_, _≤_}
+use Prim.Native.Nat.{_+_, _-_, _≤_}
 use mathlib.Core.Path.{_≡_, refl, sym, _∙_}
+use mathlib.Core.Bool.{_&&_}
 use native.Mathlib.Omega.{arith}
 use borrow.Author.Tests.{not-true, not-false}
 use lib.ListN.{length, drop}
@@ -21,13 +22,17 @@ loop-holds c = (omega arith, omega arith, refl)
 apart-from-requires : tie.Need-apart-from-requires Inv-loop μ-loop
 apart-from-requires c κs = (omega arith, omega arith)
 
-returns : tie.Need-returns Inv-loop μ-loop
-returns c =
-    let m = c .before in
-    let l = m .before .before in
+-- the run at hand, and those behind it
+turn : (c : tie.After-apart-from Inv-loop μ-loop) → let l = c .before .before in
     let x = l .before .before .before .args in
-    let e = all-more (x .next .now) (x .left .now) (l .loop .j) (omega arith) (omega arith) in
-    sym (sym (l .loop .inv .2) ∙ e ∙ rw (sym (m .apart-from .ensures) ∙ not-true (m .apart-from .result) (c .if1 .taken)))
+    allApart (x .next .now) (x .left .now) ≡ (c .apart-from .result && allApart (drop (l .loop .j + 1) (x .next .now)) (drop (l .loop .j + 1) (x .left .now)))
+turn c =
+    let l = c .before .before in
+    let x = l .before .before .before .args in
+    sym (l .loop .inv .2) ∙ all-more (x .next .now) (x .left .now) (l .loop .j) (omega arith) (omega arith) ∙ rw (c .apart-from .ensures)
+
+returns : tie.Need-returns Inv-loop μ-loop
+returns c = let m = c .before in sym (turn m ∙ rw (not-true (m .apart-from .result) (c .if1 .taken)))
 
 add-j : tie.Need-add-j Inv-loop μ-loop
 add-j c = omega arith
@@ -36,12 +41,7 @@ loop-less : tie.Need-loop-less Inv-loop μ-loop
 loop-less c = omega arith
 
 loop-again : tie.Need-loop-again Inv-loop μ-loop
-loop-again c =
-    let m = c .before in
-    let l = m .before .before in
-    let x = l .before .before .before .args in
-    let e = all-more (x .next .now) (x .left .now) (l .loop .j) (omega arith) (omega arith) in
-    (omega arith, omega arith, rw (e, sym (m .apart-from .ensures) ∙ not-false (m .apart-from .result) (c .if1 .left)) at (l .loop .inv .2))
+loop-again c = let m = c .before in (omega arith, omega arith, sym (turn m ∙ rw (not-false (m .apart-from .result) (c .if1 .left))))
 
 returns-2 : tie.Need-returns-2 Inv-loop μ-loop
 returns-2 c =

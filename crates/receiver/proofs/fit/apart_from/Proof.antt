@@ -1,6 +1,7 @@
 -- `fit::apart_from`: the runs that are left decide.
 use Prim.Native.Nat.{_+_, _-_, _≤_}
 use mathlib.Core.Path.{_≡_, refl, sym, _∙_}
+use mathlib.Core.Bool.{_&&_}
 use native.Mathlib.Omega.{arith}
 use borrow.Author.Needs.{needs}
 use borrow.Author.Tests.{not-true, not-false}
@@ -50,15 +51,22 @@ shared-slice-read-apart-2 c = omega arith
 apart-requires : tie.Need-apart-requires Inv-loop μ-loop
 apart-requires c κs = search needs
 
-returns : tie.Need-returns Inv-loop μ-loop
-returns c =
-    let m = c .before in
-    let l = m .before .before .before .before in
+-- the run at hand, and those behind it
+turn : (c : tie.After-apart Inv-loop μ-loop) → let l = c .before .before .before .before in
     let x = l .before .before .before .before .before .args in
     let b = x .next .now in
     let y = x .left .now in
-    let e = from-more (getD b (x .j) 0) (getD y (x .j) 0) b y (l .loop .i) (omega arith) (omega arith) in
-    sym (sym (l .loop .inv .2) ∙ e ∙ rw (sym (m .apart .ensures) ∙ not-true (m .apart .result) (c .if1 .taken)))
+    runApartFrom (getD b (x .j) 0) (getD y (x .j) 0) (drop (x .j + 1) b) (drop (x .j + 1) y)
+    ≡ (c .apart .result && runApartFrom (getD b (x .j) 0) (getD y (x .j) 0) (drop (l .loop .i + 1) b) (drop (l .loop .i + 1) y))
+turn c =
+    let l = c .before .before .before .before in
+    let x = l .before .before .before .before .before .args in
+    let b = x .next .now in
+    let y = x .left .now in
+    sym (l .loop .inv .2) ∙ from-more (getD b (x .j) 0) (getD y (x .j) 0) b y (l .loop .i) (omega arith) (omega arith) ∙ rw (c .apart .ensures)
+
+returns : tie.Need-returns Inv-loop μ-loop
+returns c = let m = c .before in sym (turn m ∙ rw (not-true (m .apart .result) (c .if1 .taken)))
 
 add-i-2 : tie.Need-add-i-2 Inv-loop μ-loop
 add-i-2 c = omega arith
@@ -67,14 +75,7 @@ loop-less : tie.Need-loop-less Inv-loop μ-loop
 loop-less c = omega arith
 
 loop-again : tie.Need-loop-again Inv-loop μ-loop
-loop-again c =
-    let m = c .before in
-    let l = m .before .before .before .before in
-    let x = l .before .before .before .before .before .args in
-    let b = x .next .now in
-    let y = x .left .now in
-    let e = from-more (getD b (x .j) 0) (getD y (x .j) 0) b y (l .loop .i) (omega arith) (omega arith) in
-    (omega arith, omega arith, rw (e, sym (m .apart .ensures) ∙ not-false (m .apart .result) (c .if1 .left)) at (l .loop .inv .2))
+loop-again c = let m = c .before in (omega arith, omega arith, sym (turn m ∙ rw (not-false (m .apart .result) (c .if1 .left))))
 
 returns-2 : tie.Need-returns-2 Inv-loop μ-loop
 returns-2 c =

@@ -73,21 +73,20 @@ channel-fits-requires c κs =
     let v = l .loop .inv in
     (simp (length-take, length-drop) (omega (arith, v .2)), l .before .before .before .pre)
 
-turn : (c : tie.After-channel-fits Inv-loop μ-loop) → let l = c .before .before .before .before .before in let x = l .before .before .before .args in let ps = pairsOf (x .ledger .now) in
-    channelsFit ps (drop (l .loop .c) (x .t1 .channels)) (drop (heldLimit * l .loop .c) (x .t1 .heads))
+-- the channel at hand, and those behind it
+turn : (c : tie.After-channel-fits Inv-loop μ-loop) → let l = c .before .before .before .before .before in
+    let x = l .before .before .before .args in
+    let ps = pairsOf (x .ledger .now) in
+    channelsFit ps (x .t1 .channels) (x .t1 .heads)
     ≡ (c .channel-fits .result && channelsFit ps (drop (l .loop .c + 1) (x .t1 .channels)) (drop (heldLimit * (l .loop .c + 1)) (x .t1 .heads)))
 turn c =
     let l = c .before .before .before .before .before in
     let x = l .before .before .before .args in
     let d : heldLimit * l .loop .c + heldLimit - heldLimit * l .loop .c ≡ heldLimit = omega arith in
-    one-more (pairsOf (x .ledger .now)) (x .t1 .channels) (x .t1 .heads) (l .loop .c) (omega (arith, l .loop .inv .1)) ∙ rw (c .channel-fits .ensures, d)
+    sym (l .loop .inv .3) ∙ one-more (pairsOf (x .ledger .now)) (x .t1 .channels) (x .t1 .heads) (l .loop .c) (omega (arith, l .loop .inv .1)) ∙ rw (c .channel-fits .ensures, d)
 
 returns : tie.Need-returns Inv-loop μ-loop
-returns c =
-    let m = c .before in
-    let l = m .before .before .before .before .before in
-    let v = l .loop .inv in
-    sym (sym (v .3) ∙ turn m ∙ rw (not-true (m .channel-fits .result) (c .if1 .taken)))
+returns c = let m = c .before in sym (turn m ∙ rw (not-true (m .channel-fits .result) (c .if1 .taken)))
 
 add-c : tie.Need-add-c Inv-loop μ-loop
 add-c c = omega arith
@@ -98,9 +97,8 @@ loop-less c = omega arith
 loop-again : tie.Need-loop-again Inv-loop μ-loop
 loop-again c =
     let m = c .before in
-    let l = m .before .before .before .before .before in
-    let v = l .loop .inv in
-    (omega arith, v .1, v .2, rw (turn m, not-false (m .channel-fits .result) (c .if1 .left)) at (v .3))
+    let v = m .before .before .before .before .before .loop .inv in
+    (omega arith, v .1, v .2, sym (turn m ∙ rw (not-false (m .channel-fits .result) (c .if1 .left))))
 
 returns-2 : tie.Need-returns-2 Inv-loop μ-loop
 unfolding channelsFit
