@@ -104,11 +104,8 @@ fn channels_fit(t: Transfer, ledger: &[u64]) -> bool
     let mut c = 0;
     while c < count::CHANNELS {
         let k = t.channels[c];
-        if !channel_fits(
-            k,
-            &heads[HELD_LIMIT * c..HELD_LIMIT * c + HELD_LIMIT],
-            ledger,
-        ) {
+        let at = HELD_LIMIT * c;
+        if !channel_fits(k, &heads[at..at + HELD_LIMIT], ledger) {
             return false;
         }
         c += 1;

@@ -49,11 +49,8 @@ mul-k c = omega arith
 element-copy-out-k : tie.Need-element-copy-out-k Inv-loop μ-loop
 element-copy-out-k c = omega arith
 
-mul-channel-fits : tie.Need-mul-channel-fits Inv-loop μ-loop
-mul-channel-fits c = omega arith
-
-mul-channel-fits-2 : tie.Need-mul-channel-fits-2 Inv-loop μ-loop
-mul-channel-fits-2 c = omega arith
+mul-at : tie.Need-mul-at Inv-loop μ-loop
+mul-at c = omega arith
 
 add-channel-fits : tie.Need-add-channel-fits Inv-loop μ-loop
 add-channel-fits c = omega arith
@@ -117,8 +114,7 @@ channels-fit-spec =
     loop-holds
     mul-k
     element-copy-out-k
-    mul-channel-fits
-    mul-channel-fits-2
+    mul-at
     add-channel-fits
     sub-channel-fits
     part-channel-fits-start
