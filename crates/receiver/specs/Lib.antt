@@ -1,3 +1,4 @@
 pub mod Leaves
+pub mod Rests
 pub mod Answers
 pub mod Runs
