@@ -59,6 +59,10 @@ rest-inside w c h e a b =
 
 -- ---- a header's bytes
 
+pub filled-pairs : (t : Transfer) (c : ℕ) (bs : List ℕ) → filledBy t c bs .pairs ≡ t .pairs
+unfolding filledBy
+filled-pairs t c bs = refl
+
 -- all of the piece is held
 pub held-ran : (t : Transfer) (ledger : List ℕ) (c : ℕ) (piece : List ℕ) → c < channelCount → fitsLedger t ledger ≡ true → Takes t c → 0 < length piece
     → channelAt t c .held + length piece ≤ heldLimit → (u : Transfer) → u ≡ filledBy t c piece

@@ -1,71 +1,84 @@
+-- `step::header`: what is held and judged, as the laws of a header's bytes say.
+use Prim.Native.Nat.{_*_, _-_, _≤_}
+use mathlib.Core.Path.{_≡_, sym, ap, _∙_}
+use native.Mathlib.Omega.{arith}
+use lib.ListN.{length, take, length-take}
+use Rattle.transfer.specs.Channel.{channelAt}
+use Rattle.receiver.proofs.Ran.{held-few, ledger-fits, filled-pairs, held-ran, judged-ran}
 use borrow.Author.Needs.{needs}
 use Rattle.receiver.proofs.step.header.Statement.{statement}
 use Rattle.receiver.proofs.step.header.Tie as tie
-use Rattle.receiver.proofs.step.header.Reads as reads
-use Rattle.receiver.proofs.step.header.Lts as lts
-use Rattle.receiver.proofs.head.heed.Reads as heed-reads
-use Rattle.receiver.proofs.head.hold.Reads as hold-reads
-use Rattle.receiver.proofs.step.seventeen.Reads as seventeen-reads
 
--- src/step.rt:62:13
+few : (l : tie.Start) → channelAt (l .args .t1) (l .args .c) .held ≤ 16
+few l = held-few (l .args .t1) (l .args .ledger .now) (l .args .c) (l .pre .0) (l .pre .2)
+
 mul-k : tie.Need-mul-k
 mul-k c = search needs
 
--- src/step.rt:62:13
 element-copy-out-k : tie.Need-element-copy-out-k
 element-copy-out-k c = search needs
 
--- src/step.rt:63:21
 cast-room : tie.Need-cast-room
 cast-room c = search needs
 
--- src/step.rt:63:16
 sub-room : tie.Need-sub-room
-sub-room c = ?
+sub-room c = few (c .before .before .before .before)
 
--- src/step.rt:67:16
 hold-requires : tie.Need-hold-requires
 hold-requires c κs = search needs
 
--- src/step.rt:66:9
 returns : tie.Need-returns
-returns c = ?
+returns c =
+    let l = c .before .before .before .before .before .before in
+    let x = l .args in
+    held-ran (x .t1) (x .ledger .now) (x .c) (x .piece .now) (l .pre .0) (l .pre .2) (l .pre .3) (l .pre .1) (omega (arith, few l)) (c .hold .result) (c .hold .ensures)
 
--- src/step.rt:72:30
 slice-aggregate-hold : tie.Need-slice-aggregate-hold
-slice-aggregate-hold c = ?
+slice-aggregate-hold c =
+    let x = c .before .before .before .before .before .before .args in
+    omega (arith, length-take (16 - channelAt (x .t1) (x .c) .held) (x .piece .now))
 
--- src/step.rt:72:9
 hold-requires-2 : tie.Need-hold-requires-2
-hold-requires-2 c κs = ?
+hold-requires-2 c κs =
+    let l = c .before .before .before .before .before .before in
+    let x = l .args in
+    (l .pre .0, omega (arith, few l, length-take (16 - channelAt (x .t1) (x .c) .held) (x .piece .now)))
 
--- src/step.rt:73:33
 shared-slice-read-seventeen : tie.Need-shared-slice-read-seventeen
 shared-slice-read-seventeen c = search needs
 
--- src/step.rt:73:17
 seventeen-requires : tie.Need-seventeen-requires
 seventeen-requires c κs = search needs
 
--- src/step.rt:74:33
 slice-aggregate-heed : tie.Need-slice-aggregate-heed
 slice-aggregate-heed c = search needs
 
--- src/step.rt:74:9
 heed-requires : tie.Need-heed-requires
-heed-requires c κs = ?
+heed-requires c κs =
+    let h = c .before .before .before .before in
+    let l = h .before .before .before .before .before .before .before in
+    let x = l .args in
+    let f = ledger-fits (x .t1) (x .ledger .now) (l .pre .2) in
+    let n : length (c .before .before .seventeen .result) ≡ 17 = search needs in
+    (l .pre .0, n, f .0, f .1 ∙ ap (λ p. 2 * p) (sym (ap (λ u. u .pairs) (h .hold2 .ensures) ∙ filled-pairs (x .t1) (x .c) _)))
 
--- src/step.rt:78:16
 add-t13 : tie.Need-add-t13
 add-t13 c = search needs
 
--- src/step.rt:58:1
 same-length : tie.Need-same-length
 same-length c = search needs
 
--- src/step.rt:58:1
 returns-2 : tie.Need-returns-2
-returns-2 c = ?
+returns-2 c =
+    let e = c .before .before .before in
+    let w = e .before .before .before in
+    let h = w .before .before in
+    let i = h .before .before in
+    let l = i .before .before .before .before .before in
+    let x = l .args in
+    let held = channelAt (x .t1) (x .c) .held in
+    judged-ran (x .t1) (x .ledger .now) _ (x .c) (x .piece .now) (16 - held) (l .pre .0) (l .pre .2) (l .pre .3) (omega (arith, few l)) (i .if1 .left)
+    (h .hold2 .result) (h .hold2 .ensures) (w .seventeen .result) (w .seventeen .ensures) (e .heed .result .t) (e .heed .result .on) (e .heed .ensures)
 
 pub header-spec : {M : Type 1} → statement M
 header-spec =

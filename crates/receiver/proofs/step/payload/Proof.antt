@@ -1,47 +1,42 @@
+-- `step::payload`: one store and the channel's next state, as the law of a payload's bytes says.
+use Rattle.receiver.proofs.Ran.{stored-ran}
 use borrow.Author.Needs.{needs}
 use Rattle.receiver.proofs.step.payload.Statement.{statement}
 use Rattle.receiver.proofs.step.payload.Tie as tie
-use Rattle.receiver.proofs.step.payload.Reads as reads
-use Rattle.receiver.proofs.step.payload.Lts as lts
-use Rattle.receiver.proofs.body.store.Reads as store-reads
-use Rattle.receiver.proofs.channel.open.Reads as open-reads
-use Rattle.receiver.proofs.step.lesser.Reads as lesser-reads
 
--- src/step.rt:97:13
 mul-k : tie.Need-mul-k
 mul-k c = search needs
 
--- src/step.rt:97:13
 element-copy-out-k : tie.Need-element-copy-out-k
 element-copy-out-k c = search needs
 
--- src/step.rt:98:9
 lesser-requires : tie.Need-lesser-requires
 lesser-requires c κs = search needs
 
--- src/step.rt:99:5
 store-requires : tie.Need-store-requires
 store-requires c κs = search needs
 
--- src/step.rt:100:36
 add-open : tie.Need-add-open
 add-open c = search needs
 
--- src/step.rt:100:55
 sub-open : tie.Need-sub-open
 sub-open c = search needs
 
--- src/step.rt:100:9
 open-requires : tie.Need-open-requires
 open-requires c κs = search needs
 
--- src/step.rt:93:1
 same-length : tie.Need-same-length
 same-length c = search needs
 
--- src/step.rt:93:1
 returns : tie.Need-returns
-returns c = ?
+returns c =
+    let o = c .before in
+    let s = c .before .before .before .before .before .before .before in
+    let n = s .before .before in
+    let l = n .before .before .before .before in
+    let x = l .args in
+    stored-ran (x .t1) (x .file .now) _ (x .c) (x .piece .now) (n .lesser .result) (l .pre .0) (l .pre .1) (l .pre .2) (l .pre .3) (l .pre .4) (n .lesser .ensures)
+    (s .store .ensures) (o .«open» .result .t) (o .«open» .result .on) (o .«open» .ensures)
 
 pub payload-spec : {M : Type 1} → statement M
 payload-spec =
