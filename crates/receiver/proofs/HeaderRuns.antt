@@ -1,16 +1,15 @@
 -- Bytes of a header taken at once: those that are held, and the 17th, at which it is judged.
 use Prim.Native.Nat.{ℕ, suc, _+_, _≤_, _<_}
 use mathlib.Core.Path.{_≡_, sym, ap, _∙_, subst}
-use mathlib.Core.Logic.{_⊎_, inl, inr}
-use mathlib.Core.Bool.{Bool, true, false, cond, _&&_}
+use mathlib.Core.Logic.{inl, inr}
+use mathlib.Core.Bool.{Bool, true, false, cond}
 use mathlib.Core.List.{List, [], _∷_, _++_, append-assoc, append-nil}
 use native.Mathlib.Omega.{arith}
 use borrow.Author.Tests.{lt-ltb, le-ltb}
-use lib.Dec.{ltb, eqb}
 use lib.ListN.{length, length-append}
 use Rattle.transfer.specs.declared.state.Transfer.{Transfer}
 use Rattle.transfer.specs.Channel.{channelCount, heldLimit, header, readState, channelAt, stateAt, putState}
-use Rattle.transfer.specs.Transfer.{usedOf, World, world}
+use Rattle.transfer.specs.Transfer.{World, world}
 use Rattle.transfer.specs.Receive.{goes, took, heads, judges, byteOn, byteOf}
 use Rattle.transfer.proofs.Lens.{Has, get-put, put-put}
 use Rattle.transfer.proofs.Pieces.{at, bytes-goes, bytes-stops}

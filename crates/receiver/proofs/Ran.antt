@@ -1,8 +1,8 @@
 -- What the two kinds of runs come to, from what their leaves answer.
 use Prim.Native.Nat.{ℕ, zero, suc, _+_, _*_, _-_, _≤_, _<_, min}
-use mathlib.Core.Path.{_≡_, refl, sym, ap, _∙_, subst}
+use mathlib.Core.Path.{_≡_, refl, sym, ap, _∙_}
 use mathlib.Core.Logic.{_⊎_, inl, inr}
-use mathlib.Core.Bool.{Bool, true, false, cond, true≢false, false≢true}
+use mathlib.Core.Bool.{Bool, true, cond, true≢false}
 use mathlib.Core.List.{List, [], _∷_, _++_, append-assoc, append-nil}
 use native.Mathlib.Omega.{arith}
 use native.Mathlib.Numerals.{add-one}
@@ -16,7 +16,6 @@ use Rattle.transfer.specs.Channel.{channelCount, heldLimit, header, payload, he
 use Rattle.transfer.specs.Transfer.{World, world}
 use Rattle.transfer.specs.Receive.{took, opens, judges}
 use Rattle.transfer.specs.Fit.{fitsLedger, fits}
-use Rattle.transfer.specs.Fitting.{InPayload, Fit}
 use Rattle.transfer.proofs.Lens.{Has}
 use Rattle.transfer.proofs.Stages.{held-within, some-left}
 use Rattle.transfer.proofs.Together.{Together, together-fit}

@@ -22,7 +22,7 @@ used-are : (w : World) → Fit w → usedOf (w .t) ≡ sum oneIfUsed (w .t .chan
 unfolding usedOf endedOf
 used-are w f = used-sum (w .t .channels) (λ c g. f .states c (omega (arith, f .channels)))
 
-piece-keeps : (c : ℕ) → c < channelCount → (piece : List ℕ) (w : World) (k : ℕ) → Together w → Together (bytesBy (λ v b. byteOf v c b) w piece k .1)
+pub piece-keeps : (c : ℕ) → c < channelCount → (piece : List ℕ) (w : World) (k : ℕ) → Together w → Together (bytesBy (λ v b. byteOf v c b) w piece k .1)
 piece-keeps c h [] w k f = rw (bytes-none (λ v b. byteOf v c b) w k) f
 piece-keeps c h (b ∷ bs) w k f = go (byteOf w c b) refl (byte-keeps c h w b f) (λ v. piece-keeps c h bs v (suc k))
   where

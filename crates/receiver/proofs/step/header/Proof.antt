@@ -2,7 +2,7 @@
 use Prim.Native.Nat.{_*_, _-_, _≤_}
 use mathlib.Core.Path.{_≡_, sym, ap, _∙_}
 use native.Mathlib.Omega.{arith}
-use lib.ListN.{length, take, length-take}
+use lib.ListN.{length, length-take}
 use Rattle.transfer.specs.Channel.{channelAt}
 use Rattle.receiver.proofs.Ran.{held-few, ledger-fits, filled-pairs, held-ran, judged-ran}
 use borrow.Author.Needs.{needs}
