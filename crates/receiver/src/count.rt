@@ -1,10 +1,34 @@
 // Counts over the 64 channels of a transfer.
+use transfer::state::Channel;
 use transfer::state::Transfer;
 ghost use mathlib.Core.Path.{_≡_};
 ghost use Prim.Native.Nat.{_+_, min};
-ghost use Rattle.transfer.specs.Transfer.{endedOf, usedOf, leftOf};
+ghost use Rattle.transfer.specs.Transfer.{oneIfEnded, oneIfAlive, endedOf, usedOf, leftOf};
 
 pub const CHANNELS: usize = 64;
+
+// 1 for a channel that has ended.
+fn one_if_ended(k: Channel) -> u64
+    ensures { λ r. ⌜ r ≡ oneIfEnded k ⌝ }
+{
+    if k.state == 4 {
+        return 1;
+    }
+    0
+}
+
+// 1 for a channel that is not unused: one that has ended, or is in a header or a payload.
+fn one_if_used(k: Channel) -> u64
+    ensures { λ r. ⌜ r ≡ oneIfEnded k + oneIfAlive k ⌝ }
+{
+    if k.state == 0 {
+        return 0;
+    }
+    if 4 < k.state {
+        return 0;
+    }
+    1
+}
 
 // How many have ended.
 pub fn ended(t: Transfer) -> u64
@@ -14,15 +38,13 @@ pub fn ended(t: Transfer) -> u64
     let mut c = 0;
     while c < CHANNELS {
         let k = t.channels[c];
-        if k.state == 4 {
-            n += 1;
-        }
+        n += one_if_ended(k);
         c += 1;
     }
     n
 }
 
-// How many are not unused: those that have ended and those in a header or a payload.
+// How many are not unused.
 pub fn used(t: Transfer) -> u64
     ensures { λ r. ⌜ r ≡ usedOf t ⌝ }
 {
@@ -30,11 +52,7 @@ pub fn used(t: Transfer) -> u64
     let mut c = 0;
     while c < CHANNELS {
         let k = t.channels[c];
-        if 0 < k.state {
-            if k.state <= 4 {
-                n += 1;
-            }
-        }
+        n += one_if_used(k);
         c += 1;
     }
     n

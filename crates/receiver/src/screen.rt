@@ -1,1 +1,173 @@
-// The screen line and the stored bytes.
+// The screen line, written into lent bytes.
+use crate::count;
+use crate::fit;
+use crate::receive::Receiver;
+use crate::receive::Verdict;
+use octets::decimal;
+ghost use mathlib.Core.Path.{_≡_};
+ghost use mathlib.Core.List.{[]};
+ghost use Prim.Native.Nat.{_+_, _≤_};
+ghost use lib.ListN.{length};
+ghost use lib.Seq.{sets};
+ghost use Rattle.octets.specs.Decimal.{decimal};
+ghost use Rattle.receiver.specs.Answers.{verdictIs};
+ghost use Rattle.receiver.specs.Screen.{countText, brokenText, endedText, frontText, lineText, Puts};
+
+// How many bytes of the lent ones the line took, or the number by which it was refused.
+pub enum Line {
+    Bytes(usize),
+    Refused(u8),
+}
+
+// The numbers that a line may say. A count of 0 is an unknown one.
+struct Numbers {
+    fault: u64,
+    on: u64,
+    ended: u64,
+    count: u64,
+    bytes: u64,
+}
+
+const BROKEN: [u8; 7] = *b"BROKEN ";
+
+const ON: [u8; 4] = *b" on ";
+
+const GUESS: [u8; 5] = *b"GUESS";
+
+const RESULT: [u8; 6] = *b"RESULT";
+
+const ENDED: [u8; 7] = *b" ended ";
+
+const OF: [u8; 4] = *b" of ";
+
+const UNKNOWN: [u8; 1] = *b"?";
+
+const BYTES: [u8; 7] = *b" bytes ";
+
+const LINE_FEED: [u8; 1] = *b"\n";
+
+// ---- how long it is
+
+// The number of digits of n.
+fn digits(n: u64) -> usize
+    ensures { λ r. ⌜ (r ≡ length (decimal n)) × (r ≤ 20) ⌝ }
+{
+    decimal::length(n)
+}
+
+fn count_length(n: u64) -> usize
+    ensures { λ r. ⌜ (r ≡ length (countText n)) × (r ≤ 20) ⌝ }
+{
+    if n == 0 {
+        return UNKNOWN.len();
+    }
+    digits(n)
+}
+
+fn broken_length(fault: u64, on: u64) -> usize
+    ensures { λ r. ⌜ (r ≡ length (brokenText fault on)) × (r ≤ 51) ⌝ }
+{
+    BROKEN.len() + digits(fault) + ON.len() + digits(on)
+}
+
+fn ended_length(ended: u64, count: u64) -> usize
+    ensures { λ r. ⌜ (r ≡ length (endedText ended count)) × (r ≤ 51) ⌝ }
+{
+    ENDED.len() + digits(ended) + OF.len() + count_length(count)
+}
+
+fn front_length(v: Verdict, n: Numbers) -> usize
+    ensures { λ r. ⌜ (r ≡ length (frontText (verdictIs v) (n .fault) (n .on) (n .ended) (n .count))) × (r ≤ 57) ⌝ }
+{
+    match v {
+        Verdict::Broken => broken_length(n.fault, n.on),
+        Verdict::Guess => GUESS.len() + ended_length(n.ended, n.count),
+        Verdict::Result => RESULT.len() + ended_length(n.ended, n.count),
+    }
+}
+
+fn line_length(v: Verdict, n: Numbers) -> usize
+    ensures { λ r. ⌜ r ≡ length (lineText (verdictIs v) (n .fault) (n .on) (n .ended) (n .count) (n .bytes)) ⌝ }
+{
+    front_length(v, n) + BYTES.len() + digits(n.bytes) + LINE_FEED.len()
+}
+
+// ---- its parts, each put at a place; the answer is the place behind it
+
+fn put_word(out: &mut [u8], at: usize, word: &[u8]) -> usize
+    requires { ⌜ at + length (now word) ≤ length (now out) ⌝ }
+    ensures { λ r. ⌜ Puts (now (out .entry)) at (now (word .entry)) r (now (out .exit)) ⌝ }
+{
+    let mut i = 0;
+    while i < word.len() {
+        out[at + i] = word[i];
+        i += 1;
+    }
+    at + i
+}
+
+fn put_number(out: &mut [u8], at: usize, n: u64) -> usize
+    requires { ⌜ at + length (decimal n) ≤ length (now out) ⌝ }
+    ensures { λ r. ⌜ Puts (now (out .entry)) at (decimal n) r (now (out .exit)) ⌝ }
+{
+    let end = at + digits(n);
+    decimal::write(n, &mut out[at..end]);
+    end
+}
+
+fn put_count(out: &mut [u8], at: usize, n: u64) -> usize
+    requires { ⌜ at + length (countText n) ≤ length (now out) ⌝ }
+    ensures { λ r. ⌜ Puts (now (out .entry)) at (countText n) r (now (out .exit)) ⌝ }
+{
+    if n == 0 {
+        return put_word(out, at, &UNKNOWN);
+    }
+    put_number(out, at, n)
+}
+
+fn put_broken(out: &mut [u8], fault: u64, on: u64) -> usize
+    requires { ⌜ length (brokenText fault on) ≤ length (now out) ⌝ }
+    ensures { λ r. ⌜ Puts (now (out .entry)) 0 (brokenText fault on) r (now (out .exit)) ⌝ }
+{
+    let a = put_word(out, 0, &BROKEN);
+    let b = put_number(out, a, fault);
+    let c = put_word(out, b, &ON);
+    put_number(out, c, on)
+}
+
+fn put_ended(out: &mut [u8], at: usize, ended: u64, count: u64) -> usize
+    requires { ⌜ at + length (endedText ended count) ≤ length (now out) ⌝ }
+    ensures { λ r. ⌜ Puts (now (out .entry)) at (endedText ended count) r (now (out .exit)) ⌝ }
+{
+    let a = put_word(out, at, &ENDED);
+    let b = put_number(out, a, ended);
+    let c = put_word(out, b, &OF);
+    put_count(out, c, count)
+}
+
+fn put_front(out: &mut [u8], v: Verdict, n: Numbers) -> usize
+    requires { ⌜ length (frontText (verdictIs v) (n .fault) (n .on) (n .ended) (n .count)) ≤ length (now out) ⌝ }
+    ensures { λ r. ⌜ Puts (now (out .entry)) 0 (frontText (verdictIs v) (n .fault) (n .on) (n .ended) (n .count)) r (now (out .exit)) ⌝ }
+{
+    match v {
+        Verdict::Broken => put_broken(out, n.fault, n.on),
+        Verdict::Guess => {
+            let a = put_word(out, 0, &GUESS);
+            put_ended(out, a, n.ended, n.count)
+        }
+        Verdict::Result => {
+            let a = put_word(out, 0, &RESULT);
+            put_ended(out, a, n.ended, n.count)
+        }
+    }
+}
+
+fn put_line(out: &mut [u8], v: Verdict, n: Numbers)
+    requires { ⌜ length (lineText (verdictIs v) (n .fault) (n .on) (n .ended) (n .count) (n .bytes)) ≤ length (now out) ⌝ }
+    ensures { λ _. ⌜ now (out .exit) ≡ sets (now (out .entry)) 0 (lineText (verdictIs v) (n .fault) (n .on) (n .ended) (n .count) (n .bytes)) ⌝ }
+{
+    let a = put_front(out, v, n);
+    let b = put_word(out, a, &BYTES);
+    let c = put_number(out, b, n.bytes);
+    put_word(out, c, &LINE_FEED);
+}
