@@ -13,8 +13,11 @@ use Rattle.ledger.specs.Claim.{largest}
 use Rattle.transfer.specs.declared.state.Transfer.{Transfer}
 use Rattle.transfer.specs.Transfer.{endedOf, leftOf, World, world, Verdict, guess, result, broken, verdictOf, storedOf}
 use Rattle.transfer.specs.Fit.{fitsLedger}
+use Rattle.receiver.specs.declared.receive.Verdict.{Verdict as Shown}
+use Rattle.receiver.specs.declared.screen.Numbers.{Numbers}
 use Rattle.receiver.specs.declared.screen.Line.{Line}
 use Rattle.receiver.specs.declared.screen.Line.the-variants.{Bytes, Refused}
+use Rattle.receiver.specs.Answers.{verdictIs}
 
 -- claimed bytes less those left, for any transfer and ledger: either sum is cut at the largest 64-bit number
 unfoldable pub storedCut : Transfer → List ℕ → ℕ
@@ -77,28 +80,33 @@ lineText v fault on ended count bytes = frontText v fault on ended count ++ byte
 unfoldable pub lineOf : World → List ℕ
 lineOf w = lineText (verdictOf w) (w .t .fault) (w .t .on) (endedOf (w .t)) (w .t .count) (storedOf w)
 
--- ---- written into lent bytes
-
--- a text put at a place leaves them so, with `end` the place behind it
-abbrev pub Puts : List ℕ → ℕ → List ℕ → ℕ → List ℕ → Type 0
-Puts out at text end after = (end ≡ at + length text) × (after ≡ sets out at text)
-
 -- neither verdict nor stored bytes look at the file
 abbrev pub lineFor : Transfer → List ℕ → List ℕ
 lineFor t ledger = lineOf (world t [] ledger)
 
--- 1 where transfer and ledger don't fit, then 55 where the lent bytes are too few; 0 where it writes
+-- ---- written into lent bytes
+
+-- 55 where they are too few, 0 where not
+unfoldable pub roomNumber : List ℕ → List ℕ → ℕ
+roomNumber text out = cond (ltb (length out) (length text)) 55 0
+
+-- refused by the number k, or written where it is 0
+unfoldable pub answerBy : ℕ → List ℕ → Line
+answerBy k text = cond (ltb 0 k) (Refused k) (Bytes (length text))
+
+-- unchanged by a refusal, and past the text in any case
+unfoldable pub leftBy : ℕ → List ℕ → List ℕ → List ℕ
+leftBy k text out = cond (ltb 0 k) out (text ++ drop (length text) out)
+
+-- 1 where transfer and ledger don't fit, then 55; 0 where the line is written
 unfoldable pub screenNumber : Transfer → List ℕ → List ℕ → ℕ
-screenNumber t ledger out = cond (not (fitsLedger t ledger)) 1 (cond (ltb (length out) (length (lineFor t ledger))) 55 0)
+screenNumber t ledger out = cond (not (fitsLedger t ledger)) 1 (roomNumber (lineFor t ledger) out)
 
 unfoldable pub screenOf : Transfer → List ℕ → List ℕ → Line
-screenOf t ledger out =
-    cond (ltb 0 (screenNumber t ledger out)) (Refused (screenNumber t ledger out)) (Bytes (length (lineFor t ledger)))
+screenOf t ledger out = answerBy (screenNumber t ledger out) (lineFor t ledger)
 
--- the lent bytes after it: unchanged by a refusal, and past the line in any case
 unfoldable pub screenLeaves : Transfer → List ℕ → List ℕ → List ℕ
-screenLeaves t ledger out =
-    cond (ltb 0 (screenNumber t ledger out)) out (lineFor t ledger ++ drop (length (lineFor t ledger)) out)
+screenLeaves t ledger out = leftBy (screenNumber t ledger out) (lineFor t ledger) out
 
 -- ---- document 01's number for each case of the answer, 0 where nothing is refused, and the bytes written
 
@@ -109,3 +117,15 @@ lineNumber (Refused k) = k
 unfoldable pub lineBytes : Line → ℕ
 lineBytes (Bytes n) = n
 lineBytes (Refused k) = 0
+
+-- ---- as the code holds it
+
+abbrev pub frontSaid : Shown → Numbers → List ℕ
+frontSaid v n = frontText (verdictIs v) (n .fault) (n .on) (n .ended) (n .count)
+
+abbrev pub lineSaid : Shown → Numbers → List ℕ
+lineSaid v n = lineText (verdictIs v) (n .fault) (n .on) (n .ended) (n .count) (n .bytes)
+
+-- a text put at a place of the lent bytes: the place behind it, and what it leaves of them
+abbrev pub Puts : List ℕ → ℕ → List ℕ → ℕ → List ℕ → Type 0
+Puts out at text end after = (end ≡ at + length text) × (after ≡ sets out at text)

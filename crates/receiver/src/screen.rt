@@ -5,13 +5,11 @@ use crate::receive::Receiver;
 use crate::receive::Verdict;
 use octets::decimal;
 ghost use mathlib.Core.Path.{_≡_};
-ghost use mathlib.Core.List.{[]};
 ghost use Prim.Native.Nat.{_+_, _≤_};
 ghost use lib.ListN.{length};
 ghost use lib.Seq.{sets};
 ghost use Rattle.octets.specs.Decimal.{decimal};
-ghost use Rattle.receiver.specs.Answers.{verdictIs};
-ghost use Rattle.receiver.specs.Screen.{countText, brokenText, endedText, frontText, lineText, Puts};
+ghost use Rattle.receiver.specs.Screen.{countText, brokenText, endedText, frontSaid, lineSaid, Puts, roomNumber, answerBy, leftBy, screenOf, screenLeaves};
 
 // How many bytes of the lent ones the line took, or the number by which it was refused.
 pub enum Line {
@@ -77,7 +75,7 @@ fn ended_length(ended: u64, count: u64) -> usize
 }
 
 fn front_length(v: Verdict, n: Numbers) -> usize
-    ensures { λ r. ⌜ (r ≡ length (frontText (verdictIs v) (n .fault) (n .on) (n .ended) (n .count))) × (r ≤ 57) ⌝ }
+    ensures { λ r. ⌜ (r ≡ length (frontSaid v n)) × (r ≤ 57) ⌝ }
 {
     match v {
         Verdict::Broken => broken_length(n.fault, n.on),
@@ -87,7 +85,7 @@ fn front_length(v: Verdict, n: Numbers) -> usize
 }
 
 fn line_length(v: Verdict, n: Numbers) -> usize
-    ensures { λ r. ⌜ r ≡ length (lineText (verdictIs v) (n .fault) (n .on) (n .ended) (n .count) (n .bytes)) ⌝ }
+    ensures { λ r. ⌜ r ≡ length (lineSaid v n) ⌝ }
 {
     front_length(v, n) + BYTES.len() + digits(n.bytes) + LINE_FEED.len()
 }
@@ -146,8 +144,8 @@ fn put_ended(out: &mut [u8], at: usize, ended: u64, count: u64) -> usize
 }
 
 fn put_front(out: &mut [u8], v: Verdict, n: Numbers) -> usize
-    requires { ⌜ length (frontText (verdictIs v) (n .fault) (n .on) (n .ended) (n .count)) ≤ length (now out) ⌝ }
-    ensures { λ r. ⌜ Puts (now (out .entry)) 0 (frontText (verdictIs v) (n .fault) (n .on) (n .ended) (n .count)) r (now (out .exit)) ⌝ }
+    requires { ⌜ length (frontSaid v n) ≤ length (now out) ⌝ }
+    ensures { λ r. ⌜ Puts (now (out .entry)) 0 (frontSaid v n) r (now (out .exit)) ⌝ }
 {
     match v {
         Verdict::Broken => put_broken(out, n.fault, n.on),
@@ -163,11 +161,46 @@ fn put_front(out: &mut [u8], v: Verdict, n: Numbers) -> usize
 }
 
 fn put_line(out: &mut [u8], v: Verdict, n: Numbers)
-    requires { ⌜ length (lineText (verdictIs v) (n .fault) (n .on) (n .ended) (n .count) (n .bytes)) ≤ length (now out) ⌝ }
-    ensures { λ _. ⌜ now (out .exit) ≡ sets (now (out .entry)) 0 (lineText (verdictIs v) (n .fault) (n .on) (n .ended) (n .count) (n .bytes)) ⌝ }
+    requires { ⌜ length (lineSaid v n) ≤ length (now out) ⌝ }
+    ensures { λ _. ⌜ now (out .exit) ≡ sets (now (out .entry)) 0 (lineSaid v n) ⌝ }
 {
     let a = put_front(out, v, n);
     let b = put_word(out, a, &BYTES);
     let c = put_number(out, b, n.bytes);
     put_word(out, c, &LINE_FEED);
+}
+
+// The line at the front of the lent bytes: 55 where they are too few.
+fn write(v: Verdict, n: Numbers, out: &mut [u8]) -> Line
+    ensures { λ r. ⌜ (r ≡ answerBy (roomNumber (lineSaid v n) (now (out .entry))) (lineSaid v n)) × (now (out .exit) ≡ leftBy (roomNumber (lineSaid v n) (now (out .entry))) (lineSaid v n) (now (out .entry))) ⌝ }
+{
+    let length = line_length(v, n);
+    if out.len() < length {
+        return Line::Refused(55);
+    }
+    put_line(out, v, n);
+    Line::Bytes(length)
+}
+
+impl Receiver {
+    // 1 where transfer and ledger don't fit, then 55.
+    pub fn screen_line(self, ledger: &[u64], out: &mut [u8]) -> Line
+        ensures { λ r. ⌜ (r ≡ screenOf (self .transfer) (now (ledger .entry)) (now (out .entry))) × (now (out .exit) ≡ screenLeaves (self .transfer) (now (ledger .entry)) (now (out .entry))) ⌝ }
+    {
+        let t = self.transfer;
+        if !fit::without_file(t, ledger) {
+            return Line::Refused(1);
+        }
+        let verdict = self.verdict();
+        let ended = count::ended(t);
+        let bytes = self.stored(ledger);
+        let numbers = Numbers {
+            fault: t.fault,
+            on: t.on,
+            ended: ended,
+            count: t.count,
+            bytes: bytes,
+        };
+        write(verdict, numbers, out)
+    }
 }
