@@ -21,7 +21,7 @@ use Rattle.receiver.specs.Screen.{brokenWord, onWord, guessWord, resultW
 
 -- ---- one behind the other
 
-pub put-behind : (t u out : List ℕ) (at : ℕ) → sets (sets out at t) (at + length t) u ≡ sets out at (t ++ u)
+put-behind : (t u out : List ℕ) (at : ℕ) → sets (sets out at t) (at + length t) u ≡ sets out at (t ++ u)
 put-behind [] u out at = rw (add-zero at)
 put-behind (b ∷ t) u out at =
     let e : at + suc (length t) ≡ suc at + length t = omega arith in

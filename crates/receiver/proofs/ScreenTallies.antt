@@ -1,25 +1,25 @@
 -- `ScreenTally` holds.
-use Prim.Native.Nat.{ℕ, _+_, _≤_}
+use Prim.Native.Nat.{ℕ, _≤_}
 use mathlib.Core.Path.{_≡_, refl, sym, ap, _∙_}
 use mathlib.Core.Bool.{true, and-eq-true-iff}
-use mathlib.Core.List.{List, []}
+use mathlib.Core.List.{List}
 use native.Mathlib.Omega.{arith}
-use borrow.Author.Tests.{eqb-true}
 use lib.Dec.{eqb}
 use lib.ListN.{length}
 use Rattle.ledger.specs.Pairs.{Pairs}
 use Rattle.ledger.specs.Claim.{largest}
-use Rattle.transfer.specs.Transfer.{World, world, verdictOf, storedOf}
+use Rattle.transfer.specs.Transfer.{World, verdictOf, storedOf}
 use Rattle.transfer.specs.Fit.{fitsLedger, fits}
 use Rattle.transfer.specs.Calls.{Call, after}
 use Rattle.transfer.specs.Tally.{verdict}
 use Rattle.transfer.specs.AfterList.{Begun, tallyOf, AfterList}
 use Rattle.transfer.proofs.Runs.{verdict-is}
 use Rattle.transfer.proofs.Along.{along, world-along}
+use Rattle.transfer.proofs.FitTests.{fits-together}
 use Rattle.transfer.proofs.AfterLists.{every-list}
 use Rattle.receiver.specs.Screen.{storedCut, lineOf, lineFor, roomNumber, answerBy, leftBy, screenOf, screenLeaves}
 use Rattle.receiver.specs.ScreenTally.{bytesOf, tallyLine, ScreenTally}
-use Rattle.receiver.proofs.Screens.{fit, stored-whole}
+use Rattle.receiver.proofs.Screens.{number-is, bytes-are, fit, stored-whole}
 
 module _ (w : World) (file : List ℕ) (R : ℕ) (before : Pairs) (b : Begun w file R before) (ks : List Call) where
   list : AfterList R before file (after w ks) (tallyOf (length file) R before ks)
@@ -42,11 +42,7 @@ module _ (w : World) (file : List ℕ) (R : ℕ) (before : Pairs) (b : Begun w f
 
   -- the length that the transfer remembers is still the file's
   same-len : after w ks .t .len ≡ length file
-  unfolding fits
-  same-len =
-      sym (eqb-true (length (after w ks .lent .file)) (after w ks .t .len)
-      (and-eq-true-iff (eqb (length (after w ks .lent .file)) (after w ks .t .len)) (fitsLedger (after w ks .t) (after w ks .lent .claimed)) .0 (list .fits-still) .0))
-      ∙ list .file-length
+  same-len = sym (fits-together (after w ks) (list .fits-still) .file) ∙ list .file-length
 
   stored-here : length file ≤ largest → storedCut (after w ks .t) (after w ks .lent .claimed) ≡ bytesOf before (tallyOf (length file) R before ks)
   stored-here l = stored-whole (after w ks .t) (after w ks .lent .file) (after w ks .lent .claimed) (omega (arith, same-len)) fits-here ∙ list .bytes-are
@@ -60,6 +56,8 @@ module _ (w : World) (file : List ℕ) (R : ℕ) (before : Pairs) (b : Begun w f
 pub screen-tally : ScreenTally
 screen-tally =
     record {
+      number-is = number-is;
+      bytes-are = bytes-are;
       stored-is = stored-whole;
       stored-after = λ w file R before b l ks. stored-here w file R before b ks l;
       line-is = says;

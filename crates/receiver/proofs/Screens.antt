@@ -1,19 +1,19 @@
 -- What the screen line answers and leaves, case by case, and the stored bytes where nothing is cut.
-use Prim.Native.Nat.{ℕ, suc, _+_, _-_, _≤_, _<_, min}
-use mathlib.Core.Path.{_≡_, refl, sym, ap, _∙_}
-use mathlib.Core.Bool.{true, false, and-eq-true-iff}
+use Prim.Native.Nat.{ℕ, suc, _-_, _≤_, _<_}
+use mathlib.Core.Path.{_≡_, refl, ap, _∙_}
+use mathlib.Core.Bool.{Bool, true, false, cond, and-eq-true-iff}
 use mathlib.Core.List.{List, [], _++_}
 use native.Mathlib.Omega.{arith}
 use native.Mathlib.Nat.{zero-add}
-use borrow.Author.Tests.{lt-ltb, le-ltb, eq-eqb, leb-true}
-use lib.Dec.{leb}
+use borrow.Author.Tests.{lt-ltb, le-ltb, eq-eqb, leb-true, ltb-false}
+use lib.Dec.{leb, ltb}
 use lib.ListN.{length, drop, replicate, length-replicate}
 use lib.Seq.{sets, sets-eq}
 use Rattle.ledger.specs.Pairs.{Pairs, none, pair, total, Ruled, endsBy}
-use Rattle.ledger.specs.Ledger.{obeys, pairsOf}
+use Rattle.ledger.specs.Ledger.{pairsOf}
 use Rattle.ledger.specs.Claim.{largest}
 use Rattle.transfer.specs.declared.state.Transfer.{Transfer}
-use Rattle.transfer.specs.Transfer.{endedOf, leftOf, world, verdictOf, storedOf}
+use Rattle.transfer.specs.Transfer.{endedOf, world, verdictOf, storedOf}
 use Rattle.transfer.specs.Fit.{fitsLedger, fits}
 use Rattle.transfer.proofs.Together.{ruled}
 use Rattle.transfer.proofs.FitTests.{fits-together}
@@ -22,7 +22,7 @@ use Rattle.receiver.specs.declared.screen.Numbers.{Numbers}
 use Rattle.receiver.specs.declared.screen.Line.{Line}
 use Rattle.receiver.specs.declared.screen.Line.the-variants.{Bytes, Refused}
 use Rattle.receiver.specs.Answers.{verdictIs}
-use Rattle.receiver.specs.Screen.{storedCut, lineOf, lineFor, lineSaid, roomNumber, answerBy, leftBy, screenNumber, screenOf, screenLeaves}
+use Rattle.receiver.specs.Screen.{storedCut, lineOf, lineFor, lineSaid, roomNumber, answerBy, leftBy, screenNumber, screenOf, screenLeaves, lineNumber, lineBytes}
 
 -- ---- a text and lent bytes
 
@@ -35,12 +35,38 @@ module _ (text out : List ℕ) where
   unfolding roomNumber answerBy leftBy
   has-room h = (rw (le-ltb (length out) (length text) h), rw (le-ltb (length out) (length text) h) (sets-eq text out 0 (omega arith) ∙ ap (λ n. text ++ drop n out) (zero-add (length text))))
 
+-- an answer's number and bytes
+module _ (k : ℕ) (text : List ℕ) where
+  answer-number : lineNumber (answerBy k text) ≡ k
+  unfolding lineNumber answerBy
+  answer-number = go (ltb 0 k) refl
+    where
+      go : (b : Bool) → ltb 0 k ≡ b → lineNumber (cond b (Refused k) (Bytes (length text))) ≡ k
+      go true e = refl
+      go false e = omega (arith, ltb-false 0 k e)
+
+  answer-bytes : lineBytes (answerBy k text) ≡ cond (ltb 0 k) 0 (length text)
+  unfolding lineBytes answerBy
+  answer-bytes = go (ltb 0 k)
+    where
+      go : (b : Bool) → lineBytes (cond b (Refused k) (Bytes (length text))) ≡ cond b 0 (length text)
+      go true = refl
+      go false = refl
+
 -- ---- by FIT
 
 module _ (t : Transfer) (ledger out : List ℕ) where
   pub not-fit : fitsLedger t ledger ≡ false → (Refused 1 ≡ screenOf t ledger out) × (out ≡ screenLeaves t ledger out)
   unfolding screenOf screenLeaves screenNumber answerBy leftBy
   not-fit f = (rw f, rw f)
+
+  pub number-is : lineNumber (screenOf t ledger out) ≡ screenNumber t ledger out
+  unfolding screenOf
+  number-is = answer-number (screenNumber t ledger out) (lineFor t ledger)
+
+  pub bytes-are : lineBytes (screenOf t ledger out) ≡ cond (ltb 0 (screenNumber t ledger out)) 0 (length (lineFor t ledger))
+  unfolding screenOf
+  bytes-are = answer-bytes (screenNumber t ledger out) (lineFor t ledger)
 
   -- what is answered and left by the line's text, in the words of the code or of the tally
   pub fit : (text : List ℕ) (r : Line) (after : List ℕ) → fitsLedger t ledger ≡ true → text ≡ lineFor t ledger

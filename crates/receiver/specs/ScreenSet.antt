@@ -1,4 +1,4 @@
--- The proved set of the screen line: document 01's example call by call, and a broken one, as one statement over a list of cases.
+-- The proved set of the screen line: document 01's example call by call, its broken line, and one with a payload under way, as one statement over a list of cases.
 use Prim.Native.Nat.{ℕ, _-_}
 use mathlib.Core.Path.{_≡_}
 use mathlib.Core.List.{List, [], _∷_, _++_}
@@ -50,6 +50,10 @@ thirdLine = 82 ∷ 69 ∷ 83 ∷ 85 ∷ 76 ∷ 84 ∷ 32 ∷ 101 ∷ 110 ∷ 100
 abbrev pub brokenLine : List ℕ
 brokenLine = 66 ∷ 82 ∷ 79 ∷ 75 ∷ 69 ∷ 78 ∷ 32 ∷ 49 ∷ 55 ∷ 32 ∷ 111 ∷ 110 ∷ 32 ∷ 49 ∷ 32 ∷ 98 ∷ 121 ∷ 116 ∷ 101 ∷ 115 ∷ 32 ∷ 52 ∷ 10 ∷ []
 
+-- GUESS ended 0 of 2 bytes 2
+abbrev pub underWayLine : List ℕ
+underWayLine = 71 ∷ 85 ∷ 69 ∷ 83 ∷ 83 ∷ 32 ∷ 101 ∷ 110 ∷ 100 ∷ 101 ∷ 100 ∷ 32 ∷ 48 ∷ 32 ∷ 111 ∷ 102 ∷ 32 ∷ 50 ∷ 32 ∷ 98 ∷ 121 ∷ 116 ∷ 101 ∷ 115 ∷ 32 ∷ 50 ∷ 10 ∷ []
+
 abbrev pub cases : List Case
 cases =
     record { calls = first ∷ []; line = firstLine }
@@ -57,6 +61,8 @@ cases =
     ∷ record { calls = first ∷ second ∷ third ∷ []; line = thirdLine }
     -- bytes 3 and 4 asked for on channel 1, of which 3 is claimed
     ∷ record { calls = first ∷ receive 1 (bytesOf 0 2 3) ∷ []; line = brokenLine }
+    -- a count known, and two bytes of a payload of four
+    ∷ record { calls = receive 0 (bytesOf 64 0 2) ∷ receive 1 (bytesOf 0 4 0 ++ (112 ∷ 108 ∷ [])) ∷ []; line = underWayLine }
     ∷ []
 
 abbrev pub ScreenSet : Type 0
