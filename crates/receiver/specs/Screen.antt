@@ -74,6 +74,7 @@ frontText broken fault on ended count = brokenText fault on
 frontText guess fault on ended count = guessWord ++ endedText ended count
 frontText result fault on ended count = resultWord ++ endedText ended count
 
+-- a verdict, a fault and its channel, the channels that have ended, the count, and the stored bytes
 unfoldable pub lineText : Verdict → ℕ → ℕ → ℕ → ℕ → ℕ → List ℕ
 lineText v fault on ended count bytes = frontText v fault on ended count ++ bytesWord ++ decimal bytes ++ lineFeed
 

@@ -127,20 +127,20 @@ fn put_broken(out: &mut [u8], fault: u64, on: u64) -> usize
     requires { ⌜ length (brokenText fault on) ≤ length (now out) ⌝ }
     ensures { λ r. ⌜ Puts (now (out .entry)) 0 (brokenText fault on) r (now (out .exit)) ⌝ }
 {
-    let a = put_word(out, 0, &BROKEN);
-    let b = put_number(out, a, fault);
-    let c = put_word(out, b, &ON);
-    put_number(out, c, on)
+    let fault_at = put_word(out, 0, &BROKEN);
+    let word_at = put_number(out, fault_at, fault);
+    let on_at = put_word(out, word_at, &ON);
+    put_number(out, on_at, on)
 }
 
 fn put_ended(out: &mut [u8], at: usize, ended: u64, count: u64) -> usize
     requires { ⌜ at + length (endedText ended count) ≤ length (now out) ⌝ }
     ensures { λ r. ⌜ Puts (now (out .entry)) at (endedText ended count) r (now (out .exit)) ⌝ }
 {
-    let a = put_word(out, at, &ENDED);
-    let b = put_number(out, a, ended);
-    let c = put_word(out, b, &OF);
-    put_count(out, c, count)
+    let ended_at = put_word(out, at, &ENDED);
+    let word_at = put_number(out, ended_at, ended);
+    let count_at = put_word(out, word_at, &OF);
+    put_count(out, count_at, count)
 }
 
 fn put_front(out: &mut [u8], v: Verdict, n: Numbers) -> usize
@@ -150,12 +150,12 @@ fn put_front(out: &mut [u8], v: Verdict, n: Numbers) -> usize
     match v {
         Verdict::Broken => put_broken(out, n.fault, n.on),
         Verdict::Guess => {
-            let a = put_word(out, 0, &GUESS);
-            put_ended(out, a, n.ended, n.count)
+            let behind = put_word(out, 0, &GUESS);
+            put_ended(out, behind, n.ended, n.count)
         }
         Verdict::Result => {
-            let a = put_word(out, 0, &RESULT);
-            put_ended(out, a, n.ended, n.count)
+            let behind = put_word(out, 0, &RESULT);
+            put_ended(out, behind, n.ended, n.count)
         }
     }
 }
@@ -164,10 +164,10 @@ fn put_line(out: &mut [u8], v: Verdict, n: Numbers)
     requires { ⌜ length (lineSaid v n) ≤ length (now out) ⌝ }
     ensures { λ _. ⌜ now (out .exit) ≡ sets (now (out .entry)) 0 (lineSaid v n) ⌝ }
 {
-    let a = put_front(out, v, n);
-    let b = put_word(out, a, &BYTES);
-    let c = put_number(out, b, n.bytes);
-    put_word(out, c, &LINE_FEED);
+    let word_at = put_front(out, v, n);
+    let bytes_at = put_word(out, word_at, &BYTES);
+    let end = put_number(out, bytes_at, n.bytes);
+    put_word(out, end, &LINE_FEED);
 }
 
 // The line at the front of the lent bytes: 55 where they are too few.
