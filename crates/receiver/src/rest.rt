@@ -1,22 +1,35 @@
 // The bytes left of a payload, sought in the ledger by halving.
+use ledger::rule;
 ghost use mathlib.Core.Path.{_≡_};
-ghost use mathlib.Core.Bool.{true};
-ghost use Prim.Native.Nat.{_<_};
+ghost use mathlib.Core.Bool.{true, _&&_};
+ghost use Prim.Native.Nat.{_+_, _*_, _≤_, _<_};
+ghost use lib.Dec.{leb, ltb};
+ghost use lib.ListN.{getD};
 ghost use Rattle.ledger.specs.Pairs.{inside};
-ghost use Rattle.ledger.specs.Ledger.{obeys, pairsOf};
+ghost use Rattle.ledger.specs.Ledger.{roomOf, obeys, pairsOf};
+ghost use Rattle.ledger.specs.Claim.{upTo};
+
+// Whether the pair with the number i is used and starts at the place or before it.
+fn starts_by(ledger: &[u64], i: usize, place: u64) -> bool
+    requires { ⌜ i < roomOf (now ledger) ⌝ }
+    ensures { λ r. ⌜ r ≡ (ltb 0 (getD (now (ledger .entry)) (2 * i + 1) 0) && leb (getD (now (ledger .entry)) (2 * i) 0) place) ⌝ }
+{
+    if ledger[2 * i + 1] == 0 {
+        return false;
+    }
+    ledger[2 * i] <= place
+}
 
 // How many pairs, from the first on, are used and start at the place or before it.
 fn started(ledger: &[u64], place: u64) -> usize
+    requires { ⌜ obeys (now ledger) ≡ true ⌝ }
+    ensures { λ r. ⌜ (r ≤ roomOf (now (ledger .entry))) × (r ≡ upTo place (pairsOf (now (ledger .entry)))) ⌝ }
 {
     let mut low = 0;
     let mut high = ledger.len() / 2;
     while low < high {
         let middle = low + (high - low) / 2;
-        let mut go_right = ledger[2 * middle] <= place;
-        if ledger[2 * middle + 1] == 0 {
-            go_right = false;
-        }
-        if go_right {
+        if starts_by(ledger, middle, place) {
             low = middle + 1;
         } else {
             high = middle;
@@ -35,4 +48,15 @@ pub fn inside(ledger: &[u64], start: u64, end: u64) -> bool
         return false;
     }
     end <= ledger[2 * n - 1]
+}
+
+// Whether the `left` places from next on lie inside one pair. No entry is above the largest number, so places that end past it lie in none.
+pub fn claimed(ledger: &[u64], next: u64, left: u64) -> bool
+    requires { ⌜ (0 < left) × (obeys (now ledger) ≡ true) ⌝ }
+    ensures { λ r. ⌜ r ≡ inside next (next + left) (pairsOf (now (ledger .entry))) ⌝ }
+{
+    if rule::LARGEST - next < left {
+        return false;
+    }
+    inside(ledger, next, next + left)
 }
