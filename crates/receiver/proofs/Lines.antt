@@ -45,13 +45,9 @@ put-part at e out text h g =
 
 -- ---- numbers
 
-length-inDigits : (w n : ℕ) → length (inDigits w n) ≡ w
-unfolding inDigits
-length-inDigits w n = length-map (toBig 10 w n) digitByte ∙ length-toBig 10 w n
-
 pub length-decimal : (n : ℕ) → length (decimal n) ≡ width n
-unfolding decimal
-length-decimal n = length-inDigits (width n) n
+unfolding decimal inDigits
+length-decimal n = length-map (toBig 10 (width n) n) digitByte ∙ length-toBig 10 (width n) n
 
 width-le : (w n : ℕ) → n < 10 ^ suc w → width n ≤ suc w
 width-le zero n h = omega (arith, width-small n h)

@@ -17,4 +17,4 @@ use Rattle.receiver.specs.ScreenSet.{ScreenSet}
 
 pub screen-set : ScreenSet
 unfolding fromLittle fromBig toLittle toBig has faultOf secondOf thirdOf bytesOf size total join shares inside endsBy lengthWrong zeros rule obeys pairsOf lent stateNumber heldNumber nextNumber leftNumber heldBytes numbersOf readState stateAt putState putFault putCount sum endedOf usedOf leftOf isFinal verdictOf storedOf fresh startOf startLeaves payloadLength askedOf claimFault idle heldFits restFits channelFits channelsFit apart apartFrom restsApart countFits faultFits fitsLedger fits ends opens faults claimsRange heeds judges heads stores byteOn byteOf bytesBy refusalOf receiveOf callOf runBy begun widthBy width inDigits decimal brokenWord onWord guessWord resultWord endedWord ofWord unknownWord bytesWord lineFeed countText brokenText endedText frontText lineText lineOf roomNumber answerBy leftBy screenNumber screenOf screenLeaves
-screen-set = ((refl, refl, refl, refl, refl, refl), ((refl, refl, refl, refl, refl, refl), ((refl, refl, refl, refl, refl, refl), ((refl, refl, refl, refl, refl, refl), ((refl, refl, refl, refl, refl, refl), tt)))))
+screen-set = ((refl, refl, refl, refl), ((refl, refl, refl, refl), ((refl, refl, refl, refl), ((refl, refl, refl, refl), ((refl, refl, refl, refl), tt)))))

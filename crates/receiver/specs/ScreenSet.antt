@@ -25,10 +25,8 @@ Holds k =
     (lineOf w ≡ k .line)
     × (screenOf (w .t) (w .lent .claimed) (filled 40) ≡ Bytes n)
     × (screenLeaves (w .t) (w .lent .claimed) (filled 40) ≡ k .line ++ filled (40 - n))
-    -- in as many bytes as it has, and in one less
-    × (screenLeaves (w .t) (w .lent .claimed) (filled n) ≡ k .line)
+    -- one byte less than it has
     × (screenOf (w .t) (w .lent .claimed) (filled (n - 1)) ≡ Refused 55)
-    × (screenLeaves (w .t) (w .lent .claimed) (filled (n - 1)) ≡ filled (n - 1))
 
 abbrev pub AllHold : List Case → Type 0
 AllHold [] = Unit {0}
