@@ -7,6 +7,7 @@ mod head;
 pub mod receive;
 mod rest;
 pub mod screen;
+pub mod show;
 pub mod start;
 mod step;
 mod verdict;

@@ -22,7 +22,7 @@ use Rattle.transfer.proofs.Placed.{length-placed}
 use Rattle.transfer.specs.View.{view}
 use Rattle.transfer.proofs.Shapes.{kind, kind-left}
 use Rattle.transfer.proofs.Streams.{AllProper, proper-bodies}
-use Rattle.transfer.proofs.States.{rowOf, transferOf, worldOf, state-is}
+use Rattle.transfer.proofs.States.{rowOf, transferOf, worldOf, state-is, ended-is}
 use Rattle.transfer.proofs.Invariant.{Count, unknown, announced, Invariant}
 use Rattle.transfer.proofs.Accepts.{pairs-are}
 use Rattle.transfer.proofs.Fits.{fits-always}
@@ -126,6 +126,7 @@ module _ (F R : ℕ) (before : Pairs) (file : List ℕ) (ruled : Ruled 0 before)
         bytes-are = stored-is t i;
         fault-is = unfold worldOf transferOf in (refl, refl);
         count-is = unfold worldOf transferOf in refl;
+        ended-is = unfold worldOf in ended-is F R t (i .proper);
         ledger-is = unfold worldOf in ledger-is R before (blocksOf (t .streams)) ruled (i .apart) (i .room);
         channels-are = λ c h. unfold worldOf in state-is F R t c (i .proper) (omega (arith, i .number));
         stands = λ c. whole-stand (worldOf F R before file t .lent .file) (blocksOf (t .streams)) (whole-all (t .streams) (i .proper) (all-ended c (i .count))) (λ p v h. (omega (arith, at-place p v h .0, same-length), at-place p v h .1));

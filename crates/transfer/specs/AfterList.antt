@@ -8,7 +8,7 @@ use lib.ListN.{length, getD, take, drop}
 use Rattle.ledger.specs.Pairs.{Pairs, none, total, holds}
 use Rattle.ledger.specs.Ledger.{roomOf, obeys, lent, Holds}
 use Rattle.transfer.specs.Channel.{channelCount, stateAt}
-use Rattle.transfer.specs.Transfer.{World, guess, result, broken, verdictOf, storedOf, startNumber}
+use Rattle.transfer.specs.Transfer.{endedOf, World, guess, result, broken, verdictOf, storedOf, startNumber}
 use Rattle.transfer.specs.Receive.{Answer}
 use Rattle.transfer.specs.Fit.{fits}
 use Rattle.transfer.specs.Calls.{Call, runBy, begun, answersOf, after}
@@ -71,9 +71,10 @@ pub record AfterList (R : ℕ) (before : Pairs) (file : List ℕ) (w : World) (t
   pub file-is : w .lent .file ≡ placed (blocksOf (t .streams)) file
   -- the byte count is their number, and that of the bytes held before
   pub bytes-are : storedOf w ≡ bytesIn (blocksOf (t .streams)) + total before
-  -- the fault's number and channel, the count and the ledger are the tally's
+  -- the fault's number and channel, the count, the number of channels that have ended and the ledger are the tally's
   pub fault-is : (w .t .fault ≡ t .fault) × (w .t .on ≡ t .on)
   pub count-is : w .t .count ≡ known (t .streams)
+  pub ended-is : endedOf (w .t) ≡ endedIn (t .streams)
   pub ledger-is : LedgerIs R before (w .lent .claimed) (blocksOf (t .streams))
   -- each channel's state is that of its bytes; after a fault in its header nothing is held of that
   pub channels-are : (c : ℕ) → c < channelCount → stateAt (w .t) c ≡ view (streamAt t c)

@@ -1,0 +1,32 @@
+// What a host may ask of a receiver between calls.
+use crate::count;
+use crate::receive::Receiver;
+use crate::receive::Verdict;
+use crate::verdict;
+use ledger::rule;
+ghost use mathlib.Core.Path.{_≡_};
+ghost use mathlib.Core.List.{List};
+ghost use Prim.Native.Nat.{ℕ};
+ghost use Rattle.transfer.specs.Transfer.{world, verdictOf};
+ghost use Rattle.receiver.specs.Answers.{verdictIs};
+ghost use Rattle.receiver.specs.Screen.{storedCut};
+
+impl Receiver {
+    pub fn verdict(self) -> Verdict
+        ensures { λ r. ⌜ ((file ledger : List ℕ) → verdictIs r ≡ verdictOf (world (self .transfer) file ledger)) ⌝ }
+    {
+        verdict::shown(self.transfer)
+    }
+
+    // The payload bytes stored since start: those claimed less those left in all payloads.
+    pub fn stored(self, ledger: &[u64]) -> u64
+        ensures { λ r. ⌜ r ≡ storedCut (self .transfer) (now (ledger .entry)) ⌝ }
+    {
+        let claimed = rule::total(ledger);
+        let left = count::left(self.transfer);
+        if claimed < left {
+            return 0;
+        }
+        claimed - left
+    }
+}
