@@ -3,8 +3,7 @@ use Prim.Native.Nat.{_+_, _-_, _≤_, min}
 use mathlib.Core.Path.{_≡_}
 use native.Mathlib.Omega.{arith}
 use borrow.Author.Needs.{needs}
-use lib.ListN.{length, getD, drop}
-use Rattle.transfer.specs.Channel.{blank}
+use lib.ListN.{length, drop}
 use Rattle.transfer.specs.Transfer.{sum, leftOf}
 use Rattle.receiver.proofs.Counting.{length-mapped, sum-at, sum-over}
 use Rattle.receiver.proofs.count.left.Statement.{statement}

@@ -1,0 +1,99 @@
+-- The number by which a call is refused, test by test, and what a call answers by it.
+use Prim.Native.Nat.{ℕ, zero, suc, _*_, _≤_, _<_}
+use mathlib.Core.Path.{_≡_, refl, sym}
+use mathlib.Core.Bool.{Bool, true, false, not, _&&_, true≢false}
+use mathlib.Core.List.{List, [], _∷_}
+use native.Mathlib.Omega.{arith}
+use native.Mathlib.Decide.{decLt}
+use borrow.Author.Tests.{lt-ltb, le-leb, lt-leb}
+use lib.Dec.{ltb, eqb}
+use lib.ListN.{length, take, drop}
+use Rattle.transfer.specs.declared.state.Transfer.{Transfer}
+use Rattle.transfer.specs.Channel.{channelCount, heldLimit, readState, channelAt, stateAt}
+use Rattle.transfer.specs.Transfer.{World, world, verdictOf}
+use Rattle.transfer.specs.Receive.{refused, isGuess, isEnded, isSome, refusalOf, receiveOf}
+use Rattle.transfer.specs.Fit.{fitsLedger, fits}
+use Rattle.receiver.specs.Runs.{bytesOn}
+
+pub not-true : (b : Bool) → not b ≡ true → b ≡ false
+not-true true e = absurd (true≢false (sym e))
+not-true false e = refl
+
+pub not-false : (b : Bool) → not b ≡ false → b ≡ true
+not-false true e = refl
+not-false false e = absurd (true≢false e)
+
+-- the test of FIT, for a file of that length
+pub fits-is : (t : Transfer) (f ledger : List ℕ) (n : ℕ) (r : Bool) → length f ≡ n → r ≡ (eqb n (t .len) && fitsLedger t ledger) → fits (world t f ledger) ≡ r
+unfolding fits
+fits-is t f ledger n r e q = rw (e, q)
+
+module _ (w : World) (c : ℕ) (piece : List ℕ) where
+  pub refused-1 : fits w ≡ false → refusalOf w c piece ≡ 1
+  unfolding refusalOf
+  refused-1 f = rw f
+
+  pub refused-2 : fits w ≡ true → channelCount ≤ c → refusalOf w c piece ≡ 2
+  unfolding refusalOf
+  refused-2 f h = rw (f, le-leb channelCount c h)
+
+  module _ (f : fits w ≡ true) (h : c < channelCount) where
+    pub refused-3 : isGuess (verdictOf w) ≡ false → refusalOf w c piece ≡ 3
+    unfolding refusalOf
+    refused-3 g = rw (f, lt-leb channelCount c h, g)
+
+    module _ (g : isGuess (verdictOf w) ≡ true) where
+      pub empty-taken : isSome piece ≡ false → refusalOf w c piece ≡ 0
+      unfolding refusalOf
+      empty-taken s = rw (f, lt-leb channelCount c h, g, s)
+
+      ended-is : 4 ≤ channelAt (w .t) c .state → isEnded (stateAt (w .t) c) ≡ true
+      ended-is q = unfold stateAt in go (channelAt (w .t) c .state) q
+        where
+          go : (n : ℕ) → 4 ≤ n → isEnded (readState n (take (channelAt (w .t) c .held) (drop (heldLimit * c) (w .t .heads))) (channelAt (w .t) c .next) (channelAt (w .t) c .left)) ≡ true
+          go zero q = absurd (omega arith)
+          go (suc zero) q = absurd (omega arith)
+          go (suc (suc zero)) q = absurd (omega arith)
+          go (suc (suc (suc zero))) q = absurd (omega arith)
+          go (suc (suc (suc (suc n)))) q = unfold readState in refl
+
+      not-ended : channelAt (w .t) c .state < 4 → isEnded (stateAt (w .t) c) ≡ false
+      not-ended q = unfold stateAt in go (channelAt (w .t) c .state) q
+        where
+          go : (n : ℕ) → n < 4 → isEnded (readState n (take (channelAt (w .t) c .held) (drop (heldLimit * c) (w .t .heads))) (channelAt (w .t) c .next) (channelAt (w .t) c .left)) ≡ false
+          go zero q = unfold readState in refl
+          go (suc zero) q = unfold readState in refl
+          go (suc (suc zero)) q = unfold readState in refl
+          go (suc (suc (suc zero))) q = unfold readState in refl
+          go (suc (suc (suc (suc n)))) q = absurd (omega arith)
+
+      pub refused-4 : isSome piece ≡ true → 4 ≤ channelAt (w .t) c .state → refusalOf w c piece ≡ 4
+      unfolding refusalOf
+      refused-4 s q = rw (f, lt-leb channelCount c h, g, s, ended-is q)
+
+      pub bytes-taken : isSome piece ≡ true → channelAt (w .t) c .state < 4 → refusalOf w c piece ≡ 0
+      unfolding refusalOf
+      bytes-taken s q = rw (f, lt-leb channelCount c h, g, s, not-ended q)
+
+  -- ---- the answer
+
+  pub is-refused : (n : ℕ) → n ≡ refusalOf w c piece → 0 < n → (refused n, w) ≡ receiveOf w c piece
+  unfolding receiveOf
+  is-refused n e h = rw (← e, lt-ltb 0 n h)
+
+  pub is-taken : refusalOf w c piece ≡ 0 → bytesOn c w piece 0 ≡ receiveOf w c piece
+  unfolding receiveOf
+  is-taken e = rw e
+
+  -- a call that is not refused is of a world that fits, on a channel that there is
+  pub not-refused : refusalOf w c piece ≡ 0 → (fits w ≡ true) × (c < channelCount)
+  not-refused e = go (fits w) refl (decLt c channelCount)
+    where
+      go : (b : Bool) → fits w ≡ b → Dec (c < channelCount) → (fits w ≡ true) × (c < channelCount)
+      go false f d = absurd (omega (arith, e, refused-1 f))
+      go true f (no d) = absurd (omega (arith, e, refused-2 f (omega arith)))
+      go true f (yes d) = (f, d)
+
+pub some-is : (piece : List ℕ) → isSome piece ≡ ltb 0 (length piece)
+some-is [] = refl
+some-is (b ∷ bs) = sym (lt-ltb 0 (suc (length bs)) (omega arith))
