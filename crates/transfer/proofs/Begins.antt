@@ -1,22 +1,21 @@
 -- The beginning: an accepted start leaves the world of the empty tally, for which the invariant holds.
 use Prim.Native.Nat.{ℕ, zero, suc, _*_, _%_, _≤_, zero-le}
 use mathlib.Core.Path.{_≡_, refl, ap, _∙_}
-use mathlib.Core.Bool.{Bool, true, false, cond, _||_, not}
 use mathlib.Core.List.{List, []}
 use native.Mathlib.Omega.{arith}
-use borrow.Author.Tests.{eqb-true, ltb-false}
-use lib.Dec.{ltb, eqb}
+use native.Mathlib.Decide.{decLe, ℕ-discrete}
 use lib.ListN.{length, replicate}
 use Rattle.ledger.specs.Pairs.{Pairs, none, size, holds, Ruled, endsBy}
-use Rattle.ledger.specs.Ledger.{entryLimit, lengthWrong, roomOf, lent}
+use Rattle.ledger.specs.Ledger.{entryLimit, roomOf, lent}
 use Rattle.transfer.specs.Channel.{channelCount, stateNumber, heldNumber, nextNumber, leftNumber, heldBytes, numbersOf}
-use Rattle.transfer.specs.Transfer.{sum, World, world, fresh, startNumber, startOf, startLeaves}
+use Rattle.transfer.specs.Transfer.{sum, World, world, fresh, startNumber}
 use Rattle.transfer.specs.Fit.{pairLimit}
 use Rattle.transfer.specs.Calls.{begun}
 use Rattle.transfer.specs.Block.{cutBy, countsIn, claimsOf, placed}
 use Rattle.transfer.specs.Tally.{sound, accepted, blocksOf, empty}
 use Rattle.transfer.specs.AfterList.{Begun, fresh-start}
 use Rattle.transfer.specs.View.{view}
+use Rattle.transfer.proofs.Starts.{start}
 use Rattle.transfer.proofs.Shapes.{no-byte}
 use Rattle.transfer.proofs.Streams.{AllProper}
 use Rattle.transfer.proofs.States.{rowOf, headsOf, transferOf, worldOf}
@@ -55,17 +54,17 @@ unfolding worldOf transferOf fresh empty blocksOf accepted cutBy claimsOf counts
 world-empty file R = refl
 
 pub begun-is : (file claimed : List ℕ) → startNumber claimed ≡ 0 → (roomOf claimed ≤ pairLimit) × (begun file claimed ≡ worldOf (length file) (roomOf claimed) none file empty)
-unfolding startNumber startOf startLeaves begun lengthWrong
-begun-is file claimed h = go (eqb (length claimed % 2) 0) (ltb entryLimit (length claimed)) refl refl h
+unfolding begun
+begun-is file claimed h = go (ℕ-discrete (length claimed % 2) 0) (decLe (length claimed) entryLimit)
   where
-    go : (p q : Bool) → eqb (length claimed % 2) 0 ≡ p → ltb entryLimit (length claimed) ≡ q → _≡_ {A = ℕ} (cond (not p || q) 5 0) 0
-        → (roomOf claimed ≤ pairLimit) × (begun file claimed ≡ worldOf (length file) (roomOf claimed) none file empty)
-    go true true x y z = absurd (omega arith)
-    go false q x y z = absurd (omega arith)
-    go true false x y z =
-        let e : length claimed ≡ 2 * roomOf claimed = omega (arith, eqb-true (length claimed % 2) 0 x) in (
-          omega (arith, ltb-false entryLimit (length claimed) y),
-          rw (x, y) (ap (world (fresh (length file) (roomOf claimed)) file) (ap (λ n. replicate n 0) e ∙ lent-none (roomOf claimed)) ∙ world-empty file (roomOf claimed)),
+    go : Dec (length claimed % 2 ≡ 0) → Dec (length claimed ≤ entryLimit) → (roomOf claimed ≤ pairLimit) × (begun file claimed ≡ worldOf (length file) (roomOf claimed) none file empty)
+    go (no e) l = absurd (omega (arith, h, start .odd (length file) claimed e .0))
+    go (yes e) (no l) = absurd (omega (arith, h, start .long (length file) claimed (omega arith) .0))
+    go (yes e) (yes l) =
+        let a = start .accepted (length file) claimed e l in
+        let n : length claimed ≡ 2 * roomOf claimed = omega (arith, e) in (
+          omega (arith, l),
+          rw (a .1, a .2) (ap (world (fresh (length file) (roomOf claimed)) file) (ap (λ n. replicate n 0) n ∙ lent-none (roomOf claimed)) ∙ world-empty file (roomOf claimed)),
         )
 
 -- whatever the ledger held before
