@@ -1,12 +1,12 @@
 // A channel's next state, written into the transfer: whatever it doesn't use becomes 0.
-use crate::count;
+use checks::count;
 use transfer::state::Channel;
 use transfer::state::Transfer;
 ghost use mathlib.Core.Path.{_≡_};
 ghost use mathlib.Core.List.{List, []};
 ghost use Prim.Native.Nat.{ℕ, _<_};
 ghost use Rattle.transfer.specs.Channel.{header, putState, putFault};
-ghost use Rattle.transfer.specs.Transfer.{world, isFinal};
+ghost use Rattle.transfer.specs.Transfer.{world};
 ghost use Rattle.transfer.specs.Receive.{opens, ends};
 ghost use Rattle.receiver.specs.Leaves.{putBare, tookOf};
 
@@ -50,22 +50,12 @@ pub fn fault(t: Transfer, c: usize, k: u64) -> Transfer
     u
 }
 
-// Whether a count is known and as many channels have ended.
-fn all_ended(t: Transfer) -> bool
-    ensures { λ r. ⌜ r ≡ isFinal t ⌝ }
-{
-    if t.count == 0 {
-        return false;
-    }
-    count::ended(t) == t.count
-}
-
 // The channel ends; 20 where as many as announced have ended already.
 fn close(t: Transfer, c: usize) -> Next
     requires { ⌜ c < 64 ⌝ }
     ensures { λ r. ⌜ ((file ledger : List ℕ) → tookOf (r .on) (world (r .t) file ledger) ≡ ends (world t file ledger) c) ⌝ }
 {
-    if all_ended(t) {
+    if count::all_ended(t) {
         return Next {
             t: fault(t, c, 20),
             on: false,

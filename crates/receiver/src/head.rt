@@ -1,7 +1,7 @@
 // A channel's header: its bytes held up to 16, then judged at the 17th and heeded.
 use crate::channel;
 use crate::channel::Next;
-use crate::count;
+use checks::count;
 use eblock::descriptor;
 use ledger::claim;
 use ledger::claim::Room;

@@ -1,7 +1,7 @@
 // The receiver as a host holds it, by value, and what a call of it answers.
-use crate::fit;
 use crate::step;
 use crate::verdict;
+use checks::fit;
 use transfer::state::Transfer;
 ghost use mathlib.Core.Path.{_≡_};
 ghost use mathlib.Core.List.{List};

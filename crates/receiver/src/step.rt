@@ -1,8 +1,8 @@
 // A call's bytes, taken in runs: those of a header at hand, and those of a payload at hand.
 use crate::body;
 use crate::channel;
-use crate::count;
 use crate::head;
+use checks::count;
 use transfer::state::Transfer;
 ghost use mathlib.Core.Path.{_≡_};
 ghost use mathlib.Core.Bool.{Bool, true, false};

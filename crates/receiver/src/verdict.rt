@@ -1,6 +1,6 @@
 // The verdict of a transfer.
-use crate::count;
 use crate::receive::Verdict;
+use checks::count;
 use transfer::state::Transfer;
 ghost use mathlib.Core.Path.{_≡_};
 ghost use mathlib.Core.List.{List};
@@ -15,11 +15,8 @@ pub fn shown(t: Transfer) -> Verdict
     if 0 < t.fault {
         return Verdict::Broken;
     }
-    if 0 < t.count {
-        let ended = count::ended(t);
-        if ended == t.count {
-            return Verdict::Result;
-        }
+    if count::all_ended(t) {
+        return Verdict::Result;
     }
     Verdict::Guess
 }

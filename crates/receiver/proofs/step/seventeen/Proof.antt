@@ -7,7 +7,7 @@ use native.Mathlib.Numerals.{add-one}
 use borrow.Author.Needs.{needs}
 use lib.ListN.{length, getD, set, take, drop, replicate, length-set, length-take, length-drop}
 use lib.Seq.{take-suc, set-at, append-snoc, getD-drop}
-use Rattle.receiver.proofs.Counting.{length-mapped}
+use Rattle.checks.proofs.Counting.{length-mapped}
 use Rattle.receiver.proofs.step.seventeen.Statement.{statement}
 use Rattle.receiver.proofs.step.seventeen.Tie as tie
 

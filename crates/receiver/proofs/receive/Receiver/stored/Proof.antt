@@ -1,7 +1,7 @@
 -- `Receiver::stored`.
 use native.Mathlib.Omega.{arith}
 use borrow.Author.Needs.{needs}
-use Rattle.receiver.specs.Screen.{storedCut}
+use Rattle.receiver.specs.Stored.{storedCut}
 use Rattle.receiver.proofs.receive.Receiver.stored.Statement.{statement}
 use Rattle.receiver.proofs.receive.Receiver.stored.Tie as tie
 

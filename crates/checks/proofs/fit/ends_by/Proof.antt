@@ -1,0 +1,26 @@
+-- `fit::ends_by`.
+use Prim.Native.Nat.{ℕ, _+_, _-_, _≤_}
+use mathlib.Core.Path.{_≡_, refl, sym, _∙_}
+use mathlib.Core.Bool.{Bool, true, false}
+use native.Mathlib.Omega.{arith}
+use borrow.Author.Tests.{le-leb, lt-leb, leb-true, leb-false}
+use lib.Dec.{leb}
+use Rattle.checks.proofs.fit.ends_by.Statement.{statement}
+use Rattle.checks.proofs.fit.ends_by.Tie as tie
+
+-- x places end by b where they fit between a and b
+room : (a x b : ℕ) → a ≤ b → leb x (b - a) ≡ leb (a + x) b
+room a x b h = go (leb x (b - a)) refl
+  where
+    go : (t : Bool) → leb x (b - a) ≡ t → leb x (b - a) ≡ leb (a + x) b
+    go true e = e ∙ sym (le-leb (a + x) b (omega (arith, leb-true x (b - a) e)))
+    go false e = e ∙ sym (lt-leb (a + x) b (omega (arith, leb-false x (b - a) e)))
+
+returns : tie.Need-returns
+returns c = let x = c .before .args in sym (lt-leb (x .a + x .x) (x .b) (omega arith))
+
+returns-2 : tie.Need-returns-2
+returns-2 c = let x = c .before .args in room (x .a) (x .x) (x .b) (c .if1 .left)
+
+pub ends-by-spec : {M : Type 1} → statement M
+ends-by-spec = tie.close (tie.spec returns returns-2)

@@ -1,0 +1,93 @@
+// Counts over the 64 channels of a transfer.
+use transfer::state::Channel;
+use transfer::state::Transfer;
+ghost use mathlib.Core.Path.{_≡_};
+ghost use Prim.Native.Nat.{_+_, min};
+ghost use Rattle.transfer.specs.Transfer.{oneIfEnded, oneIfAlive, endedOf, usedOf, leftOf, isFinal};
+
+pub const CHANNELS: usize = 64;
+
+// 1 for a channel that has ended.
+fn one_if_ended(k: Channel) -> u64
+    ensures { λ r. ⌜ r ≡ oneIfEnded k ⌝ }
+{
+    if k.state == 4 {
+        return 1;
+    }
+    0
+}
+
+// 1 for a channel that is not unused: one that has ended, or is in a header or a payload.
+fn one_if_used(k: Channel) -> u64
+    ensures { λ r. ⌜ r ≡ oneIfEnded k + oneIfAlive k ⌝ }
+{
+    if k.state == 0 {
+        return 0;
+    }
+    if 4 < k.state {
+        return 0;
+    }
+    1
+}
+
+// How many have ended.
+pub fn ended(t: Transfer) -> u64
+    ensures { λ r. ⌜ r ≡ endedOf t ⌝ }
+{
+    let mut n: u64 = 0;
+    let mut c = 0;
+    while c < CHANNELS {
+        let k = t.channels[c];
+        n += one_if_ended(k);
+        c += 1;
+    }
+    n
+}
+
+// Whether a count is known and as many channels have ended.
+pub fn all_ended(t: Transfer) -> bool
+    ensures { λ r. ⌜ r ≡ isFinal t ⌝ }
+{
+    if t.count == 0 {
+        return false;
+    }
+    ended(t) == t.count
+}
+
+// How many are not unused.
+pub fn used(t: Transfer) -> u64
+    ensures { λ r. ⌜ r ≡ usedOf t ⌝ }
+{
+    let mut n: u64 = 0;
+    let mut c = 0;
+    while c < CHANNELS {
+        let k = t.channels[c];
+        n += one_if_used(k);
+        c += 1;
+    }
+    n
+}
+
+// a + b, or the largest number where that is more.
+fn add_up_to_largest(a: u64, b: u64) -> u64
+    ensures { λ r. ⌜ r ≡ min 18446744073709551615 (a + b) ⌝ }
+{
+    if 18446744073709551615 - a < b {
+        return 18446744073709551615;
+    }
+    a + b
+}
+
+// The bytes left in all payloads, or the largest number where there are more.
+pub fn left(t: Transfer) -> u64
+    ensures { λ r. ⌜ r ≡ min 18446744073709551615 (leftOf t) ⌝ }
+{
+    let mut n: u64 = 0;
+    let mut c = 0;
+    while c < CHANNELS {
+        let k = t.channels[c];
+        n = add_up_to_largest(n, k.left);
+        c += 1;
+    }
+    n
+}

@@ -1,0 +1,12 @@
+-- The stored bytes.
+use Prim.Native.Nat.{ℕ, _-_, min}
+use mathlib.Core.List.{List}
+use Rattle.ledger.specs.Pairs.{total}
+use Rattle.ledger.specs.Ledger.{pairsOf}
+use Rattle.ledger.specs.Claim.{largest}
+use Rattle.transfer.specs.declared.state.Transfer.{Transfer}
+use Rattle.transfer.specs.Transfer.{leftOf}
+
+-- claimed bytes less those left, for any transfer and ledger: either sum is cut at the largest 64-bit number
+unfoldable pub storedCut : Transfer → List ℕ → ℕ
+storedCut t ledger = min largest (total (pairsOf ledger)) - min largest (leftOf t)

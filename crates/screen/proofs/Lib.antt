@@ -1,0 +1,4 @@
+pub mod Lines
+pub mod Screens
+pub mod ScreenTallies
+pub mod ScreenSets

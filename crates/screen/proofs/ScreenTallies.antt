@@ -1,0 +1,67 @@
+-- `ScreenTally` holds.
+use Prim.Native.Nat.{ℕ, _≤_}
+use mathlib.Core.Path.{_≡_, refl, sym, ap, _∙_}
+use mathlib.Core.Bool.{true, and-eq-true-iff}
+use mathlib.Core.List.{List}
+use native.Mathlib.Omega.{arith}
+use lib.Dec.{eqb}
+use lib.ListN.{length}
+use Rattle.ledger.specs.Pairs.{Pairs}
+use Rattle.ledger.specs.Claim.{largest}
+use Rattle.transfer.specs.Transfer.{World, verdictOf, storedOf}
+use Rattle.transfer.specs.Fit.{fitsLedger, fits}
+use Rattle.transfer.specs.Calls.{Call, after}
+use Rattle.transfer.specs.Tally.{verdict}
+use Rattle.transfer.specs.AfterList.{Begun, tallyOf, AfterList}
+use Rattle.transfer.proofs.Runs.{verdict-is}
+use Rattle.transfer.proofs.Along.{along, world-along}
+use Rattle.transfer.proofs.FitTests.{fits-together}
+use Rattle.transfer.proofs.AfterLists.{every-list}
+use Rattle.receiver.specs.Stored.{storedCut}
+use Rattle.screen.specs.Screen.{lineOf, lineFor, roomNumber, answerBy, leftBy, screenOf, screenLeaves}
+use Rattle.screen.specs.ScreenTally.{bytesOf, tallyLine, ScreenTally}
+use Rattle.screen.proofs.Screens.{number-is, bytes-are, fit, stored-whole}
+
+module _ (w : World) (file : List ℕ) (R : ℕ) (before : Pairs) (b : Begun w file R before) (ks : List Call) where
+  list : AfterList R before file (after w ks) (tallyOf (length file) R before ks)
+  list = every-list .after-list w file R before b ks
+
+  shows : verdictOf (after w ks) ≡ verdict (tallyOf (length file) R before ks)
+  shows = ap verdictOf (world-along w file R before b ks) ∙ verdict-is (length file) R before file (tallyOf (length file) R before ks) (along w file R before b ks .kept)
+
+  says : lineOf (after w ks) ≡ tallyLine before (tallyOf (length file) R before ks)
+  unfolding lineOf tallyLine
+  says = rw (shows, list .fault-is .0, list .fault-is .1, list .ended-is, list .count-is, list .bytes-are)
+
+  -- the line doesn't look at the file
+  no-file : lineFor (after w ks .t) (after w ks .lent .claimed) ≡ lineOf (after w ks)
+  no-file = unfold lineOf verdictOf storedOf in refl
+
+  fits-here : fitsLedger (after w ks .t) (after w ks .lent .claimed) ≡ true
+  unfolding fits
+  fits-here = and-eq-true-iff (eqb (length (after w ks .lent .file)) (after w ks .t .len)) (fitsLedger (after w ks .t) (after w ks .lent .claimed)) .0 (list .fits-still) .1
+
+  -- the length that the transfer remembers is still the file's
+  same-len : after w ks .t .len ≡ length file
+  same-len = sym (fits-together (after w ks) (list .fits-still) .file) ∙ list .file-length
+
+  stored-here : length file ≤ largest → storedCut (after w ks .t) (after w ks .lent .claimed) ≡ bytesOf before (tallyOf (length file) R before ks)
+  stored-here l = stored-whole (after w ks .t) (after w ks .lent .file) (after w ks .lent .claimed) (omega (arith, same-len)) fits-here ∙ list .bytes-are
+
+  shown-here : (out : List ℕ)
+      → let line = tallyLine before (tallyOf (length file) R before ks) in
+      (answerBy (roomNumber line out) line ≡ screenOf (after w ks .t) (after w ks .lent .claimed) out)
+      × (leftBy (roomNumber line out) line out ≡ screenLeaves (after w ks .t) (after w ks .lent .claimed) out)
+  shown-here out = fit (after w ks .t) (after w ks .lent .claimed) out (tallyLine before (tallyOf (length file) R before ks)) _ _ fits-here (sym (no-file ∙ says)) (refl, refl)
+
+pub screen-tally : ScreenTally
+screen-tally =
+    record {
+      number-is = number-is;
+      bytes-are = bytes-are;
+      stored-is = stored-whole;
+      stored-after = λ w file R before b l ks. stored-here w file R before b ks l;
+      line-is = says;
+      answer-is = λ w file R before b ks out. sym (shown-here w file R before b ks out .0);
+      leaves = λ w file R before b ks out. sym (shown-here w file R before b ks out .1);
+    }

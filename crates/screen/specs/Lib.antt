@@ -1,0 +1,3 @@
+pub mod Screen
+pub mod ScreenTally
+pub mod ScreenSet

@@ -1,0 +1,2 @@
+// The screen line of a transfer.
+pub mod line;
