@@ -1,45 +1,19 @@
 -- The text of ranges: how long it is, and one range after another.
-use Prim.Native.Nat.{ℕ, zero, suc, _+_, _-_, _^_, _≤_, _<_}
+use Prim.Native.Nat.{ℕ, _+_, _-_, _≤_, _<_}
 use mathlib.Core.Path.{_≡_, refl, ap, _∙_}
 use mathlib.Core.Bool.{Bool, true, false, cond}
-use mathlib.Core.Logic.{inr}
 use mathlib.Core.List.{List, [], _∷_, _++_, append-nil}
 use native.Mathlib.Omega.{arith}
-use native.Mathlib.Decide.{decLt}
 use borrow.Author.Tests.{ne-eqb}
 use borrow.Rule.Slice.PartMut.{putMid}
 use lib.Dec.{eqb}
-use lib.ListN.{length, set, take, drop, length-append, length-map}
+use lib.ListN.{length, set, take, drop, length-append}
 use lib.Seq.{append-snoc}
-use Rattle.octets.specs.Digits.{toBig}
-use Rattle.octets.specs.Decimal.{width, inDigits, decimal, digitByte}
-use Rattle.octets.proofs.Digits.{length-toBig}
-use Rattle.octets.proofs.Decimals.{width-small, width-is}
+use Rattle.octets.specs.Decimal.{width, decimal}
+use Rattle.octets.proofs.Decimals.{length-decimal}
 use Rattle.ledger.specs.Pairs.{Pairs, none, pair, size}
 use Rattle.forms.specs.RangeText.{comma, rangeText, rangesText, putAt}
 use Rattle.forms.proofs.Placing.{put-part, put-one, put-put, length-put, next-drop, next-le, next-put}
-
--- ---- numbers
-
-length-inDigits : (w n : ℕ) → length (inDigits w n) ≡ w
-unfolding inDigits
-length-inDigits w n = length-map (toBig 10 w n) digitByte ∙ length-toBig 10 w n
-
-pub length-decimal : (n : ℕ) → length (decimal n) ≡ width n
-unfolding decimal
-length-decimal n = length-inDigits (width n) n
-
-width-le : (w n : ℕ) → n < 10 ^ suc w → width n ≤ suc w
-width-le zero n h = omega (arith, width-small n h)
-width-le (suc w) n h = go (decLt n (10 ^ suc w)) (width-le w n)
-  where
-    go : Dec (n < 10 ^ suc w) → (n < 10 ^ suc w → width n ≤ suc w) → width n ≤ suc (suc w)
-    go (yes l) ih = omega (arith, ih l)
-    go (no l) ih = omega (arith, width-is (suc w) n h (inr (omega arith)))
-
--- a 64-bit number has at most 20 digits
-pub width-20 : (n : ℕ) → n < 18446744073709551616 → width n ≤ 20
-width-20 n h = width-le 19 n (omega arith)
 
 -- ---- one range
 

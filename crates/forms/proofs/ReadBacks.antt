@@ -11,7 +11,7 @@ use lib.Dec.{leb, eqb}
 use lib.ListN.{length, drop, length-append}
 use lib.Seq.{take-append-seam, getD-append-seam, drop-append-add}
 use Rattle.octets.specs.Decimal.{isDigit, digitRun, digitsOnly, numberOf, width, decimal}
-use Rattle.octets.proofs.Decimals.{width-small, width-step, digitsOnly-inDigits, decimal-reads-back, digit-bounds}
+use Rattle.octets.proofs.Decimals.{width-small, width-step, digitsOnly-inDigits, decimal-reads-back, digit-bounds, length-decimal, width-20}
 use Rattle.ledger.specs.Pairs.{Pairs, none, pair, size, Ruled, join, endsBy}
 use Rattle.ledger.specs.Ledger.{entryLimit, obeys, pairsOf, roomOf}
 use Rattle.ledger.specs.Claim.{largest}
@@ -22,7 +22,6 @@ use Rattle.forms.specs.declared.answer.Loaded.the-variants.{Done}
 use Rattle.forms.specs.declared.ranges.Range.the-variants.{Places}
 use Rattle.forms.proofs.Answered.{reads-merged}
 use Rattle.forms.proofs.Commas.{parts-last}
-use Rattle.forms.proofs.RangeTexts.{length-decimal, width-20}
 
 -- ---- one range
 

@@ -15,7 +15,7 @@ use lib.Seq.{take-suc, drop-cons}
 use Rattle.octets.specs.Digits.{Below, fromBig, toBig, toLittle}
 use Rattle.octets.specs.Decimal.{isDigit, digitsOnly, digitRun, numberOf, widthBy, width, inDigits, decimal, plain, readOf, digitValue, digitByte}
 use Rattle.octets.specs.declared.decimal.Number.the-variants.{Value, Nothing}
-use Rattle.octets.proofs.Digits.{fromBig-snoc, fromBig-grows, fromBig-lt, fromBig-first, toBig-suc, below-toBig, big-reads-back, big-writes-back}
+use Rattle.octets.proofs.Digits.{length-toBig, fromBig-snoc, fromBig-grows, fromBig-lt, fromBig-first, toBig-suc, below-toBig, big-reads-back, big-writes-back}
 
 -- ---- how many digits
 
@@ -67,6 +67,22 @@ width-fits n = by-depth n n (le-refl n)
         go : Dec (n < 10) → (n / 10 ≤ k → n / 10 < 10 ^ width (n / 10)) → n < 10 ^ width n
         go (yes l) ih = rw (width-small n l) l
         go (no l) ih = rw (width-step n (omega arith), pow-suc 10 (width (n / 10))) (omega (arith, ih (omega arith)))
+
+width-le : (w n : ℕ) → n < 10 ^ suc w → width n ≤ suc w
+width-le zero n h = omega (arith, width-small n h)
+width-le (suc w) n h = go (decLt n (10 ^ suc w)) (width-le w n)
+  where
+    go : Dec (n < 10 ^ suc w) → (n < 10 ^ suc w → width n ≤ suc w) → width n ≤ suc (suc w)
+    go (yes l) ih = omega (arith, ih l)
+    go (no l) ih = omega (arith, width-is (suc w) n h (inr (omega arith)))
+
+-- a 64-bit number has at most 20 digits
+pub width-20 : (n : ℕ) → n < 18446744073709551616 → width n ≤ 20
+width-20 n h = width-le 19 n (omega arith)
+
+pub length-decimal : (n : ℕ) → length (decimal n) ≡ width n
+unfolding decimal inDigits
+length-decimal n = length-map (toBig 10 (width n) n) digitByte ∙ length-toBig 10 (width n) n
 
 -- ---- one digit more
 

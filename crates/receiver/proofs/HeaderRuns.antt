@@ -8,7 +8,7 @@ use native.Mathlib.Omega.{arith}
 use borrow.Author.Tests.{lt-ltb, le-ltb}
 use lib.ListN.{length, length-append}
 use Rattle.transfer.specs.declared.state.Transfer.{Transfer}
-use Rattle.transfer.specs.Channel.{channelCount, heldLimit, header, readState, channelAt, stateAt, putState}
+use Rattle.transfer.specs.Channel.{channelCount, heldLimit, header, channelAt, putState}
 use Rattle.transfer.specs.Transfer.{World, world}
 use Rattle.transfer.specs.Receive.{goes, took, heads, judges, byteOn, byteOf}
 use Rattle.transfer.proofs.Lens.{Has, get-put, put-put}
@@ -17,6 +17,7 @@ use Rattle.transfer.proofs.Stages.{none-held}
 use Rattle.transfer.proofs.Together.{Together}
 use Rattle.receiver.specs.Leaves.{tookOf, filledBy}
 use Rattle.receiver.specs.Runs.{isLocked, Takes, bytesOn}
+use Rattle.receiver.proofs.StateNumbers.{is-unused, is-header}
 use Rattle.receiver.proofs.Standing.{nothing-held, heldNow, held-length, put-back, filled-is}
 
 -- ---- in a header
@@ -53,14 +54,11 @@ module _ (w : World) (f : Together w) (c : ℕ) (g : c < channelCount) where
   filled-at bs l = ap (λ x. world x (w .lent .file) (w .lent .claimed)) (sym (filled-is w f c g bs l))
 
   in-header : channelAt (w .t) c .state ≡ 1 → w ≡ at (w .t) (w .lent .file) (w .lent .claimed) c (header (heldNow w f c g))
-  in-header s = ap (λ x. world x (w .lent .file) (w .lent .claimed)) (sym (put-back w f c g) ∙ ap (putState (w .t) c) state-is)
-    where
-      state-is : stateAt (w .t) c ≡ header (heldNow w f c g)
-      state-is = unfold stateAt readState in rw s
+  in-header s = ap (λ x. world x (w .lent .file) (w .lent .claimed)) (sym (put-back w f c g) ∙ ap (putState (w .t) c) (is-header (w .t) c s))
 
   first-byte : channelAt (w .t) c .state ≡ 0 → isLocked (w .t) ≡ false → (b : ℕ) → byteOf w c b ≡ goes (at (w .t) (w .lent .file) (w .lent .claimed) c (header (b ∷ [])))
-  unfolding byteOf stateAt readState byteOn heads
-  first-byte s u b = rw (s, u)
+  unfolding byteOf byteOn heads
+  first-byte s u b = rw (is-unused (w .t) c s, u)
 
   none-held-yet : channelAt (w .t) c .state ≡ 0 → heldNow w f c g ≡ []
   none-held-yet s = nothing-held (heldNow w f c g) (held-length w f c g ∙ none-held (channelAt (w .t) c) (f .stages c g) (λ e. omega arith))

@@ -1,7 +1,6 @@
 -- What the two kinds of runs come to, from what their leaves answer.
-use Prim.Native.Nat.{ℕ, zero, suc, _+_, _*_, _-_, _≤_, _<_, min}
+use Prim.Native.Nat.{ℕ, suc, _+_, _*_, _-_, _≤_, _<_, min}
 use mathlib.Core.Path.{_≡_, refl, sym, ap, _∙_}
-use mathlib.Core.Logic.{_⊎_, inl, inr}
 use mathlib.Core.Bool.{Bool, true, cond, true≢false}
 use mathlib.Core.List.{List, [], _∷_, _++_, append-assoc, append-nil}
 use native.Mathlib.Omega.{arith}
@@ -12,7 +11,7 @@ use lib.ListN.{length, getD, take, drop, replicate, length-append, length-replic
 use lib.Seq.{sets, sets-eq, take-length, take-suc, take-at, drop-at, split-at, length-take-le}
 use Rattle.ledger.specs.Ledger.{obeys}
 use Rattle.transfer.specs.declared.state.Transfer.{Transfer}
-use Rattle.transfer.specs.Channel.{channelCount, heldLimit, header, payload, heldBytes, readState, channelAt, stateAt, putState}
+use Rattle.transfer.specs.Channel.{channelCount, heldLimit, header, heldBytes, channelAt, putState}
 use Rattle.transfer.specs.Transfer.{World, world}
 use Rattle.transfer.specs.Receive.{took, opens, judges}
 use Rattle.transfer.specs.Fit.{fitsLedger, fits}
@@ -22,6 +21,7 @@ use Rattle.transfer.proofs.Together.{Together, together-fit}
 use Rattle.transfer.proofs.FitTests.{fits-together}
 use Rattle.receiver.specs.Leaves.{tookOf, filledBy, held16}
 use Rattle.receiver.specs.Runs.{Takes, bytesOn, RunOf}
+use Rattle.receiver.proofs.StateNumbers.{in-payload, is-payload}
 use Rattle.receiver.proofs.Standing.{heldNow, held-length, filled-is}
 use Rattle.receiver.proofs.HeaderRuns.{held-run, whole-run}
 use Rattle.receiver.proofs.PayloadRuns.{stored-run}
@@ -32,7 +32,7 @@ fits-with : (t : Transfer) (file ledger : List ℕ) → length file ≡ t .len �
 fits-with t file ledger n e = fits-together (world t file ledger) (unfold fits in rw (eq-eqb (length file) (t .len) n) e)
 
 -- any file of that length serves
-fits-some : (t : Transfer) (ledger : List ℕ) → fitsLedger t ledger ≡ true → Together (world t (replicate (t .len) 0) ledger)
+pub fits-some : (t : Transfer) (ledger : List ℕ) → fitsLedger t ledger ≡ true → Together (world t (replicate (t .len) 0) ledger)
 fits-some t ledger e = fits-with t (replicate (t .len) 0) ledger (length-replicate {A = ℕ} (t .len) 0) e
 
 pub held-few : (t : Transfer) (ledger : List ℕ) (c : ℕ) → c < channelCount → fitsLedger t ledger ≡ true → channelAt t c .held ≤ heldLimit
@@ -40,13 +40,6 @@ held-few t ledger c h e = held-within (channelAt t c) (fits-some t ledger e .sta
 
 pub ledger-fits : (t : Transfer) (ledger : List ℕ) → fitsLedger t ledger ≡ true → (obeys ledger ≡ true) × (length ledger ≡ 2 * t .pairs)
 ledger-fits t ledger e = let f = fits-some t ledger e in (f .rule, f .entries)
-
-in-payload : (s : ℕ) → 1 < s → s < 4 → (s ≡ 2) ⊎ (s ≡ 3)
-in-payload zero a b = absurd (omega arith)
-in-payload (suc zero) a b = absurd (omega arith)
-in-payload (suc (suc zero)) a b = inl refl
-in-payload (suc (suc (suc zero))) a b = inr refl
-in-payload (suc (suc (suc (suc s)))) a b = absurd (omega arith)
 
 -- a rest lies in the file
 pub rest-inside : (w : World) (c : ℕ) → c < channelCount → fits w ≡ true → 1 < channelAt (w .t) c .state → channelAt (w .t) c .state < 4
@@ -156,16 +149,6 @@ stored-ran t file file′ c piece n h z a b m q d v on o ledger e =
     short : length (take n piece) ≡ n
     short = length-take-le n piece (omega (arith, q))
 
-    state-is : stateAt t c ≡ payload (channelAt t c .next) (channelAt t c .left) (eqb (channelAt t c .state) 3)
-    state-is = unfold stateAt in go (channelAt t c .state) a b
-      where
-        go : (s : ℕ) → 1 < s → s < 4 → readState s (take (channelAt t c .held) (drop (heldLimit * c) (t .heads))) (channelAt t c .next) (channelAt t c .left) ≡ payload (channelAt t c .next) (channelAt t c .left) (eqb s 3)
-        go zero a b = absurd (omega arith)
-        go (suc zero) a b = absurd (omega arith)
-        go (suc (suc zero)) a b = unfold readState in refl
-        go (suc (suc (suc zero))) a b = unfold readState in refl
-        go (suc (suc (suc (suc s)))) a b = absurd (omega arith)
-
     stored : file′ ≡ sets file (channelAt t c .next) (take n piece)
     stored = d ∙ sym (sets-eq (take n piece) file (channelAt t c .next) (omega (arith, short, q, m)) ∙ rw short (append-assoc (take (channelAt t c .next) file) (take n piece) (drop (channelAt t c .next + n) file)))
 
@@ -175,5 +158,5 @@ stored-ran t file file′ c piece n h z a b m q d v on o ledger e =
     all : (rest : List ℕ) (k : ℕ) → bytesOn c (world t file ledger) (take n piece ++ rest) k
         ≡ cond on (bytesOn c (world v file′ ledger) rest (k + length (take n piece))) (took (k + length (take n piece)), world v file′ ledger)
     all =
-        stored-run (world t file ledger) f c h (channelAt t c .next) (channelAt t c .left) (eqb (channelAt t c .state) 3) state-is (take n piece) (omega (arith, short, q, left, z)) (omega (arith, short, q))
+        stored-run (world t file ledger) f c h (channelAt t c .next) (channelAt t c .left) (eqb (channelAt t c .state) 3) (is-payload t c a b) (take n piece) (omega (arith, short, q, left, z)) (omega (arith, short, q))
         (world v file′ ledger) on opened

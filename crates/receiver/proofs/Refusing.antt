@@ -1,27 +1,20 @@
 -- The number by which a call is refused, test by test, and what a call answers by it.
-use Prim.Native.Nat.{ℕ, zero, suc, _*_, _≤_, _<_}
+use Prim.Native.Nat.{ℕ, suc, _≤_, _<_}
 use mathlib.Core.Path.{_≡_, refl, sym}
-use mathlib.Core.Bool.{Bool, true, false, not, _&&_, true≢false}
+use mathlib.Core.Bool.{Bool, true, false, _&&_}
 use mathlib.Core.List.{List, [], _∷_}
 use native.Mathlib.Omega.{arith}
 use native.Mathlib.Decide.{decLt}
 use borrow.Author.Tests.{lt-ltb, le-leb, lt-leb}
 use lib.Dec.{ltb, eqb}
-use lib.ListN.{length, take, drop}
+use lib.ListN.{length}
 use Rattle.transfer.specs.declared.state.Transfer.{Transfer}
-use Rattle.transfer.specs.Channel.{channelCount, heldLimit, readState, channelAt, stateAt}
+use Rattle.transfer.specs.Channel.{channelCount, channelAt}
 use Rattle.transfer.specs.Transfer.{World, world, verdictOf}
-use Rattle.transfer.specs.Receive.{refused, isGuess, isEnded, isSome, refusalOf, receiveOf}
+use Rattle.transfer.specs.Receive.{refused, isGuess, isSome, refusalOf, receiveOf}
 use Rattle.transfer.specs.Fit.{fitsLedger, fits}
 use Rattle.receiver.specs.Runs.{bytesOn}
-
-pub not-true : (b : Bool) → not b ≡ true → b ≡ false
-not-true true e = absurd (true≢false (sym e))
-not-true false e = refl
-
-pub not-false : (b : Bool) → not b ≡ false → b ≡ true
-not-false true e = refl
-not-false false e = absurd (true≢false e)
+use Rattle.receiver.proofs.StateNumbers.{is-ended, not-ended}
 
 -- the test of FIT, for a file of that length
 pub fits-is : (t : Transfer) (f ledger : List ℕ) (n : ℕ) (r : Bool) → length f ≡ n → r ≡ (eqb n (t .len) && fitsLedger t ledger) → fits (world t f ledger) ≡ r
@@ -47,33 +40,13 @@ module _ (w : World) (c : ℕ) (piece : List ℕ) where
       unfolding refusalOf
       empty-taken s = rw (f, lt-leb channelCount c h, g, s)
 
-      ended-is : 4 ≤ channelAt (w .t) c .state → isEnded (stateAt (w .t) c) ≡ true
-      ended-is q = unfold stateAt in go (channelAt (w .t) c .state) q
-        where
-          go : (n : ℕ) → 4 ≤ n → isEnded (readState n (take (channelAt (w .t) c .held) (drop (heldLimit * c) (w .t .heads))) (channelAt (w .t) c .next) (channelAt (w .t) c .left)) ≡ true
-          go zero q = absurd (omega arith)
-          go (suc zero) q = absurd (omega arith)
-          go (suc (suc zero)) q = absurd (omega arith)
-          go (suc (suc (suc zero))) q = absurd (omega arith)
-          go (suc (suc (suc (suc n)))) q = unfold readState in refl
-
-      not-ended : channelAt (w .t) c .state < 4 → isEnded (stateAt (w .t) c) ≡ false
-      not-ended q = unfold stateAt in go (channelAt (w .t) c .state) q
-        where
-          go : (n : ℕ) → n < 4 → isEnded (readState n (take (channelAt (w .t) c .held) (drop (heldLimit * c) (w .t .heads))) (channelAt (w .t) c .next) (channelAt (w .t) c .left)) ≡ false
-          go zero q = unfold readState in refl
-          go (suc zero) q = unfold readState in refl
-          go (suc (suc zero)) q = unfold readState in refl
-          go (suc (suc (suc zero))) q = unfold readState in refl
-          go (suc (suc (suc (suc n)))) q = absurd (omega arith)
-
       pub refused-4 : isSome piece ≡ true → 4 ≤ channelAt (w .t) c .state → refusalOf w c piece ≡ 4
       unfolding refusalOf
-      refused-4 s q = rw (f, lt-leb channelCount c h, g, s, ended-is q)
+      refused-4 s q = rw (f, lt-leb channelCount c h, g, s, is-ended (w .t) c q)
 
       pub bytes-taken : isSome piece ≡ true → channelAt (w .t) c .state < 4 → refusalOf w c piece ≡ 0
       unfolding refusalOf
-      bytes-taken s q = rw (f, lt-leb channelCount c h, g, s, not-ended q)
+      bytes-taken s q = rw (f, lt-leb channelCount c h, g, s, not-ended (w .t) c q)
 
   -- ---- the answer
 

@@ -1,5 +1,5 @@
 -- A call's runs, one behind the other: what each leaves fits, and together they are its bytes.
-use Prim.Native.Nat.{ℕ, zero, suc, _+_, _*_, _≤_, _<_}
+use Prim.Native.Nat.{ℕ, _+_, _≤_, _<_}
 use mathlib.Core.Path.{_≡_, refl, sym, ap, _∙_, subst}
 use mathlib.Core.Bool.{Bool, true, false, true≢false, and-eq-true-iff}
 use mathlib.Core.List.{List, [], _∷_, _++_}
@@ -9,7 +9,7 @@ use lib.Dec.{ltb, eqb}
 use lib.ListN.{length, take, drop, take-append-drop}
 use lib.Seq.{drop-drop}
 use Rattle.transfer.specs.declared.state.Transfer.{Transfer}
-use Rattle.transfer.specs.Channel.{channelCount, heldLimit, unused, ended, readState, channelAt, stateAt, putFault}
+use Rattle.transfer.specs.Channel.{channelCount, channelAt, putFault}
 use Rattle.transfer.specs.Transfer.{usedOf, World, world}
 use Rattle.transfer.specs.Receive.{leaves, took, byteOn, byteOf}
 use Rattle.transfer.specs.Fit.{fitsLedger, fits}
@@ -19,6 +19,7 @@ use Rattle.transfer.proofs.Together.{Together}
 use Rattle.transfer.proofs.FitTests.{fits-together, together-fits}
 use Rattle.transfer.proofs.Fitted.{piece-keeps}
 use Rattle.receiver.specs.Runs.{isLocked, bytesOn, RunOf}
+use Rattle.receiver.proofs.StateNumbers.{is-unused, is-ended}
 
 pub fits-parts : (t : Transfer) (file ledger : List ℕ) → fits (world t file ledger) ≡ true → (length file ≡ t .len) × (fitsLedger t ledger ≡ true)
 unfolding fits
@@ -41,28 +42,15 @@ pub locked-ran : (t : Transfer) (file ledger : List ℕ) (c : ℕ) (piece : List
 locked-ran t file ledger c [] h s e = absurd (omega arith)
 locked-ran t file ledger c (b ∷ bs) h s e =
     let a = and-eq-true-iff (ltb 0 (t .count)) (eqb (usedOf t) (t .count)) .0 e in
-    nothing-taken c (world t file ledger) (world (putFault t 19 c) file ledger) b bs (rows .by-19 (world t file ledger) c b is-unused (ltb-true 0 (t .count) (a .0)) (eqb-true (usedOf t) (t .count) (a .1)))
-  where
-    is-unused : stateAt t c ≡ unused
-    is-unused = unfold stateAt readState in rw s
+    nothing-taken c (world t file ledger) (world (putFault t 19 c) file ledger) b bs (rows .by-19 (world t file ledger) c b (is-unused t c s) (ltb-true 0 (t .count) (a .0)) (eqb-true (usedOf t) (t .count) (a .1)))
 
 -- an ended channel
 pub ended-ran : (t : Transfer) (file ledger : List ℕ) (c : ℕ) (piece : List ℕ) → 0 < length piece → 4 ≤ channelAt t c .state → RunOf c (world t file ledger) piece (world t file ledger) 0 false
 ended-ran t file ledger c [] h s = absurd (omega arith)
 ended-ran t file ledger c (b ∷ bs) h s = nothing-taken c (world t file ledger) (world t file ledger) b bs left
   where
-    is-ended : stateAt t c ≡ ended
-    is-ended = unfold stateAt in go (channelAt t c .state) s
-      where
-        go : (n : ℕ) → 4 ≤ n → readState n (take (channelAt t c .held) (drop (heldLimit * c) (t .heads))) (channelAt t c .next) (channelAt t c .left) ≡ ended
-        go zero q = absurd (omega arith)
-        go (suc zero) q = absurd (omega arith)
-        go (suc (suc zero)) q = absurd (omega arith)
-        go (suc (suc (suc zero))) q = absurd (omega arith)
-        go (suc (suc (suc (suc n)))) q = unfold readState in refl
-
     left : byteOf (world t file ledger) c b ≡ leaves (world t file ledger)
-    left = unfold byteOf in rw is-ended (unfold byteOn in refl)
+    left = unfold byteOf in rw (is-ended t c s) (unfold byteOn in refl)
 
 -- ---- one run behind the others: i bytes were taken before it
 

@@ -1,19 +1,14 @@
--- Texts put into lent bytes one behind the other, and how long a number's is.
-use Prim.Native.Nat.{ℕ, zero, suc, _+_, _-_, _^_, _≤_, _<_}
+-- Texts put into lent bytes one behind the other.
+use Prim.Native.Nat.{ℕ, zero, suc, _+_, _-_, _≤_, _<_}
 use mathlib.Core.Path.{_≡_, refl, sym, ap, _∙_}
-use mathlib.Core.Logic.{inr}
 use mathlib.Core.List.{List, [], _∷_, _++_, append-assoc}
 use native.Mathlib.Omega.{arith}
-use native.Mathlib.Decide.{decLt}
 use native.Mathlib.Nat.{add-zero}
 use native.Mathlib.Numerals.{add-one}
 use borrow.Rule.Slice.PartMut.{putMid}
-use lib.ListN.{length, getD, set, take, drop, length-map, length-append}
+use lib.ListN.{length, getD, set, take, drop, length-append}
 use lib.Seq.{sets, sets-eq, take-suc, length-take-le, drop-drop}
-use Rattle.octets.specs.Digits.{toBig}
-use Rattle.octets.specs.Decimal.{width, inDigits, decimal, digitByte}
-use Rattle.octets.proofs.Digits.{length-toBig}
-use Rattle.octets.proofs.Decimals.{width-small, width-is}
+use Rattle.octets.specs.Decimal.{decimal}
 use Rattle.receiver.specs.declared.receive.Verdict.{Verdict as Shown}
 use Rattle.receiver.specs.declared.receive.Verdict.the-variants.{Guess, Result, Broken}
 use Rattle.receiver.specs.Answers.{verdictIs}
@@ -42,24 +37,6 @@ pub put-part : (at e : ℕ) (out text : List ℕ) → e ≡ at + length text →
 put-part at e out text h g =
     let k : e - at ≡ length text = omega arith in
     rw (k, drop-drop (length text) at out) (sym (append-assoc (take at out) text (drop (at + length text) out)) ∙ sym (sets-eq text out at (omega arith)))
-
--- ---- numbers
-
-pub length-decimal : (n : ℕ) → length (decimal n) ≡ width n
-unfolding decimal inDigits
-length-decimal n = length-map (toBig 10 (width n) n) digitByte ∙ length-toBig 10 (width n) n
-
-width-le : (w n : ℕ) → n < 10 ^ suc w → width n ≤ suc w
-width-le zero n h = omega (arith, width-small n h)
-width-le (suc w) n h = go (decLt n (10 ^ suc w)) (width-le w n)
-  where
-    go : Dec (n < 10 ^ suc w) → (n < 10 ^ suc w → width n ≤ suc w) → width n ≤ suc (suc w)
-    go (yes l) ih = omega (arith, ih l)
-    go (no l) ih = omega (arith, width-is (suc w) n h (inr (omega arith)))
-
--- a 64-bit number has at most 20 digits
-pub width-20 : (n : ℕ) → n < 18446744073709551616 → width n ≤ 20
-width-20 n h = width-le 19 n (omega arith)
 
 -- ---- the parts of the line
 

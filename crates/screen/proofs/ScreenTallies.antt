@@ -1,23 +1,22 @@
 -- `ScreenTally` holds.
 use Prim.Native.Nat.{ℕ, _≤_}
 use mathlib.Core.Path.{_≡_, refl, sym, ap, _∙_}
-use mathlib.Core.Bool.{true, and-eq-true-iff}
+use mathlib.Core.Bool.{true}
 use mathlib.Core.List.{List}
 use native.Mathlib.Omega.{arith}
-use lib.Dec.{eqb}
 use lib.ListN.{length}
 use Rattle.ledger.specs.Pairs.{Pairs}
 use Rattle.ledger.specs.Claim.{largest}
 use Rattle.transfer.specs.Transfer.{World, verdictOf, storedOf}
-use Rattle.transfer.specs.Fit.{fitsLedger, fits}
+use Rattle.transfer.specs.Fit.{fitsLedger}
 use Rattle.transfer.specs.Calls.{Call, after}
 use Rattle.transfer.specs.Tally.{verdict}
 use Rattle.transfer.specs.AfterList.{Begun, tallyOf, AfterList}
 use Rattle.transfer.proofs.Runs.{verdict-is}
 use Rattle.transfer.proofs.Along.{along, world-along}
-use Rattle.transfer.proofs.FitTests.{fits-together}
 use Rattle.transfer.proofs.AfterLists.{every-list}
 use Rattle.receiver.specs.Stored.{storedCut}
+use Rattle.receiver.proofs.Taking.{fits-parts}
 use Rattle.screen.specs.Screen.{lineOf, lineFor, roomNumber, answerBy, leftBy, screenOf, screenLeaves}
 use Rattle.screen.specs.ScreenTally.{bytesOf, tallyLine, ScreenTally}
 use Rattle.screen.proofs.Screens.{number-is, bytes-are, fit, stored-whole}
@@ -37,22 +36,21 @@ module _ (w : World) (file : List ℕ) (R : ℕ) (before : Pairs) (b : Begun w f
   no-file : lineFor (after w ks .t) (after w ks .lent .claimed) ≡ lineOf (after w ks)
   no-file = unfold lineOf verdictOf storedOf in refl
 
-  fits-here : fitsLedger (after w ks .t) (after w ks .lent .claimed) ≡ true
-  unfolding fits
-  fits-here = and-eq-true-iff (eqb (length (after w ks .lent .file)) (after w ks .t .len)) (fitsLedger (after w ks .t) (after w ks .lent .claimed)) .0 (list .fits-still) .1
+  fits-here : (length (after w ks .lent .file) ≡ after w ks .t .len) × (fitsLedger (after w ks .t) (after w ks .lent .claimed) ≡ true)
+  fits-here = fits-parts (after w ks .t) (after w ks .lent .file) (after w ks .lent .claimed) (list .fits-still)
 
   -- the length that the transfer remembers is still the file's
   same-len : after w ks .t .len ≡ length file
-  same-len = sym (fits-together (after w ks) (list .fits-still) .file) ∙ list .file-length
+  same-len = sym (fits-here .0) ∙ list .file-length
 
   stored-here : length file ≤ largest → storedCut (after w ks .t) (after w ks .lent .claimed) ≡ bytesOf before (tallyOf (length file) R before ks)
-  stored-here l = stored-whole (after w ks .t) (after w ks .lent .file) (after w ks .lent .claimed) (omega (arith, same-len)) fits-here ∙ list .bytes-are
+  stored-here l = stored-whole (after w ks .t) (after w ks .lent .file) (after w ks .lent .claimed) (omega (arith, same-len)) (fits-here .1) ∙ list .bytes-are
 
   shown-here : (out : List ℕ)
       → let line = tallyLine before (tallyOf (length file) R before ks) in
       (answerBy (roomNumber line out) line ≡ screenOf (after w ks .t) (after w ks .lent .claimed) out)
       × (leftBy (roomNumber line out) line out ≡ screenLeaves (after w ks .t) (after w ks .lent .claimed) out)
-  shown-here out = fit (after w ks .t) (after w ks .lent .claimed) out (tallyLine before (tallyOf (length file) R before ks)) _ _ fits-here (sym (no-file ∙ says)) (refl, refl)
+  shown-here out = fit (after w ks .t) (after w ks .lent .claimed) out (tallyLine before (tallyOf (length file) R before ks)) _ _ (fits-here .1) (sym (no-file ∙ says)) (refl, refl)
 
 pub screen-tally : ScreenTally
 screen-tally =

@@ -5,24 +5,24 @@ use mathlib.Core.Bool.{Bool, true, false, cond, and-eq-true-iff}
 use mathlib.Core.List.{List, [], _++_}
 use native.Mathlib.Omega.{arith}
 use native.Mathlib.Nat.{zero-add}
-use borrow.Author.Tests.{lt-ltb, le-ltb, eq-eqb, leb-true, ltb-false}
+use borrow.Author.Tests.{lt-ltb, le-ltb, leb-true, ltb-false}
 use lib.Dec.{leb, ltb}
-use lib.ListN.{length, drop, replicate, length-replicate}
+use lib.ListN.{length, drop, replicate}
 use lib.Seq.{sets, sets-eq}
 use Rattle.ledger.specs.Pairs.{Pairs, none, pair, total, Ruled, endsBy}
 use Rattle.ledger.specs.Ledger.{pairsOf}
 use Rattle.ledger.specs.Claim.{largest}
 use Rattle.transfer.specs.declared.state.Transfer.{Transfer}
 use Rattle.transfer.specs.Transfer.{endedOf, world, verdictOf, storedOf}
-use Rattle.transfer.specs.Fit.{fitsLedger, fits}
+use Rattle.transfer.specs.Fit.{fitsLedger}
 use Rattle.transfer.proofs.Together.{ruled}
-use Rattle.transfer.proofs.FitTests.{fits-together}
 use Rattle.receiver.specs.declared.receive.Verdict.{Verdict as Shown}
 use Rattle.screen.specs.declared.line.Numbers.{Numbers}
 use Rattle.screen.specs.declared.line.Line.{Line}
 use Rattle.screen.specs.declared.line.Line.the-variants.{Bytes, Refused}
 use Rattle.receiver.specs.Answers.{verdictIs}
 use Rattle.receiver.specs.Stored.{storedCut}
+use Rattle.receiver.proofs.Ran.{fits-some}
 use Rattle.screen.specs.Screen.{lineOf, lineFor, lineSaid, roomNumber, answerBy, leftBy, screenNumber, screenOf, screenLeaves, lineNumber, lineBytes}
 
 -- ---- a text and lent bytes
@@ -91,14 +91,8 @@ total-le f lo (pair a b ps) c h =
     let q = and-eq-true-iff (leb b f) (endsBy f ps) .0 h in
     omega (arith, total-le f (suc b) ps (c .2) (q .1), leb-true b f (q .0), c .0, c .1)
 
--- the test without the file is the whole test with a file of the length that the transfer says
-fits-some : (t : Transfer) (ledger : List ℕ) → fitsLedger t ledger ≡ true → fits (world t (replicate (t .len) 0) ledger) ≡ true
-unfolding fits
-fits-some t ledger f = rw (length-replicate {A = ℕ} (t .len) 0, eq-eqb (t .len) (t .len) refl) f
-
 pub stored-whole : (t : Transfer) (file ledger : List ℕ) → t .len ≤ largest → fitsLedger t ledger ≡ true → storedCut t ledger ≡ storedOf (world t file ledger)
 unfolding storedCut storedOf
 stored-whole t file ledger l f =
-    let w = world t (replicate (t .len) 0) ledger in
-    let g = fits-together w (fits-some t ledger f) in
-    omega (arith, total-le (t .len) 0 (pairsOf ledger) (ruled w (g .rule)) (g .ends))
+    let g = fits-some t ledger f in
+    omega (arith, total-le (t .len) 0 (pairsOf ledger) (ruled (world t (replicate (t .len) 0) ledger) (g .rule)) (g .ends))

@@ -30,7 +30,6 @@ use denote.Triple.Spec.{Meets, tripleOf}
 use denote.Triple.Table.{entered}
 use denote.Triple.Walked.{says, Stays, stay-none-slice, walkOf, goes-none-slice, Walks, ends-at, walked, walk-meets}
 use denote.Exit.{yes}
-use Rattle.control.specs.declared.hosts.Reader.{Reader}
 use Rattle.control.proofs.Held.{text-val, OwnText, reader, makes-reader}
 use Rattle.control.proofs.hosts.Reader.Laws as T′
 use Rattle.control.proofs.hosts.new.Key.{name as #hosts·new}

@@ -2,7 +2,8 @@
 use Prim.Native.Nat.{_-_}
 use native.Mathlib.Omega.{arith}
 use borrow.Author.Needs.{needs}
-use Rattle.forms.proofs.RangeTexts.{length-rangeText, width-20}
+use Rattle.octets.proofs.Decimals.{width-20}
+use Rattle.forms.proofs.RangeTexts.{length-rangeText}
 use Rattle.forms.proofs.ranges.range_length.Statement.{statement}
 use Rattle.forms.proofs.ranges.range_length.Tie as tie
 

@@ -1,5 +1,4 @@
 -- `decimal::is_digit`.
-use native.Mathlib.Omega.{arith}
 use borrow.Author.Tests.{lt-leb, le-leb}
 use Rattle.octets.proofs.decimal.is_digit.Statement.{statement}
 use Rattle.octets.proofs.decimal.is_digit.Tie as tie

@@ -7,8 +7,9 @@ use lib.ListN.{length}
 use Rattle.transfer.specs.Transfer.{world, verdictOf}
 use Rattle.transfer.specs.Receive.{isGuess}
 use Rattle.transfer.specs.Fit.{fits}
-use Rattle.receiver.proofs.Refusing.{not-true, not-false, fits-is, refused-1, refused-2, refused-3, empty-taken, refused-4, bytes-taken}
+use Rattle.receiver.proofs.Refusing.{fits-is, refused-1, refused-2, refused-3, empty-taken, refused-4, bytes-taken}
 use borrow.Author.Needs.{needs}
+use borrow.Author.Tests.{not-true, not-false}
 use Rattle.receiver.proofs.receive.refusal.Statement.{statement}
 use Rattle.receiver.proofs.receive.refusal.Tie as tie
 

@@ -2,8 +2,9 @@
 use Prim.Native.Nat.{ℕ, _+_, _-_, _≤_, _<_}
 use mathlib.Core.List.{List}
 use mathlib.Core.Path.{_≡_, refl, sym, ap, _∙_, subst}
-use mathlib.Core.Bool.{Bool, true, false, not, true≢false}
+use mathlib.Core.Bool.{true}
 use native.Mathlib.Omega.{arith}
+use borrow.Author.Tests.{not-true, not-false}
 use lib.ListN.{length, take, drop, length-drop, drop-of-length-le}
 use lib.Seq.{take-all}
 use Rattle.transfer.specs.Transfer.{world}
@@ -14,14 +15,6 @@ use Rattle.receiver.specs.Runs.{bytesOn, RunOf}
 use Rattle.receiver.proofs.Taking.{further, stopped, still-fits}
 use Rattle.receiver.proofs.step.take.Statement.{statement}
 use Rattle.receiver.proofs.step.take.Tie as tie
-
-goes : (b : Bool) → not b ≡ false → b ≡ true
-goes true e = refl
-goes false e = absurd (true≢false e)
-
-stops : (b : Bool) → not b ≡ true → b ≡ false
-stops true e = absurd (true≢false (sym e))
-stops false e = refl
 
 -- the part of the piece that is lent
 part : (piece : List ℕ) (i : ℕ) → take (length piece - i) (drop i piece) ≡ drop i piece
@@ -94,12 +87,12 @@ returns c =
     let e = c .before .before .before .before .before .before .before .before in
     let l = e .before .before .before .before .before in
     let x = l .before .before .before .before .args in
-    sym (l .loop .inv .5 ∙ stopped (x .c) (l .loop .inv .1) _ _ (x .piece .now) (l .loop .i) (e .run .result .taken) (e .run .result .on) (ran e) (stops (e .run .result .on) (c .if1 .taken)))
+    sym (l .loop .inv .5 ∙ stopped (x .c) (l .loop .inv .1) _ _ (x .piece .now) (l .loop .i) (e .run .result .taken) (e .run .result .on) (ran e) (not-true (e .run .result .on) (c .if1 .taken)))
 
 loop-less : tie.Need-loop-less Inv-loop μ-loop
 loop-less c =
     let e = c .before .before .before .before .before .before .before .before in
-    omega (arith, taken-few e, ran e .some (goes (e .run .result .on) (c .if1 .left)))
+    omega (arith, taken-few e, ran e .some (not-false (e .run .result .on) (c .if1 .left)))
 
 loop-again : tie.Need-loop-again Inv-loop μ-loop
 loop-again c =
@@ -111,8 +104,8 @@ loop-again c =
       v .1,
       e .run .kept .1 .1 .1 .0 ∙ v .2,
       e .run .kept .1 .1 .1 .1 .0 ∙ v .3,
-      still-fits (x .c) (v .1) _ _ (x .piece .now) (l .loop .i) (e .run .result .taken) (e .run .result .on) (ran e) (goes (e .run .result .on) (c .if1 .left)) (v .4),
-      v .5 ∙ further (x .c) (v .1) _ _ (x .piece .now) (l .loop .i) (e .run .result .taken) (e .run .result .on) (ran e) (goes (e .run .result .on) (c .if1 .left)),
+      still-fits (x .c) (v .1) _ _ (x .piece .now) (l .loop .i) (e .run .result .taken) (e .run .result .on) (ran e) (not-false (e .run .result .on) (c .if1 .left)) (v .4),
+      v .5 ∙ further (x .c) (v .1) _ _ (x .piece .now) (l .loop .i) (e .run .result .taken) (e .run .result .on) (ran e) (not-false (e .run .result .on) (c .if1 .left)),
     )
 
 same-length-3 : tie.Need-same-length-3 Inv-loop μ-loop

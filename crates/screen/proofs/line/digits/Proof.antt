@@ -2,7 +2,7 @@
 use mathlib.Core.Path.{sym, _∙_}
 use native.Mathlib.Omega.{arith}
 use borrow.Author.Needs.{needs}
-use Rattle.screen.proofs.Lines.{length-decimal, width-20}
+use Rattle.octets.proofs.Decimals.{length-decimal, width-20}
 use Rattle.screen.proofs.line.digits.Statement.{statement}
 use Rattle.screen.proofs.line.digits.Tie as tie
 

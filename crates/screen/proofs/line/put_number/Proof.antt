@@ -6,7 +6,8 @@ use borrow.Author.Needs.{needs}
 use borrow.Rule.Slice.PartMut.{midOf, mid-len}
 use lib.ListN.{length}
 use Rattle.octets.specs.Decimal.{width, inDigits, decimal}
-use Rattle.screen.proofs.Lines.{length-decimal, put-part}
+use Rattle.octets.proofs.Decimals.{length-decimal}
+use Rattle.screen.proofs.Lines.{put-part}
 use Rattle.screen.proofs.line.put_number.Statement.{statement}
 use Rattle.screen.proofs.line.put_number.Tie as tie
 
