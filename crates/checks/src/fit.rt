@@ -18,7 +18,7 @@ ghost use Rattle.checks.specs.Rests.{nextsOf, leftsOf, runsApart, runApa
 const PAIR_LIMIT: u64 = 4096;
 
 // The most bytes of a header that a channel holds.
-const HELD_LIMIT: usize = 16;
+pub const HELD_LIMIT: usize = 16;
 
 // ---- one channel
 

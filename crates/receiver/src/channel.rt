@@ -1,5 +1,6 @@
 // A channel's next state, written into the transfer: whatever it doesn't use becomes 0.
 use checks::count;
+use checks::fit;
 use transfer::state::Channel;
 use transfer::state::Transfer;
 ghost use mathlib.Core.Path.{_≡_};
@@ -22,8 +23,8 @@ pub fn put(mut t: Transfer, c: usize, k: Channel) -> Transfer
     ensures { λ r. ⌜ r ≡ putBare t c k ⌝ }
 {
     let mut i = 0;
-    while i < 16 {
-        t.heads[16 * c + i] = 0;
+    while i < fit::HELD_LIMIT {
+        t.heads[fit::HELD_LIMIT * c + i] = 0;
         i += 1;
     }
     t.channels[c] = k;

@@ -2,7 +2,9 @@
 use crate::channel;
 use crate::channel::Next;
 use checks::count;
+use checks::fit;
 use eblock::descriptor;
+use eblock::header;
 use ledger::claim;
 use ledger::claim::Room;
 use octets::big;
@@ -35,7 +37,7 @@ pub fn hold(mut t: Transfer, c: usize, bytes: &[u8]) -> Transfer
     ensures { λ r. ⌜ r ≡ filledBy t c (now (bytes .entry)) ⌝ }
 {
     let k = t.channels[c];
-    let at = 16 * c + k.held as usize;
+    let at = fit::HELD_LIMIT * c + k.held as usize;
     let mut i = 0;
     while i < bytes.len() {
         t.heads[at + i] = bytes[i];
@@ -79,7 +81,7 @@ fn asked(len: u64, known: u64, used: u64, head: &[u8]) -> Request
         if third == 0 {
             return Request::Faulty(15);
         }
-        if 64 < third {
+        if header::COUNT_LIMIT < third {
             return Request::Faulty(15);
         }
         if third < used {

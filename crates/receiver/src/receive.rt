@@ -1,6 +1,7 @@
 // The receiver as a host holds it, by value, and what a call of it answers.
 use crate::step;
 use crate::verdict;
+use checks::count;
 use checks::fit;
 use transfer::state::Transfer;
 ghost use mathlib.Core.Path.{_≡_};
@@ -52,7 +53,7 @@ fn refusal(t: Transfer, channel: u64, some: bool, file: usize, ledger: &[u64]) -
     if !fit::whole(t, file, ledger) {
         return 1;
     }
-    if 64 <= channel {
+    if count::CHANNELS as u64 <= channel {
         return 2;
     }
     let shown = verdict::shown(t);

@@ -3,6 +3,7 @@ use crate::body;
 use crate::channel;
 use crate::head;
 use checks::count;
+use checks::fit;
 use transfer::state::Transfer;
 ghost use mathlib.Core.Path.{_≡_};
 ghost use mathlib.Core.Bool.{true, false};
@@ -36,8 +37,8 @@ fn seventeen(t: Transfer, c: usize, last: u8) -> [u8; 17]
 {
     let mut head = [last; 17];
     let mut i = 0;
-    while i < 16 {
-        head[i] = t.heads[16 * c + i];
+    while i < fit::HELD_LIMIT {
+        head[i] = t.heads[fit::HELD_LIMIT * c + i];
         i += 1;
     }
     head
@@ -60,7 +61,7 @@ fn header(t: Transfer, c: usize, piece: &[u8], ledger: &mut [u64]) -> Ran
     ensures { λ r. ⌜ ((file : List ℕ) → length file ≡ t .len → RunOf c (world t file (now (ledger .entry))) (now (piece .entry)) (world (r .t) file (now (ledger .exit))) (r .taken) (r .on)) ⌝ }
 {
     let k = t.channels[c];
-    let room = 16 - k.held as usize;
+    let room = fit::HELD_LIMIT - k.held as usize;
     if piece.len() <= room {
         let n = piece.len();
         return Ran {
