@@ -1,9 +1,13 @@
 // Makes the call that each request on standard input names, and prints a line for each, until the input ends or a request is malformed.
 mod fill;
 mod frame;
+mod headers;
+mod ledgers;
+mod lines;
 mod part;
 mod print;
 mod session;
+mod texts;
 
 use frame::Frame;
 use session::Served;
@@ -43,7 +47,10 @@ fn serve(s: Session, request: &[u8], file: &mut [u8], ledger: &mut [u64]) -> Ser
     if session::is_kind(kind) {
         return session::serve(s, kind, &request[2..], file, ledger);
     }
-    session::malformed(s)
+    Served {
+        session: s,
+        is_formed: texts::serve(kind, &request[2..]),
+    }
 }
 
 fn one_request(s: Session, number: u64, file: &mut [u8], ledger: &mut [u64]) -> Turn {

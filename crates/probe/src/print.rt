@@ -1,4 +1,5 @@
 // The words of a line, on standard output.
+use crate::part;
 use libc::STDOUT_FILENO;
 
 pub fn word(text: &[u8]) {
@@ -41,6 +42,18 @@ pub fn numbers(run: &[u64]) {
         number(run[i]);
         i += 1;
     }
+}
+
+// Up to the last entry that is not 0.
+pub fn used(entries: &[u64]) {
+    let n = part::used(entries);
+    numbers(&entries[..n]);
+}
+
+// A word and the count that belongs to it.
+pub fn counted(text: &[u8], n: usize) {
+    word(text);
+    number(n as u64);
 }
 
 pub fn end() {

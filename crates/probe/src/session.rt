@@ -87,8 +87,7 @@ fn print_verdict(v: Verdict) {
 fn print_received(answer: Answer, verdict: Verdict) {
     match answer {
         Answer::Took(n) => {
-            print::word(b"TOOK ");
-            print::number(n as u64);
+            print::counted(b"TOOK ", n);
             print_verdict(verdict);
         }
         Answer::Refused(k) => {
@@ -177,9 +176,8 @@ fn show_file(from: u64, length: u64, file: &[u8]) -> bool {
 }
 
 fn show_ledger(ledger: &[u64]) {
-    let used = part::used(ledger);
     print::word(b"LEDGER ");
-    print::numbers(&ledger[..used]);
+    print::used(ledger);
     print::end();
 }
 
