@@ -1,4 +1,5 @@
 // Kinds 32 and 33: the block header.
+use crate::fill;
 use crate::part;
 use crate::print;
 use eblock::header;
@@ -44,7 +45,7 @@ fn write_into(descriptor: u8, length: u64, third: u64, out: &mut [u8]) {
 }
 
 fn write_lent(descriptor: u8, length: u64, third: u64, lent: u8) {
-    let mut space = [238u8; 255];
+    let mut space = [fill::BYTE; 255];
     let n = part::of_bytes(lent as u64, &space);
     write_into(descriptor, length, third, &mut space[..n]);
 }

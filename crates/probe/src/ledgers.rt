@@ -1,4 +1,5 @@
 // Kinds 37 to 40: a ledger as text and as a saved record.
+use crate::fill;
 use crate::frame;
 use crate::part;
 use crate::print;
@@ -20,13 +21,13 @@ pub enum Form {
 fn entry_space() -> [u64; 8200]
     ensures { λ r. ⌜ 8200 ≡ length r ⌝ }
 {
-    [7; 8200]
+    [fill::ENTRY; 8200]
 }
 
 fn byte_space() -> [u8; 65535]
     ensures { λ r. ⌜ 65535 ≡ length r ⌝ }
 {
-    [238; 65535]
+    [fill::BYTE; 65535]
 }
 
 // ---- reading

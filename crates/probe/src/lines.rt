@@ -1,4 +1,5 @@
 // Kinds 34 to 36: the control channel.
+use crate::fill;
 use crate::frame;
 use crate::part;
 use crate::print;
@@ -60,7 +61,7 @@ pub fn host_ports(body: &[u8]) -> bool {
         return false;
     }
     let asked = frame::two(body[0], body[1]);
-    let mut space = [7u64; 200];
+    let mut space = [fill::ENTRY; 200];
     let lent = part::of_entries(asked as u64, &space);
     if lent < asked as usize {
         return false;

@@ -1,6 +1,4 @@
-// How much of what is there a request may reach. A length that was lent never passes what it was lent of, so the lesser of the two is that
-// length; taking it spares every caller a precondition.
-ghost use lib.ListN.{length};
+// The lesser of a length and of what there is, so that a part of that length needs no precondition.
 ghost use Rattle.io.specs.Counts.{Counts};
 
 pub fn of_bytes(n: u64, bytes: &[u8]) -> usize

@@ -35,7 +35,7 @@ pub struct Served {
     pub is_formed: bool,
 }
 
-pub fn formed(s: Session) -> Served {
+fn formed(s: Session) -> Served {
     Served {
         session: s,
         is_formed: true,
@@ -53,7 +53,7 @@ pub fn malformed(s: Session) -> Served {
 
 // The screen line, which ends the line that it stands on.
 fn print_screen(receiver: Receiver, ledger: &[u64]) {
-    let mut out = [238u8; 128];
+    let mut out = [fill::BYTE; 128];
     let answer = line::write(receiver, ledger, &mut out);
     match answer {
         Line::Bytes(n) => {
@@ -100,7 +100,7 @@ fn print_received(answer: Answer, verdict: Verdict) {
 // ---- requests
 
 fn start(length: u64, ledger: &mut [u64]) -> Receiver {
-    fill::entries(ledger, 7);
+    fill::entries(ledger, fill::ENTRY);
     let started = start::start(length, ledger);
     let receiver = started.receiver;
     print_started(started.refused);
