@@ -1,0 +1,147 @@
+// Kinds 37 to 40: a ledger as text and as a saved record.
+use crate::fill;
+use crate::frame;
+use crate::part;
+use crate::print;
+use forms::answer::Loaded;
+use forms::answer::Written;
+use forms::ranges;
+use forms::saved;
+use octets::little;
+ghost use mathlib.Core.Path.{_≡_};
+ghost use lib.ListN.{length};
+
+// What a ledger is read from, or written as.
+pub enum Form {
+    Ranges,
+    Saved,
+}
+
+// Above the most entries that a ledger may have, so that it can be lent too long.
+fn entry_space() -> [u64; 8200]
+    ensures { λ r. ⌜ 8200 ≡ length r ⌝ }
+{
+    [fill::ENTRY; 8200]
+}
+
+fn byte_space() -> [u8; 65535]
+    ensures { λ r. ⌜ 65535 ≡ length r ⌝ }
+{
+    [fill::BYTE; 65535]
+}
+
+// ---- reading
+
+fn load(form: Form, bytes: &[u8], ledger: &mut [u64]) -> Loaded {
+    match form {
+        Form::Ranges => ranges::read(bytes, ledger),
+        Form::Saved => saved::read(bytes, ledger),
+    }
+}
+
+fn print_loaded(form: Form) {
+    match form {
+        Form::Ranges => print::word(b"RANGES"),
+        Form::Saved => print::word(b"LOADED"),
+    }
+}
+
+fn read_into(form: Form, bytes: &[u8], ledger: &mut [u64]) {
+    let answer = load(form, bytes, ledger);
+    match answer {
+        Loaded::Done => print_loaded(form),
+        Loaded::Refused(k) => print::refused(k),
+    }
+    print::word(b" ");
+    print::used(ledger);
+    print::end();
+}
+
+pub fn read(form: Form, body: &[u8]) -> bool {
+    if body.len() < 2 {
+        return false;
+    }
+    let asked = frame::two(body[0], body[1]);
+    let mut space = entry_space();
+    let lent = part::of_entries(asked as u64, &space);
+    if lent < asked as usize {
+        return false;
+    }
+    read_into(form, &body[2..], &mut space[..lent]);
+    true
+}
+
+// ---- writing
+
+// The number of eight bytes at an index; 0 past the last.
+fn entry_at(bytes: &[u8], i: usize) -> u64 {
+    if bytes.len() / 8 <= i {
+        return 0;
+    }
+    little::read(&bytes[8 * i..])
+}
+
+fn decode(bytes: &[u8], entries: &mut [u64]) {
+    let mut i = 0;
+    while i < entries.len() {
+        entries[i] = entry_at(bytes, i);
+        i += 1;
+    }
+}
+
+fn store(form: Form, ledger: &[u64], out: &mut [u8]) -> Written {
+    match form {
+        Form::Ranges => ranges::write(ledger, out),
+        Form::Saved => saved::write(ledger, out),
+    }
+}
+
+fn print_written(form: Form, n: usize) {
+    match form {
+        Form::Ranges => print::counted(b"TEXT ", n),
+        Form::Saved => print::counted(b"SAVED ", n),
+    }
+}
+
+fn write_into(form: Form, ledger: &[u64], out: &mut [u8]) {
+    let answer = store(form, ledger, out);
+    match answer {
+        Written::Bytes(n) => print_written(form, n),
+        Written::Refused(k) => print::refused(k),
+    }
+    print::word(b" ");
+    print::bytes(out);
+    print::end();
+}
+
+fn write_lent(form: Form, ledger: &[u64], lent: u16) {
+    let mut space = byte_space();
+    let n = part::of_bytes(lent as u64, &space);
+    write_into(form, ledger, &mut space[..n]);
+}
+
+fn write_decoded(form: Form, bytes: &[u8], ledger: &mut [u64], lent: u16) {
+    decode(bytes, ledger);
+    write_lent(form, ledger, lent);
+}
+
+fn write_entries(form: Form, bytes: &[u8], lent: u16) -> bool {
+    let count = bytes.len() / 8;
+    if bytes.len() % 8 != 0 {
+        return false;
+    }
+    let mut space = entry_space();
+    let n = part::of_entries(count as u64, &space);
+    if n < count {
+        return false;
+    }
+    write_decoded(form, bytes, &mut space[..n], lent);
+    true
+}
+
+pub fn write(form: Form, body: &[u8]) -> bool {
+    if body.len() < 2 {
+        return false;
+    }
+    write_entries(form, &body[2..], frame::two(body[0], body[1]))
+}

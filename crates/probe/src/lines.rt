@@ -1,0 +1,71 @@
+// Kinds 34 to 36: the control channel.
+use crate::fill;
+use crate::frame;
+use crate::part;
+use crate::print;
+use control::hosts;
+use control::hosts::Hosts;
+use control::line;
+use control::line::Line;
+use control::reply;
+use control::reply::Class;
+
+pub fn command(text: &[u8]) {
+    let answer = line::read(text);
+    match answer {
+        Line::Command {
+            verb,
+            from: _,
+            to: _,
+        } => {
+            print::word(b"VERB ");
+            print::byte(verb);
+            print::word(b" ");
+            print::bytes(line::argument(text));
+        }
+        Line::Refused(k) => print::refused(k),
+    }
+    print::end();
+}
+
+pub fn reply(body: &[u8]) -> bool {
+    if body.len() != 2 {
+        return false;
+    }
+    let class = reply::class_of(frame::two(body[0], body[1]));
+    match class {
+        Class::Preliminary => print::word(b"CLASS 1"),
+        Class::Completion => print::word(b"CLASS 2"),
+        Class::Intermediate => print::word(b"CLASS 3"),
+        Class::Transient => print::word(b"CLASS 4"),
+        Class::Permanent => print::word(b"CLASS 5"),
+        Class::Refused(k) => print::refused(k),
+    }
+    print::end();
+    true
+}
+
+fn hosts_into(text: &[u8], list: &mut [u64]) {
+    let answer = hosts::fill(text, list);
+    match answer {
+        Hosts::Count(n) => print::counted(b"HOSTS ", n),
+        Hosts::Refused(k) => print::refused(k),
+    }
+    print::word(b" ");
+    print::numbers(list);
+    print::end();
+}
+
+pub fn host_ports(body: &[u8]) -> bool {
+    if body.len() < 2 {
+        return false;
+    }
+    let asked = frame::two(body[0], body[1]);
+    let mut space = [fill::ENTRY; 200];
+    let lent = part::of_entries(asked as u64, &space);
+    if lent < asked as usize {
+        return false;
+    }
+    hosts_into(&body[2..], &mut space[..lent]);
+    true
+}

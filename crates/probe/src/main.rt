@@ -1,0 +1,105 @@
+// Makes the call that each request on standard input names, and prints a line for each, until the input ends or a request is malformed.
+mod fill;
+mod frame;
+mod headers;
+mod ledgers;
+mod lines;
+mod part;
+mod print;
+mod session;
+mod texts;
+
+use frame::Frame;
+use session::Served;
+use session::Session;
+ghost use mathlib.Core.Path.{_≡_};
+ghost use lib.ListN.{length};
+
+// More than any input has; a proved loop has to end.
+const REQUESTS: u64 = 1099511627776;
+
+// The session after a request, and whether more may come.
+struct Turn {
+    session: Session,
+    goes_on: bool,
+}
+
+fn stop(s: Session) -> Turn {
+    Turn {
+        session: s,
+        goes_on: false,
+    }
+}
+
+fn print_stop(got: Frame, number: u64) {
+    match got {
+        Frame::Malformed => print::record(number),
+        Frame::Whole(_) => {}
+        Frame::End => {}
+    }
+}
+
+fn serve(s: Session, request: &[u8], file: &mut [u8], ledger: &mut [u64]) -> Served {
+    if request.len() < 2 {
+        return session::malformed(s);
+    }
+    let kind = frame::two(request[0], request[1]);
+    if session::is_kind(kind) {
+        return session::serve(s, kind, &request[2..], file, ledger);
+    }
+    Served {
+        session: s,
+        is_formed: texts::serve(kind, &request[2..]),
+    }
+}
+
+fn one_request(s: Session, number: u64, file: &mut [u8], ledger: &mut [u64]) -> Turn {
+    let mut space = frame::space();
+    let got = frame::read(&mut space);
+    let Frame::Whole(n) = got else {
+        print_stop(got, number);
+        return stop(s);
+    };
+    let length = part::of_bytes(n as u64, &space);
+    let served = serve(s, &space[..length], file, ledger);
+    let next = served.session;
+    if !served.is_formed {
+        print::record(number);
+        return stop(next);
+    }
+    Turn {
+        session: next,
+        goes_on: true,
+    }
+}
+
+fn run(file: &mut [u8], ledger: &mut [u64]) {
+    let mut s = session::first(ledger);
+    let mut number: u64 = 0;
+    while number < REQUESTS {
+        let t = one_request(s, number, file, ledger);
+        if !t.goes_on {
+            return;
+        }
+        s = t.session;
+        number += 1;
+    }
+}
+
+fn file_space() -> [u8; 65536]
+    ensures { λ r. ⌜ 65536 ≡ length r ⌝ }
+{
+    [0; 65536]
+}
+
+fn ledger_space() -> [u64; 8200]
+    ensures { λ r. ⌜ 8200 ≡ length r ⌝ }
+{
+    [0; 8200]
+}
+
+fn main() {
+    let mut file = file_space();
+    let mut ledger = ledger_space();
+    run(&mut file, &mut ledger);
+}

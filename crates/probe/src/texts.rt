@@ -1,0 +1,27 @@
+// Kinds 32 to 40: calls that leave nothing behind.
+use crate::headers;
+use crate::ledgers;
+use crate::ledgers::Form;
+use crate::lines;
+
+// Whether there is such a kind, and its body is well formed.
+pub fn serve(kind: u16, body: &[u8]) -> bool {
+    match kind {
+        32 => {
+            headers::read(body);
+            true
+        }
+        33 => headers::write(body),
+        34 => {
+            lines::command(body);
+            true
+        }
+        35 => lines::reply(body),
+        36 => lines::host_ports(body),
+        37 => ledgers::read(Form::Ranges, body),
+        38 => ledgers::write(Form::Ranges, body),
+        39 => ledgers::write(Form::Saved, body),
+        40 => ledgers::read(Form::Saved, body),
+        _ => false,
+    }
+}
