@@ -12,7 +12,7 @@ use Rattle.transfer.specs.Transfer.{endedOf, usedOf, World, world, withT
 use Rattle.transfer.specs.Receive.{stops, leaves, faults, ends, opens, stores, byteOn, Answer, refused, took, bytesBy, byteOf, isGuess, isEnded, isSome, refusalOf, receiveOf}
 use Rattle.transfer.specs.Fit.{fits}
 use Rattle.transfer.specs.Calls.{Call, receive, callOf, runBy, answersOf, after}
-use Rattle.transfer.proofs.Pieces.{bytes-goes, bytes-stops, bytes-leaves}
+use Rattle.transfer.proofs.Pieces.{bytes-none, bytes-goes, bytes-stops, bytes-leaves}
 use Rattle.transfer.specs.Rows.{Rows}
 
 not-guess : (v : Verdict) → (v ≡ guess → ⊥) → isGuess v ≡ false
@@ -111,6 +111,7 @@ rows =
       row-4 = λ w c b bs e h v s. fourth-row w c e h b bs v s;
       row-empty = λ w c e h v. empty-row w c e h v;
       row-taken = λ w c b bs e h v s. taken-row w c e h b bs v s;
+      piece-none = bytes-none;
       piece-goes = bytes-goes;
       piece-stops = bytes-stops;
       piece-leaves = bytes-leaves;

@@ -26,6 +26,8 @@ pub record Rows : Type 1 where
   -- otherwise the bytes are taken one after the other
   pub row-taken : (w : World) (c b : ℕ) (bs : List ℕ) → fits w ≡ true → c < channelCount → verdictOf w ≡ guess → (stateAt (w .t) c ≡ ended → ⊥)
       → receiveOf w c (b ∷ bs) ≡ bytesBy (λ v x. byteOf v c x) w (b ∷ bs) 0
+  -- at the end of a piece, all of its bytes are taken
+  pub piece-none : {W : Type 0} (f : W → ℕ → Took W) (w : W) (k : ℕ) → bytesBy f w [] k ≡ (took k, w)
   -- a byte after which the call goes on, one after which it stops, and one that is not taken; k bytes were taken before
   pub piece-goes : {W : Type 0} (f : W → ℕ → Took W) (w v : W) (b : ℕ) (bs : List ℕ) (k : ℕ) → f w b ≡ goes v → bytesBy f w (b ∷ bs) k ≡ bytesBy f v bs (suc k)
   pub piece-stops : {W : Type 0} (f : W → ℕ → Took W) (w v : W) (b : ℕ) (bs : List ℕ) (k : ℕ) → f w b ≡ stops v → bytesBy f w (b ∷ bs) k ≡ (took (suc k), v)
