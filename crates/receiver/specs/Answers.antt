@@ -1,5 +1,4 @@
 -- What the answers of the receiver stand for: document 01's words, numbers and values.
-use Prim.Native.Nat.{ℕ}
 use Rattle.transfer.specs.Transfer.{Verdict, guess, result, broken}
 use Rattle.transfer.specs.Receive.{Answer, refused, took}
 use Rattle.receiver.specs.declared.receive.Verdict.{Verdict as Shown}
@@ -12,15 +11,7 @@ verdictIs Guess = guess
 verdictIs Result = result
 verdictIs Broken = broken
 
+-- the bytes taken, or the number of the refusal
 abbrev pub answerOf : Answered → Answer
 answerOf (Took n) = took n
 answerOf (Refused k) = refused k
-
--- the refusal's number, 0 where there is none; the bytes taken
-unfoldable pub number : Answered → ℕ
-number (Took n) = 0
-number (Refused k) = k
-
-unfoldable pub bytesTaken : Answered → ℕ
-bytesTaken (Took n) = n
-bytesTaken (Refused k) = 0
