@@ -35,11 +35,6 @@ module _ (F known used : ℕ) (h : List ℕ) where
   pub range-asked : (s e : ℕ) → claims s e ≡ askedOf F known used h → (s < e) × (e - s ≡ payloadLength h)
   range-asked s e q = rw (sym q) at (ranged (askedOf F known used h) (asked F known used h))
 
--- what the code has asked, with the channels that it has counted
-pub asks-is : (t : Transfer) (h : List ℕ) (p q : Request) (used : ℕ) → p ≡ q → used ≡ usedOf t → asksOf p ≡ askedOf (t .len) (t .count) used h
-    → asksOf q ≡ askedOf (t .len) (t .count) (usedOf t) h
-asks-is t h p q used e f g = rw (e, f) at g
-
 module _ (t : Transfer) (file l : List ℕ) (c : ℕ) (h : List ℕ) where
   abbrev AsksFor : Asks → Type 0
   AsksFor a = a ≡ askedOf (t .len) (t .count) (usedOf t) h

@@ -4,11 +4,9 @@ use mathlib.Core.Path.{_≡_, refl}
 use mathlib.Core.Bool.{Bool, true, false}
 use mathlib.Core.List.{List, []}
 use Rattle.transfer.specs.declared.state.Transfer.{Transfer}
-use Rattle.transfer.specs.Channel.{header, payload, putState, putFault}
+use Rattle.transfer.specs.Channel.{header, payload, ended, putState, putFault}
 use Rattle.transfer.specs.Transfer.{World, world, withTransfer, isFinal}
 use Rattle.transfer.specs.Receive.{goes, stops, faults, ends, opens}
-use Rattle.receiver.specs.Leaves.{putBare}
-use Rattle.receiver.proofs.Bare.{bare-header, bare-payload, bare-last, bare-ended}
 
 opens-some : (w : World) (c p n : ℕ) (last : Bool) → (n ≡ 0 → ⊥) → goes (withTransfer w (putState (w .t) c (payload p n last))) ≡ opens w c p n last
 unfolding opens
@@ -25,24 +23,24 @@ module _ (t u : Transfer) (c : ℕ) (file ledger : List ℕ) where
   unfolding ends
   ends-20 f e = rw f (leaves-fault 20 e)
 
-  pub ends-ended : isFinal t ≡ false → u ≡ putBare t c (record { state = 4; held = 0; next = 0; left = 0 }) → stops (world u file ledger) ≡ ends (world t file ledger) c
+  pub ends-ended : isFinal t ≡ false → u ≡ putState t c ended → stops (world u file ledger) ≡ ends (world t file ledger) c
   unfolding ends
-  ends-ended f e = rw (f, e, bare-ended t c)
+  ends-ended f e = rw (f, e)
 
   -- n payload bytes from the place p on are to come
   module _ (p n : ℕ) (last : Bool) where
-    pub opens-header : n ≡ 0 → last ≡ false → u ≡ putBare t c (record { state = 1; held = 0; next = 0; left = 0 })
+    pub opens-header : n ≡ 0 → last ≡ false → u ≡ putState t c (header [])
         → goes (world u file ledger) ≡ opens (world t file ledger) c p n last
     unfolding opens
-    opens-header z l e = rw (z, l, e, bare-header t c)
+    opens-header z l e = rw (z, l, e)
 
-    pub opens-last : (n ≡ 0 → ⊥) → last ≡ true → u ≡ putBare t c (record { state = 3; held = 0; next = p; left = n })
+    pub opens-last : (n ≡ 0 → ⊥) → last ≡ true → u ≡ putState t c (payload p n true)
         → goes (world u file ledger) ≡ opens (world t file ledger) c p n last
-    opens-last z l e = rw (l, e, bare-last t c p n) (opens-some (world t file ledger) c p n true z)
+    opens-last z l e = rw (l, e) (opens-some (world t file ledger) c p n true z)
 
-    pub opens-payload : (n ≡ 0 → ⊥) → last ≡ false → u ≡ putBare t c (record { state = 2; held = 0; next = p; left = n })
+    pub opens-payload : (n ≡ 0 → ⊥) → last ≡ false → u ≡ putState t c (payload p n false)
         → goes (world u file ledger) ≡ opens (world t file ledger) c p n last
-    opens-payload z l e = rw (l, e, bare-payload t c p n) (opens-some (world t file ledger) c p n false z)
+    opens-payload z l e = rw (l, e) (opens-some (world t file ledger) c p n false z)
 
 -- no payload, and the channel ends
 pub opens-ends : (w : World) (c p n : ℕ) (last : Bool) → n ≡ 0 → last ≡ true → ends w c ≡ opens w c p n last

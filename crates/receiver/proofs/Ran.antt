@@ -1,6 +1,6 @@
 -- What the two kinds of runs come to, from what their leaves answer.
 use Prim.Native.Nat.{ℕ, suc, _+_, _*_, _-_, _≤_, _<_, min}
-use mathlib.Core.Path.{_≡_, refl, sym, ap, _∙_}
+use mathlib.Core.Path.{_≡_, refl, sym, ap, _∙_, subst}
 use mathlib.Core.Bool.{Bool, true, cond, true≢false}
 use mathlib.Core.List.{List, [], _∷_, _++_, append-assoc, append-nil}
 use native.Mathlib.Omega.{arith}
@@ -10,13 +10,14 @@ use lib.Dec.{eqb}
 use lib.ListN.{length, getD, take, drop, replicate, length-append, length-replicate, take-append-drop}
 use lib.Seq.{sets, sets-eq, take-length, take-suc, take-at, drop-at, split-at, length-take-le}
 use Rattle.ledger.specs.Ledger.{obeys}
+use Rattle.transfer.specs.declared.state.Channel.{Channel}
 use Rattle.transfer.specs.declared.state.Transfer.{Transfer}
-use Rattle.transfer.specs.Channel.{channelCount, heldLimit, header, heldBytes, channelAt, putState}
+use Rattle.transfer.specs.Channel.{channelCount, heldLimit, header, payload, heldBytes, channelAt, stateAt, putState}
 use Rattle.transfer.specs.Transfer.{World, world}
 use Rattle.transfer.specs.Receive.{took, opens, judges}
 use Rattle.transfer.specs.Fit.{fitsLedger, fits}
 use Rattle.transfer.proofs.Lens.{Has}
-use Rattle.transfer.proofs.Stages.{held-within, some-left}
+use Rattle.transfer.proofs.Stages.{Stage, held-within, some-left}
 use Rattle.transfer.proofs.Together.{Together, together-fit}
 use Rattle.transfer.proofs.FitTests.{fits-together}
 use Rattle.receiver.specs.Leaves.{tookOf, filledBy, held16}
@@ -50,10 +51,6 @@ rest-inside w c h e a b =
     omega (arith, i .2, f .ends (i .0), f .file)
 
 -- ---- a header's bytes
-
-pub filled-pairs : (t : Transfer) (c : ℕ) (bs : List ℕ) → filledBy t c bs .pairs ≡ t .pairs
-unfolding filledBy
-filled-pairs t c bs = refl
 
 -- all of the piece is held
 pub held-ran : (t : Transfer) (ledger : List ℕ) (c : ℕ) (piece : List ℕ) → c < channelCount → fitsLedger t ledger ≡ true → Takes t c → 0 < length piece
@@ -126,37 +123,42 @@ judged-ran t ledger ledger′ c piece n h e s l m u q whole r v on j file i =
 
 -- ---- a payload's bytes
 
-pub stored-ran : (t : Transfer) (file file′ : List ℕ) (c : ℕ) (piece : List ℕ) (n : ℕ) → c < channelCount → 0 < length piece → 1 < channelAt t c .state → channelAt t c .state < 4
-    → channelAt t c .next + channelAt t c .left ≤ length file → n ≡ min (channelAt t c .left) (length piece)
-    → file′ ≡ take (channelAt t c .next) file ++ (take n piece ++ drop (channelAt t c .next + n) file)
+pub stored-ran : (t : Transfer) (file file′ : List ℕ) (c : ℕ) (k : Channel) (i : channelAt t c ≡ k) (piece : List ℕ) (n : ℕ) → c < channelCount → 0 < length piece → 1 < k .state → k .state < 4
+    → k .next + k .left ≤ length file → n ≡ min (k .left) (length piece)
+    → file′ ≡ take (k .next) file ++ (take n piece ++ drop (k .next + n) file)
     → (v : Transfer) (on : Bool)
-    → ((f l : List ℕ) → tookOf on (world v f l) ≡ opens (world t f l) c (channelAt t c .next + n) (channelAt t c .left - n) (eqb (channelAt t c .state) 3))
+    → ((f l : List ℕ) → tookOf on (world v f l) ≡ opens (world t f l) c (k .next + n) (k .left - n) (eqb (k .state) 3))
     → (ledger : List ℕ) → fits (world t file ledger) ≡ true → RunOf c (world t file ledger) piece (world v file′ ledger) n on
-stored-ran t file file′ c piece n h z a b m q d v on o ledger e =
+stored-ran t file file′ c k i piece n h z a b m q d v on o ledger e =
     record {
       few = omega (arith, q);
       some = λ x. omega (arith, q, left);
-      goes-on = λ x rest k. all rest k ∙ rw (x, short);
-      stops-there = λ x k. ap (λ y. bytesOn c (world t file ledger) y k) (sym (take-append-drop n piece)) ∙ all (drop n piece) k ∙ rw (x, short);
+      goes-on = λ x rest j. all rest j ∙ rw (x, short);
+      stops-there = λ x j. ap (λ y. bytesOn c (world t file ledger) y j) (sym (take-append-drop n piece)) ∙ all (drop n piece) j ∙ rw (x, short);
     }
   where
     f : Together (world t file ledger)
     f = fits-together (world t file ledger) e
 
-    left : 0 < channelAt t c .left
-    left = some-left (channelAt t c) (f .stages c h) (in-payload (channelAt t c .state) a b)
+    state : stateAt t c ≡ payload (k .next) (k .left) (eqb (k .state) 3)
+    state =
+        subst (λ y. stateAt t c ≡ payload (y .next) (y .left) (eqb (y .state) 3)) i
+        (is-payload t c (subst (λ y. 1 < y .state) (sym i) a) (subst (λ y. y .state < 4) (sym i) b))
+
+    left : 0 < k .left
+    left = some-left k (subst Stage i (f .stages c h)) (in-payload (k .state) a b)
 
     short : length (take n piece) ≡ n
     short = length-take-le n piece (omega (arith, q))
 
-    stored : file′ ≡ sets file (channelAt t c .next) (take n piece)
-    stored = d ∙ sym (sets-eq (take n piece) file (channelAt t c .next) (omega (arith, short, q, m)) ∙ rw short (append-assoc (take (channelAt t c .next) file) (take n piece) (drop (channelAt t c .next + n) file)))
+    stored : file′ ≡ sets file (k .next) (take n piece)
+    stored = d ∙ sym (sets-eq (take n piece) file (k .next) (omega (arith, short, q, m)) ∙ rw short (append-assoc (take (k .next) file) (take n piece) (drop (k .next + n) file)))
 
-    opened : tookOf on (world v file′ ledger) ≡ opens (world t (sets file (channelAt t c .next) (take n piece)) ledger) c (channelAt t c .next + length (take n piece)) (channelAt t c .left - length (take n piece)) (eqb (channelAt t c .state) 3)
-    opened = rw short (o file′ ledger ∙ ap (λ x. opens (world t x ledger) c (channelAt t c .next + n) (channelAt t c .left - n) (eqb (channelAt t c .state) 3)) stored)
+    opened : tookOf on (world v file′ ledger) ≡ opens (world t (sets file (k .next) (take n piece)) ledger) c (k .next + length (take n piece)) (k .left - length (take n piece)) (eqb (k .state) 3)
+    opened = rw short (o file′ ledger ∙ ap (λ x. opens (world t x ledger) c (k .next + n) (k .left - n) (eqb (k .state) 3)) stored)
 
-    all : (rest : List ℕ) (k : ℕ) → bytesOn c (world t file ledger) (take n piece ++ rest) k
-        ≡ cond on (bytesOn c (world v file′ ledger) rest (k + length (take n piece))) (took (k + length (take n piece)), world v file′ ledger)
+    all : (rest : List ℕ) (j : ℕ) → bytesOn c (world t file ledger) (take n piece ++ rest) j
+        ≡ cond on (bytesOn c (world v file′ ledger) rest (j + length (take n piece))) (took (j + length (take n piece)), world v file′ ledger)
     all =
-        stored-run (world t file ledger) f c h (channelAt t c .next) (channelAt t c .left) (eqb (channelAt t c .state) 3) (is-payload t c a b) (take n piece) (omega (arith, short, q, left, z)) (omega (arith, short, q))
+        stored-run (world t file ledger) f c h (k .next) (k .left) (eqb (k .state) 3) state (take n piece) (omega (arith, short, q, left, z)) (omega (arith, short, q))
         (world v file′ ledger) on opened

@@ -25,19 +25,6 @@ asksOf (Claims s e) = claims s e
 asksOf Nothing = nothing
 asksOf (Faulty k) = faulty k
 
--- the channel's numbers are k, and none of its header bytes is held
-unfoldable pub putBare : Transfer → ℕ → Channel → Transfer
-putBare t c k =
-    record {
-      len = t .len;
-      pairs = t .pairs;
-      count = t .count;
-      fault = t .fault;
-      on = t .on;
-      heads = take (heldLimit * c) (t .heads) ++ (replicate heldLimit 0 ++ drop (heldLimit * c + heldLimit) (t .heads));
-      channels = set (t .channels) c k;
-    }
-
 -- the bytes put behind those that channel c holds
 unfoldable pub filledBy : Transfer → ℕ → List ℕ → Transfer
 filledBy t c bs =

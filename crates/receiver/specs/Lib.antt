@@ -1,3 +1,4 @@
+pub mod Live
 pub mod Leaves
 pub mod Answers
 pub mod Runs

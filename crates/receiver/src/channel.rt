@@ -1,131 +1,104 @@
-// A channel's next state, written into the transfer: whatever it doesn't use becomes 0.
-use checks::count;
-use checks::fit;
-use transfer::state::Channel;
-use transfer::state::Transfer;
+// A channel's next state: whatever it doesn't use becomes 0.
+use crate::live::Live;
+use crate::live::Others;
 ghost use mathlib.Core.Path.{_≡_};
-ghost use mathlib.Core.List.{List, []};
+ghost use mathlib.Core.Bool.{_&&_};
+ghost use mathlib.Core.List.{List};
 ghost use Prim.Native.Nat.{ℕ, _<_};
-ghost use Rattle.transfer.specs.Channel.{header, putState, putFault};
+ghost use lib.Dec.{ltb, eqb};
+ghost use Rattle.transfer.specs.declared.state.Transfer.{Transfer};
 ghost use Rattle.transfer.specs.Transfer.{world};
 ghost use Rattle.transfer.specs.Receive.{opens, ends};
-ghost use Rattle.receiver.specs.Leaves.{putBare, tookOf};
+ghost use Rattle.receiver.specs.Leaves.{tookOf};
+ghost use Rattle.receiver.specs.Live.{back, bare, faulted, Around};
 
-// A transfer after a header or a payload was taken whole, and whether the call goes on.
+// A channel after a header or a payload was taken whole, and whether the call goes on.
 pub struct Next {
-    pub t: Transfer,
+    pub live: Live,
     pub on: bool,
 }
 
-// The channel's numbers, and none of its header bytes held.
-pub fn put(mut t: Transfer, c: usize, k: Channel) -> Transfer
-    requires { ⌜ c < 64 ⌝ }
-    ensures { λ r. ⌜ r ≡ putBare t c k ⌝ }
+// In that state, with none of its header bytes held.
+pub fn put(x: Live, state: u8, next: u64, left: u64) -> Live
+    ensures { λ r. ⌜ r ≡ bare x state next left ⌝ }
 {
-    let mut i = 0;
-    while i < fit::HELD_LIMIT {
-        t.heads[fit::HELD_LIMIT * c + i] = 0;
-        i += 1;
+    Live {
+        count: x.count,
+        fault: x.fault,
+        on: x.on,
+        state: state,
+        held: 0,
+        next: next,
+        left: left,
+        bytes: [0; 16],
     }
-    t.channels[c] = k;
-    t
 }
 
 // A fault with its channel; of the header nothing is held.
-pub fn fault(t: Transfer, c: usize, k: u64) -> Transfer
-    requires { ⌜ c < 64 ⌝ }
-    ensures { λ r. ⌜ r ≡ putFault (putState t c (header [])) k c ⌝ }
+pub fn fault(x: Live, c: usize, k: u64) -> Live
+    ensures { λ r. ⌜ r ≡ faulted x c k ⌝ }
 {
-    let mut u = put(
-        t,
-        c,
-        Channel {
-            state: 1,
-            held: 0,
-            next: 0,
-            left: 0,
-        },
-    );
-    u.fault = k;
-    u.on = c as u64;
-    u
+    Live {
+        count: x.count,
+        fault: k,
+        on: c as u64,
+        state: 1,
+        held: 0,
+        next: 0,
+        left: 0,
+        bytes: [0; 16],
+    }
+}
+
+// Whether as many channels as announced have ended.
+fn all_ended(count: u64, ended: u64) -> bool
+    ensures { λ r. ⌜ r ≡ (ltb 0 count && eqb ended count) ⌝ }
+{
+    if count == 0 {
+        return false;
+    }
+    ended == count
 }
 
 // The channel ends; 20 where as many as announced have ended already.
-fn close(t: Transfer, c: usize) -> Next
-    requires { ⌜ c < 64 ⌝ }
-    ensures { λ r. ⌜ ((file ledger : List ℕ) → tookOf (r .on) (world (r .t) file ledger) ≡ ends (world t file ledger) c) ⌝ }
+fn close(x: Live, c: usize, o: Others) -> Next
+    requires { ⌜ x .state < 4 ⌝ }
+    ensures { λ r. ⌜ ((t : Transfer) (file ledger : List ℕ) → Around t c o → tookOf (r .on) (world (back t c (r .live)) file ledger) ≡ ends (world (back t c x) file ledger) c) ⌝ }
 {
-    if count::all_ended(t) {
+    if all_ended(x.count, o.ended) {
         return Next {
-            t: fault(t, c, 20),
+            live: fault(x, c, 20),
             on: false,
         };
     }
     Next {
-        t: put(
-            t,
-            c,
-            Channel {
-                state: 4,
-                held: 0,
-                next: 0,
-                left: 0,
-            },
-        ),
+        live: put(x, 4, 0, 0),
         on: false,
     }
 }
 
 // left payload bytes from the place next on are to come, after which the channel ends or not.
-pub fn open(t: Transfer, c: usize, next: u64, left: u64, last: bool) -> Next
-    requires { ⌜ c < 64 ⌝ }
-    ensures { λ r. ⌜ ((file ledger : List ℕ) → tookOf (r .on) (world (r .t) file ledger) ≡ opens (world t file ledger) c next left last) ⌝ }
+pub fn open(x: Live, c: usize, o: Others, next: u64, left: u64, last: bool) -> Next
+    requires { ⌜ x .state < 4 ⌝ }
+    ensures { λ r. ⌜ ((t : Transfer) (file ledger : List ℕ) → Around t c o → tookOf (r .on) (world (back t c (r .live)) file ledger) ≡ opens (world (back t c x) file ledger) c next left last) ⌝ }
 {
     if left == 0 {
         if last {
-            return close(t, c);
+            return close(x, c, o);
         }
         return Next {
-            t: put(
-                t,
-                c,
-                Channel {
-                    state: 1,
-                    held: 0,
-                    next: 0,
-                    left: 0,
-                },
-            ),
+            live: put(x, 1, 0, 0),
             on: true,
         };
     }
     if last {
         return Next {
-            t: put(
-                t,
-                c,
-                Channel {
-                    state: 3,
-                    held: 0,
-                    next: next,
-                    left: left,
-                },
-            ),
+            live: put(x, 3, next, left),
             on: true,
         };
     }
     Next {
-        t: put(
-            t,
-            c,
-            Channel {
-                state: 2,
-                held: 0,
-                next: next,
-                left: left,
-            },
-        ),
+        live: put(x, 2, next, left),
         on: true,
     }
 }

@@ -1,15 +1,14 @@
 // A channel's header: its bytes held up to 16, then judged at the 17th and heeded.
+use crate::body;
 use crate::channel;
 use crate::channel::Next;
-use checks::count;
-use checks::fit;
+use crate::live::Live;
+use crate::live::Others;
 use eblock::descriptor;
 use eblock::header;
 use ledger::claim;
 use ledger::claim::Room;
 use octets::big;
-use transfer::state::Channel;
-use transfer::state::Transfer;
 ghost use mathlib.Core.Path.{_≡_};
 ghost use mathlib.Core.Bool.{true};
 ghost use mathlib.Core.List.{List};
@@ -17,11 +16,12 @@ ghost use Prim.Native.Nat.{ℕ, _+_, _*_, _≤_, _<_};
 ghost use lib.Dec.{ltb};
 ghost use lib.ListN.{length};
 ghost use Rattle.ledger.specs.Ledger.{obeys};
-ghost use Rattle.transfer.specs.Channel.{channelAt};
+ghost use Rattle.transfer.specs.declared.state.Transfer.{Transfer};
 ghost use Rattle.transfer.specs.Transfer.{world};
 ghost use Rattle.transfer.specs.Header.{askedOf};
 ghost use Rattle.transfer.specs.Receive.{judges};
-ghost use Rattle.receiver.specs.Leaves.{filledBy, asksOf, tookOf, claimsOf};
+ghost use Rattle.receiver.specs.Leaves.{asksOf, tookOf, claimsOf};
+ghost use Rattle.receiver.specs.Live.{back, filled, Around};
 
 // What a header asks for: a count, a range, or neither; or the number of its fault.
 pub enum Request {
@@ -32,24 +32,23 @@ pub enum Request {
 }
 
 // Holds the bytes of a piece behind those of the header that are held.
-pub fn hold(mut t: Transfer, c: usize, bytes: &[u8]) -> Transfer
-    requires { ⌜ (c < 64) × (channelAt t c .held + length (now bytes) ≤ 16) ⌝ }
-    ensures { λ r. ⌜ r ≡ filledBy t c (now (bytes .entry)) ⌝ }
+pub fn hold(x: Live, bytes: &[u8]) -> Live
+    requires { ⌜ x .held + length (now bytes) ≤ 16 ⌝ }
+    ensures { λ r. ⌜ r ≡ filled x (now (bytes .entry)) ⌝ }
 {
-    let k = t.channels[c];
-    let at = fit::HELD_LIMIT * c + k.held as usize;
-    let mut i = 0;
-    while i < bytes.len() {
-        t.heads[at + i] = bytes[i];
-        i += 1;
-    }
-    t.channels[c] = Channel {
+    let mut held = x.bytes;
+    let n = bytes.len();
+    body::store(&mut held, x.held as usize, bytes, n);
+    Live {
+        count: x.count,
+        fault: x.fault,
+        on: x.on,
         state: 1,
-        held: k.held + bytes.len() as u8,
+        held: x.held + n as u8,
         next: 0,
         left: 0,
-    };
-    t
+        bytes: held,
+    }
 }
 
 // Whether a payload ends past the file, in whole numbers.
@@ -62,10 +61,10 @@ fn ends_past(offset: u64, length: u64, len: u64) -> bool
     len - length < offset
 }
 
-// Judged by the transfer alone: a file of len bytes, the known count or 0, and the channels used.
-fn asked(len: u64, known: u64, used: u64, head: &[u8]) -> Request
+// Judged by the transfer alone: a file of len bytes, the known count or 0, and the other channels used; this one is used with them.
+fn asked(len: u64, known: u64, others: u64, head: &[u8]) -> Request
     requires { ⌜ length (now head) ≡ 17 ⌝ }
-    ensures { λ r. ⌜ asksOf r ≡ askedOf len known used (now (head .entry)) ⌝ }
+    ensures { λ r. ⌜ asksOf r ≡ askedOf len known (others + 1) (now (head .entry)) ⌝ }
 {
     let d = head[0];
     let k = descriptor::fault(d);
@@ -84,7 +83,7 @@ fn asked(len: u64, known: u64, used: u64, head: &[u8]) -> Request
         if header::COUNT_LIMIT < third {
             return Request::Faulty(15);
         }
-        if third < used {
+        if third <= others {
             return Request::Faulty(15);
         }
         return Request::Counts(third);
@@ -102,44 +101,51 @@ fn asked(len: u64, known: u64, used: u64, head: &[u8]) -> Request
 }
 
 // A range that a header asks for: 17, 18, or claimed in the ledger and its payload opened.
-fn claimed(t: Transfer, c: usize, start: u64, end: u64, last: bool, ledger: &mut [u64]) -> Next
-    requires { ⌜ (c < 64) × (start < end) × (obeys (now ledger) ≡ true) × (length (now ledger) ≡ 2 * t .pairs) ⌝ }
-    ensures { λ r. ⌜ ((file : List ℕ) → tookOf (r .on) (world (r .t) file (now (ledger .exit))) ≡ claimsOf (world t file (now (ledger .entry))) c start end last) ⌝ }
+fn claimed(
+    x: Live,
+    c: usize,
+    o: Others,
+    start: u64,
+    end: u64,
+    last: bool,
+    ledger: &mut [u64],
+) -> Next
+    requires { ⌜ (x .state < 4) × (start < end) × (obeys (now ledger) ≡ true) ⌝ }
+    ensures { λ r. ⌜ ((t : Transfer) (file : List ℕ) → Around t c o → length (now (ledger .entry)) ≡ 2 * t .pairs → tookOf (r .on) (world (back t c (r .live)) file (now (ledger .exit))) ≡ claimsOf (world (back t c x) file (now (ledger .entry))) c start end last) ⌝ }
 {
     match claim::judge(ledger, start, end) {
         Room::Shares => Next {
-            t: channel::fault(t, c, 17),
+            live: channel::fault(x, c, 17),
             on: false,
         },
         Room::Full => Next {
-            t: channel::fault(t, c, 18),
+            live: channel::fault(x, c, 18),
             on: false,
         },
         Room::At(spot) => {
             claim::put(ledger, spot, start, end);
-            channel::open(t, c, start, end - start, last)
+            channel::open(x, c, o, start, end - start, last)
         }
     }
 }
 
 // A header of 17 bytes judged and heeded.
-pub fn heed(t: Transfer, c: usize, head: &[u8], ledger: &mut [u64]) -> Next
-    requires { ⌜ (c < 64) × (length (now head) ≡ 17) × (obeys (now ledger) ≡ true) × (length (now ledger) ≡ 2 * t .pairs) ⌝ }
-    ensures { λ r. ⌜ ((file : List ℕ) → tookOf (r .on) (world (r .t) file (now (ledger .exit))) ≡ judges (world t file (now (ledger .entry))) c (now (head .entry))) ⌝ }
+pub fn heed(x: Live, c: usize, o: Others, head: &[u8], ledger: &mut [u64]) -> Next
+    requires { ⌜ (x .state ≡ 1) × (length (now head) ≡ 17) × (obeys (now ledger) ≡ true) ⌝ }
+    ensures { λ r. ⌜ ((t : Transfer) (file : List ℕ) → Around t c o → length (now (ledger .entry)) ≡ 2 * t .pairs → tookOf (r .on) (world (back t c (r .live)) file (now (ledger .exit))) ≡ judges (world (back t c x) file (now (ledger .entry))) c (now (head .entry))) ⌝ }
 {
-    let used = count::used(t);
     let last = descriptor::has(descriptor::END_OF_DATA, head[0]);
-    match asked(t.len, t.count, used, head) {
+    match asked(o.len, x.count, o.used, head) {
         Request::Faulty(k) => Next {
-            t: channel::fault(t, c, k as u64),
+            live: channel::fault(x, c, k as u64),
             on: false,
         },
         Request::Counts(n) => {
-            let mut u = t;
-            u.count = n;
-            channel::open(u, c, 0, 0, last)
+            let mut y = x;
+            y.count = n;
+            channel::open(y, c, o, 0, 0, last)
         }
-        Request::Nothing => channel::open(t, c, 0, 0, last),
-        Request::Claims { start, end } => claimed(t, c, start, end, last, ledger),
+        Request::Nothing => channel::open(x, c, o, 0, 0, last),
+        Request::Claims { start, end } => claimed(x, c, o, start, end, last, ledger),
     }
 }

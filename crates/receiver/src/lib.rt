@@ -2,6 +2,7 @@
 mod body;
 mod channel;
 mod head;
+mod live;
 pub mod receive;
 pub mod show;
 pub mod start;

@@ -1,15 +1,20 @@
 // The receiver as a host holds it, by value, and what a call of it answers.
+use crate::live;
 use crate::step;
 use crate::verdict;
 use checks::count;
 use checks::fit;
+use checks::fit::Survey;
 use transfer::state::Transfer;
 ghost use mathlib.Core.Path.{_≡_};
 ghost use mathlib.Core.List.{List};
-ghost use Prim.Native.Nat.{ℕ};
+ghost use Prim.Native.Nat.{ℕ, _<_};
 ghost use lib.ListN.{length};
+ghost use Rattle.checks.specs.Survey.{surveyIn};
+ghost use Rattle.transfer.specs.declared.state.Transfer.{Transfer};
+ghost use Rattle.transfer.specs.Channel.{channelAt};
 ghost use Rattle.transfer.specs.Transfer.{world, verdictOf};
-ghost use Rattle.transfer.specs.Receive.{isSome, isGuess, refusalOf, receiveOf};
+ghost use Rattle.transfer.specs.Receive.{isSome, refusalOf, receiveOf};
 ghost use Rattle.receiver.specs.Answers.{verdictIs, answerOf};
 
 pub struct Receiver {
@@ -36,36 +41,35 @@ pub struct Received {
     pub answer: Answer,
 }
 
-fn is_guess(v: Verdict) -> bool
-    ensures { λ r. ⌜ r ≡ isGuess (verdictIs v) ⌝ }
+// The number by which a call is refused, 0 where it is not: for what FIT found, the transfer's fault and count, the state of the channel,
+// where there is one, and a piece that has bytes or not.
+fn refusal(found: Survey, fault: u64, count: u64, state: u8, channel: u64, some: bool) -> u8
+    ensures { λ r. ⌜ ((t : Transfer) (file ledger piece : List ℕ) → found ≡ surveyIn (length file) t ledger → fault ≡ t .fault → count ≡ t .count → (channel < 64 → state ≡ channelAt t channel .state) → isSome piece ≡ some → r ≡ refusalOf (world t file ledger) channel piece) ⌝ }
 {
-    match v {
-        Verdict::Guess => true,
-        Verdict::Result => false,
-        Verdict::Broken => false,
-    }
-}
-
-// The number by which a call is refused, 0 where it is not, for a piece that has bytes or not and a file of so many.
-fn refusal(t: Transfer, channel: u64, some: bool, file: usize, ledger: &[u64]) -> u8
-    ensures { λ r. ⌜ ((f piece : List ℕ) → length f ≡ file → isSome piece ≡ some → r ≡ refusalOf (world t f (now (ledger .entry))) channel piece) ⌝ }
-{
-    if !fit::whole(t, file, ledger) {
+    if !found.fits {
         return 1;
     }
     if count::CHANNELS as u64 <= channel {
         return 2;
     }
-    let shown = verdict::shown(t);
-    if !is_guess(shown) {
+    if !verdict::guessed(fault, count, found.ended) {
         return 3;
     }
     if !some {
         return 0;
     }
-    let k = t.channels[channel as usize];
-    if 4 <= k.state {
+    if 4 <= state {
         return 4;
+    }
+    0
+}
+
+// The channel's number as a place in the transfer, or 0 where there is no such channel.
+fn place(channel: u64) -> usize
+    ensures { λ r. ⌜ (r < 64) × (channel < 64 → r ≡ channel) ⌝ }
+{
+    if channel < count::CHANNELS as u64 {
+        return channel as usize;
     }
     0
 }
@@ -82,7 +86,10 @@ impl Receiver {
         ensures { λ r. ⌜ ((answerOf (r .answer), world (r .receiver .transfer) (now (file .exit)) (now (ledger .exit))) ≡ receiveOf (world (self .transfer) (now (file .entry)) (now (ledger .entry))) channel (now (piece .entry))) × (verdictIs (r .verdict) ≡ verdictOf (world (r .receiver .transfer) (now (file .exit)) (now (ledger .exit)))) ⌝ }
     {
         let t = self.transfer;
-        let n = refusal(t, channel, 0 < piece.len(), file.len(), ledger);
+        let found = fit::whole(t, file.len(), ledger);
+        let c = place(channel);
+        let k = t.channels[c];
+        let n = refusal(found, t.fault, t.count, k.state, channel, 0 < piece.len());
         if 0 < n {
             let shown = verdict::shown(t);
             return Received {
@@ -91,8 +98,10 @@ impl Receiver {
                 answer: Answer::Refused(n),
             };
         }
-        let r = step::take(t, channel as usize, piece, file, ledger);
-        let after = r.t;
+        let o = live::around(t.len, found, k.state);
+        let r = step::take(live::of(t, c), c, o, piece, file, ledger);
+        let y = r.live;
+        let after = live::back(t, c, y);
         let shown = verdict::shown(after);
         Received {
             receiver: Receiver { transfer: after },

@@ -2,80 +2,74 @@
 use crate::body;
 use crate::channel;
 use crate::head;
-use checks::count;
+use crate::live::Live;
+use crate::live::Others;
 use checks::fit;
-use transfer::state::Transfer;
 ghost use mathlib.Core.Path.{_≡_};
-ghost use mathlib.Core.Bool.{true, false};
+ghost use mathlib.Core.Bool.{true};
 ghost use mathlib.Core.List.{List, [], _∷_, _++_};
-ghost use Prim.Native.Nat.{ℕ, _+_, _*_, _≤_, _<_, min};
-ghost use lib.ListN.{length, take};
-ghost use Rattle.transfer.specs.Channel.{channelAt};
+ghost use Prim.Native.Nat.{ℕ, _+_, _≤_, _<_, min};
+ghost use lib.ListN.{length};
+ghost use Rattle.transfer.specs.declared.state.Transfer.{Transfer};
 ghost use Rattle.transfer.specs.Transfer.{world};
 ghost use Rattle.transfer.specs.Receive.{took};
 ghost use Rattle.transfer.specs.Fit.{fitsLedger, fits};
-ghost use Rattle.receiver.specs.Leaves.{held16};
-ghost use Rattle.receiver.specs.Runs.{bytesOn, isLocked, Takes, RunOf};
+ghost use Rattle.receiver.specs.Live.{back, Around, isBarred, TakesHeader};
+ghost use Rattle.receiver.specs.Runs.{bytesOn, RunOf};
 
-// A transfer after a run of bytes, how many they were, and whether the call goes on.
+// A channel after a run of bytes, how many they were, and whether the call goes on.
 pub struct Ran {
-    pub t: Transfer,
+    pub live: Live,
     pub taken: usize,
     pub on: bool,
 }
 
-// A transfer after a piece, and how many of its bytes were taken.
+// A channel after a piece, and how many of its bytes were taken.
 pub struct Taken {
-    pub t: Transfer,
+    pub live: Live,
     pub taken: usize,
 }
 
 // The 16 held bytes of a header, and its last.
-fn seventeen(t: Transfer, c: usize, last: u8) -> [u8; 17]
-    requires { ⌜ c < 64 ⌝ }
-    ensures { λ r. ⌜ r ≡ held16 t c ++ last ∷ [] ⌝ }
+fn seventeen(x: Live, last: u8) -> [u8; 17]
+    ensures { λ r. ⌜ r ≡ x .bytes ++ last ∷ [] ⌝ }
 {
     let mut head = [last; 17];
-    let mut i = 0;
-    while i < fit::HELD_LIMIT {
-        head[i] = t.heads[fit::HELD_LIMIT * c + i];
-        i += 1;
-    }
+    let bytes = x.bytes;
+    body::store(&mut head, 0, &bytes, fit::HELD_LIMIT);
     head
 }
 
-// Whether a channel that is unused may take no byte: n is known, and as many channels are used.
-fn locked(t: Transfer) -> bool
-    ensures { λ r. ⌜ r ≡ isLocked t ⌝ }
+// Whether the channel, where it is unused, may take no byte: n is known, and as many channels are used.
+fn barred(x: Live, o: Others) -> bool
+    ensures { λ r. ⌜ r ≡ isBarred x o ⌝ }
 {
-    if t.count == 0 {
+    if x.count == 0 {
         return false;
     }
-    let used = count::used(t);
-    used == t.count
+    o.used == x.count
 }
 
 // Bytes for a header: held up to 16, and judged at the 17th.
-fn header(t: Transfer, c: usize, piece: &[u8], ledger: &mut [u64]) -> Ran
-    requires { ⌜ (c < 64) × (0 < length (now piece)) × (fitsLedger t (now ledger) ≡ true) × Takes t c ⌝ }
-    ensures { λ r. ⌜ ((file : List ℕ) → length file ≡ t .len → RunOf c (world t file (now (ledger .entry))) (now (piece .entry)) (world (r .t) file (now (ledger .exit))) (r .taken) (r .on)) ⌝ }
+fn header(x: Live, c: usize, o: Others, piece: &[u8], ledger: &mut [u64]) -> Ran
+    requires { ⌜ (0 < length (now piece)) × TakesHeader x o × ((t : Transfer) × Around t c o × (fitsLedger (back t c x) (now ledger) ≡ true)) ⌝ }
+    ensures { λ r. ⌜ ((t : Transfer) (file : List ℕ) → Around t c o → fitsLedger (back t c x) (now (ledger .entry)) ≡ true → length file ≡ t .len → RunOf c (world (back t c x) file (now (ledger .entry))) (now (piece .entry)) (world (back t c (r .live)) file (now (ledger .exit))) (r .taken) (r .on)) ⌝ }
 {
-    let k = t.channels[c];
-    let room = fit::HELD_LIMIT - k.held as usize;
+    let room = fit::HELD_LIMIT - x.held as usize;
     if piece.len() <= room {
         let n = piece.len();
         return Ran {
-            t: head::hold(t, c, piece),
+            live: head::hold(x, piece),
             taken: n,
             on: true,
         };
     }
-    let u = head::hold(t, c, &piece[..room]);
-    let whole = seventeen(u, c, piece[room]);
-    let next = head::heed(u, c, &whole, ledger);
-    let after = next.t;
+    let y = head::hold(x, &piece[..room]);
+    let whole = seventeen(y, piece[room]);
+    let next = head::heed(y, c, o, &whole, ledger);
+    let after = next.live;
     Ran {
-        t: after,
+        live: after,
         taken: room + 1,
         on: next.on,
     }
@@ -91,68 +85,73 @@ fn lesser(a: u64, b: usize) -> usize
 }
 
 // Bytes for a payload: stored at their place, up to the payload's end.
-fn payload(t: Transfer, c: usize, piece: &[u8], file: &mut [u8]) -> Ran
-    requires { ⌜ (c < 64) × (0 < length (now piece)) × (1 < channelAt t c .state) × (channelAt t c .state < 4) × (channelAt t c .next + channelAt t c .left ≤ length (now file)) ⌝ }
-    ensures { λ r. ⌜ ((ledger : List ℕ) → fits (world t (now (file .entry)) ledger) ≡ true → RunOf c (world t (now (file .entry)) ledger) (now (piece .entry)) (world (r .t) (now (file .exit)) ledger) (r .taken) (r .on)) ⌝ }
+fn payload(x: Live, c: usize, o: Others, piece: &[u8], file: &mut [u8]) -> Ran
+    requires { ⌜ (0 < length (now piece)) × (1 < x .state) × (x .state < 4) × (x .next + x .left ≤ length (now file)) ⌝ }
+    ensures { λ r. ⌜ ((t : Transfer) (ledger : List ℕ) → Around t c o → fits (world (back t c x) (now (file .entry)) ledger) ≡ true → RunOf c (world (back t c x) (now (file .entry)) ledger) (now (piece .entry)) (world (back t c (r .live)) (now (file .exit)) ledger) (r .taken) (r .on)) ⌝ }
 {
-    let k = t.channels[c];
-    let n = lesser(k.left, piece.len());
-    body::store(file, k.next as usize, piece, n);
-    let next = channel::open(t, c, k.next + n as u64, k.left - n as u64, k.state == 3);
-    let after = next.t;
+    let n = lesser(x.left, piece.len());
+    body::store(file, x.next as usize, piece, n);
+    let next = channel::open(x, c, o, x.next + n as u64, x.left - n as u64, x.state == 3);
+    let after = next.live;
     Ran {
-        t: after,
+        live: after,
         taken: n,
         on: next.on,
     }
 }
 
 // One run of bytes on a channel.
-fn run(t: Transfer, c: usize, piece: &[u8], file: &mut [u8], ledger: &mut [u64]) -> Ran
-    requires { ⌜ (c < 64) × (0 < length (now piece)) × (fits (world t (now file) (now ledger)) ≡ true) ⌝ }
-    ensures { λ r. ⌜ RunOf c (world t (now (file .entry)) (now (ledger .entry))) (now (piece .entry)) (world (r .t) (now (file .exit)) (now (ledger .exit))) (r .taken) (r .on) ⌝ }
+fn run(x: Live, c: usize, o: Others, piece: &[u8], file: &mut [u8], ledger: &mut [u64]) -> Ran
+    requires { ⌜ (0 < length (now piece)) × ((t : Transfer) × Around t c o × (fits (world (back t c x) (now file) (now ledger)) ≡ true)) ⌝ }
+    ensures { λ r. ⌜ ((t : Transfer) → Around t c o → fits (world (back t c x) (now (file .entry)) (now (ledger .entry))) ≡ true → RunOf c (world (back t c x) (now (file .entry)) (now (ledger .entry))) (now (piece .entry)) (world (back t c (r .live)) (now (file .exit)) (now (ledger .exit))) (r .taken) (r .on)) ⌝ }
 {
-    let k = t.channels[c];
-    if k.state == 0 {
-        if locked(t) {
-            let mut u = t;
-            u.fault = 19;
-            u.on = c as u64;
+    if x.state == 0 {
+        if barred(x, o) {
+            let mut y = x;
+            y.fault = 19;
+            y.on = c as u64;
             return Ran {
-                t: u,
+                live: y,
                 taken: 0,
                 on: false,
             };
         }
-        return header(t, c, piece, ledger);
+        return header(x, c, o, piece, ledger);
     }
-    if k.state == 1 {
-        return header(t, c, piece, ledger);
+    if x.state == 1 {
+        return header(x, c, o, piece, ledger);
     }
-    if k.state < 4 {
-        return payload(t, c, piece, file);
+    if x.state < 4 {
+        return payload(x, c, o, piece, file);
     }
     Ran {
-        t: t,
+        live: x,
         taken: 0,
         on: false,
     }
 }
 
 // The bytes of a piece, run by run, until they are all taken or the call stops.
-pub fn take(t: Transfer, c: usize, piece: &[u8], file: &mut [u8], ledger: &mut [u64]) -> Taken
-    requires { ⌜ (c < 64) × (fits (world t (now file) (now ledger)) ≡ true) ⌝ }
-    ensures { λ r. ⌜ (took (r .taken), world (r .t) (now (file .exit)) (now (ledger .exit))) ≡ bytesOn c (world t (now (file .entry)) (now (ledger .entry))) (now (piece .entry)) 0 ⌝ }
+pub fn take(
+    x: Live,
+    c: usize,
+    o: Others,
+    piece: &[u8],
+    file: &mut [u8],
+    ledger: &mut [u64],
+) -> Taken
+    requires { ⌜ ((t : Transfer) × Around t c o × (fits (world (back t c x) (now file) (now ledger)) ≡ true)) ⌝ }
+    ensures { λ r. ⌜ ((t : Transfer) → Around t c o → fits (world (back t c x) (now (file .entry)) (now (ledger .entry))) ≡ true → (took (r .taken), world (back t c (r .live)) (now (file .exit)) (now (ledger .exit))) ≡ bytesOn c (world (back t c x) (now (file .entry)) (now (ledger .entry))) (now (piece .entry)) 0) ⌝ }
 {
-    let mut u = t;
+    let mut y = x;
     let mut i = 0;
     while i < piece.len() {
-        let r = run(u, c, &piece[i..], file, ledger);
-        u = r.t;
+        let r = run(y, c, o, &piece[i..], file, ledger);
+        y = r.live;
         i += r.taken;
         if !r.on {
-            return Taken { t: u, taken: i };
+            return Taken { live: y, taken: i };
         }
     }
-    Taken { t: u, taken: i }
+    Taken { live: y, taken: i }
 }

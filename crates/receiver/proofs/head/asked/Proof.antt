@@ -41,15 +41,15 @@ read-is c =
     )
 
 -- the answer by a case
-by : (c : tie.After-has) (a : Asks) → let x = begun c .args in Asked (x .len) (x .known) (x .used) (headOf c) a → a ≡ askedOf (x .len) (x .known) (x .used) (headOf c)
-by c a = let x = begun c .args in asked-only (x .len) (x .known) (x .used) (headOf c) a
+by : (c : tie.After-has) (a : Asks) → let x = begun c .args in Asked (x .len) (x .known) (x .others + 1) (headOf c) a → a ≡ askedOf (x .len) (x .known) (x .others + 1) (headOf c)
+by c a = let x = begun c .args in asked-only (x .len) (x .known) (x .others + 1) (headOf c) a
 
 is-count : (c : tie.Then2) → isCount (headOf (c .before)) ≡ true
 is-count c = sym (read-is (c .before) .3) ∙ c .if2 .taken
 
 -- a count where none is known, that is 0, above 64 or less than the channels used
 by-number : (c : tie.Else3) → let x = begun (c .before .before) .args in let n = thirdOf (headOf (c .before .before)) in
-    (n ≡ 0) ⊎ ((countLimit < n) ⊎ (n < x .used)) → faulty 15 ≡ askedOf (x .len) (x .known) (x .used) (headOf (c .before .before))
+    (n ≡ 0) ⊎ ((countLimit < n) ⊎ (n < x .others + 1)) → faulty 15 ≡ askedOf (x .len) (x .known) (x .others + 1) (headOf (c .before .before))
 by-number c z = by (c .before .before) (faulty 15) (by-15 (read-is (c .before .before) .0) (is-count (c .before)) (omega (arith, c .if3 .left)) z)
 
 -- a payload that is not empty
@@ -76,7 +76,7 @@ returns : tie.Need-returns
 returns c =
     let x = c .before .before .before .before .args in
     let e = c .before .fault .ensures in
-    ap faulty e ∙ asked-only (x .len) (x .known) (x .used) (x .head .now) (faulty (faultOf (descriptorOf (x .head .now)))) (by-descriptor (omega (arith, e, c .if1 .taken)))
+    ap faulty e ∙ asked-only (x .len) (x .known) (x .others + 1) (x .head .now) (faulty (faultOf (descriptorOf (x .head .now)))) (by-descriptor (omega (arith, e, c .if1 .taken)))
 
 sub-read : tie.Need-sub-read
 sub-read c = search needs

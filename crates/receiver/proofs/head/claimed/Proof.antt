@@ -1,20 +1,30 @@
 -- `head::claimed`.
-use mathlib.Core.Path.{_∙_}
+use Prim.Native.Nat.{_*_}
+use mathlib.Core.Path.{_≡_, sym, ap, _∙_}
 use native.Mathlib.Omega.{arith}
 use borrow.Author.Needs.{needs}
+use lib.ListN.{length}
 use Rattle.ledger.proofs.Sizes.{ends-fit}
+use Rattle.transfer.specs.declared.state.Transfer.{Transfer}
+use Rattle.receiver.specs.Live.{back, Around}
+use Rattle.receiver.proofs.Backs.{back-pairs, back-fault}
 use Rattle.receiver.proofs.Opened.{leaves-fault}
 use Rattle.receiver.proofs.Claiming.{Answered, answered, claims-fault, claims-opens}
 use Rattle.receiver.proofs.head.claimed.Statement.{statement}
 use Rattle.receiver.proofs.head.claimed.Tie as tie
 
--- what the look-up's answer says of the claim
-told : (c : tie.After-judge) → let x = c .before .before .before .args in Answered (x .t .pairs) (x .ledger .now) (x .start) (x .end) (c .judge .result)
-told c =
+sixteen : (s : tie.Start) → length (s .args .x .bytes) ≡ 16
+sixteen s = search needs
+
+-- what the look-up's answer says of the claim, in a transfer of which x is a channel
+told : (c : tie.After-judge) (t : Transfer) → let x = c .before .before .before .args in Around t (x .c) (x .o) → length (x .ledger .now) ≡ 2 * t .pairs
+    → Answered (back t (x .c) (x .x) .pairs) (x .ledger .now) (x .start) (x .end) (c .judge .result)
+told c t a n =
     let b = c .before .before .before in
     let x = b .args in
     rw (c .judge .ensures)
-    (answered (x .t .pairs) (x .ledger .now) (x .start) (x .end) (b .pre .2) (b .pre .3) (ends-fit (x .ledger .now) (λ i. omega (arith, c .before .before .slice-known .given i))) (b .pre .1))
+    (answered (back t (x .c) (x .x) .pairs) (x .ledger .now) (x .start) (x .end) (b .pre .2) (n ∙ ap (λ p. 2 * p) (sym (back-pairs t (x .c) (x .o) a (x .x))))
+    (ends-fit (x .ledger .now) (λ i. omega (arith, c .before .before .slice-known .given i))) (b .pre .1))
 
 judge-requires : tie.Need-judge-requires
 judge-requires c κs = search needs
@@ -47,34 +57,34 @@ same-length : tie.Need-same-length
 same-length c = search needs
 
 returns : tie.Need-returns
-returns c file =
+returns c t file a n =
     let j = c .before .before .before in
     let x = j .before .before .before .args in
-    leaves-fault (x .t) (c .fault .result) (x .c) file (x .ledger .now) 17 (c .fault .ensures)
-    ∙ claims-fault (x .t) file (x .ledger .now) (x .c) (x .start) (x .end) (x .last) 17 (omega arith) (rw (c .before .enum-told .given .1) at (told j))
+    leaves-fault (back t (x .c) (x .x)) (back t (x .c) (c .fault .result)) (x .c) file (x .ledger .now) 17 (ap (back t (x .c)) (c .fault .ensures) ∙ back-fault t (x .c) (x .o) a (x .x) (sixteen (j .before .before .before)) 17)
+    ∙ claims-fault (back t (x .c) (x .x)) file (x .ledger .now) (x .c) (x .start) (x .end) (x .last) 17 (omega arith) (rw (c .before .enum-told .given .1) at (told j t a n))
 
 same-length-2 : tie.Need-same-length-2
 same-length-2 c = search needs
 
 returns-2 : tie.Need-returns-2
-returns-2 c file =
+returns-2 c t file a n =
     let j = c .before .before .before in
     let x = j .before .before .before .args in
-    leaves-fault (x .t) (c .fault2 .result) (x .c) file (x .ledger .now) 18 (c .fault2 .ensures)
-    ∙ claims-fault (x .t) file (x .ledger .now) (x .c) (x .start) (x .end) (x .last) 18 (omega arith) (rw (c .before .enum-told2 .given .1) at (told j))
+    leaves-fault (back t (x .c) (x .x)) (back t (x .c) (c .fault2 .result)) (x .c) file (x .ledger .now) 18 (ap (back t (x .c)) (c .fault2 .ensures) ∙ back-fault t (x .c) (x .o) a (x .x) (sixteen (j .before .before .before)) 18)
+    ∙ claims-fault (back t (x .c) (x .x)) file (x .ledger .now) (x .c) (x .start) (x .end) (x .last) 18 (omega arith) (rw (c .before .enum-told2 .given .1) at (told j t a n))
 
 same-length-3 : tie.Need-same-length-3
 same-length-3 c = search needs
 
 returns-3 : tie.Need-returns-3
-returns-3 c file =
+returns-3 c t file a n =
     let p = c .before .before .before in
     let m = p .before .before .before in
     let j = m .before .before in
     let x = j .before .before .before .args in
-    let a = rw (m .spot .given .1) at (told j) in
-    claims-opens (x .t) file (x .ledger .now) (x .c) (x .start) (x .end) (x .last) _ (p .put .last .0) (a .0) (p .put .ensures ∙ a .1)
-    (c .«open» .ensures file (p .put .last .0))
+    let is = rw (m .spot .given .1) at (told j t a n) in
+    claims-opens (back t (x .c) (x .x)) file (x .ledger .now) (x .c) (x .start) (x .end) (x .last) _ (p .put .last .0) (is .0) (p .put .ensures ∙ is .1)
+    (c .«open» .ensures t file (p .put .last .0) a)
 
 pub claimed-spec : {M : Type 1} → statement M
 claimed-spec =

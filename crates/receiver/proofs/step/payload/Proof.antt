@@ -1,14 +1,10 @@
 -- `step::payload`: one store and the channel's next state, as the law of a payload's bytes says.
-use Rattle.receiver.proofs.Ran.{stored-ran}
 use borrow.Author.Needs.{needs}
+use Rattle.receiver.specs.Live.{numbers, back}
+use Rattle.receiver.proofs.Backs.{back-at}
+use Rattle.receiver.proofs.Ran.{stored-ran}
 use Rattle.receiver.proofs.step.payload.Statement.{statement}
 use Rattle.receiver.proofs.step.payload.Tie as tie
-
-mul-k : tie.Need-mul-k
-mul-k c = search needs
-
-element-copy-out-k : tie.Need-element-copy-out-k
-element-copy-out-k c = search needs
 
 lesser-requires : tie.Need-lesser-requires
 lesser-requires c κs = search needs
@@ -29,21 +25,19 @@ same-length : tie.Need-same-length
 same-length c = search needs
 
 returns : tie.Need-returns
-returns c =
+returns c t ledger a e =
     let o = c .before in
-    let s = c .before .before .before .before .before .before .before in
-    let n = s .before .before in
-    let l = n .before .before .before .before in
-    let x = l .args in
-    stored-ran (x .t1) (x .file .now) _ (x .c) (x .piece .now) (n .lesser .result) (l .pre .0) (l .pre .1) (l .pre .2) (l .pre .3) (l .pre .4) (n .lesser .ensures)
-    (s .store .ensures) (o .«open» .result .t) (o .«open» .result .on) (o .«open» .ensures)
+    let y = o .before .before .before .before .before .before in
+    let n = y .before .before in
+    let s = n .before .before .before in
+    let x = s .args in
+    stored-ran (back t (x .c) (x .x)) (x .file .now) _ (x .c) (numbers (x .x)) (back-at t (x .c) (x .o) a (x .x)) (x .piece .now) (n .lesser .result) (a .below) (s .pre .0) (s .pre .1) (s .pre .2) (s .pre .3) (n .lesser .ensures)
+    (y .store .ensures) (back t (x .c) (o .«open» .result .live)) (o .«open» .result .on) (λ f l. o .«open» .ensures t f l a) ledger e
 
 pub payload-spec : {M : Type 1} → statement M
 payload-spec =
     tie.close
     (tie.spec
-    mul-k
-    element-copy-out-k
     lesser-requires
     store-requires
     add-open

@@ -1,20 +1,83 @@
 -- `Receiver::receive`: refused by its number, or the bytes of its piece in runs.
-use Prim.Native.Nat.{ℕ, _≤_}
-use mathlib.Core.Path.{_≡_, refl, sym, _∙_}
+use Prim.Native.Nat.{ℕ, _≤_, _<_}
+use mathlib.Core.Path.{_≡_, refl, sym, ap, _∙_, subst}
+use mathlib.Core.Bool.{true}
 use native.Mathlib.Omega.{arith}
-use Rattle.transfer.specs.Transfer.{world}
-use Rattle.transfer.specs.Receive.{refusalOf}
-use Rattle.receiver.proofs.Refusing.{is-refused, is-taken, not-refused, some-is}
 use borrow.Author.Needs.{needs}
+use Rattle.transfer.specs.declared.state.Transfer.{Transfer}
+use Rattle.transfer.specs.Channel.{channelAt}
+use Rattle.transfer.specs.Transfer.{World, world}
+use Rattle.transfer.specs.Receive.{took, refusalOf}
+use Rattle.transfer.specs.Fit.{fits}
+use Rattle.transfer.proofs.FitTests.{fits-together}
+use Rattle.receiver.specs.Live.{back, Around}
+use Rattle.receiver.specs.Runs.{bytesOn}
+use Rattle.receiver.proofs.Rounds.{back-live, around-is}
+use Rattle.receiver.proofs.Refusing.{found-counts, is-refused, is-taken, not-refused, some-is}
 use Rattle.receiver.proofs.receive.Receiver.receive.Statement.{statement}
 use Rattle.receiver.proofs.receive.Receiver.receive.Tie as tie
 
 none : (n : ℕ) → n ≤ 0 → n ≡ 0
 none n h = omega arith
 
-number-is : (r : tie.After-refusal) → let x = r .before .before .before .before .before .before .args in
-    r .refusal .result ≡ refusalOf (world (x .self .transfer) (x .file .now) (x .ledger .now)) (x .channel) (x .piece .now)
-number-is r = let x = r .before .before .before .before .before .before .args in r .refusal .ensures (x .file .now) (x .piece .now) refl (some-is (x .piece .now))
+abbrev begun : tie.After-refusal → tie.Start
+begun r = r .before .before .before .before .before .before .before .before .before
+
+abbrev given : tie.After-refusal → World
+given r = let x = begun r .args in world (x .self .transfer) (x .file .now) (x .ledger .now)
+
+number-is : (r : tie.After-refusal) → let x = begun r .args in r .refusal .result ≡ refusalOf (given r) (x .channel) (x .piece .now)
+number-is r =
+    let x = begun r .args in
+    let t = x .self .transfer in
+    let p = r .before .before in
+    r .refusal .ensures t (x .file .now) (x .ledger .now) (x .piece .now) (p .before .whole .ensures) refl refl (λ h. ap (λ i. channelAt t i .state) (p .place .ensures .1 h)) (some-is (x .piece .now))
+
+-- ---- a call that is not refused
+
+not-refused-is : (e : tie.Else1) → let x = begun (e .before) .args in refusalOf (given (e .before)) (x .channel) (x .piece .now) ≡ 0
+not-refused-is e = sym (number-is (e .before)) ∙ none (e .before .refusal .result) (e .if1 .left)
+
+may : (e : tie.Else1) → let x = begun (e .before) .args in (fits (given (e .before)) ≡ true) × (x .channel < 64)
+may e = let x = begun (e .before) .args in not-refused (given (e .before)) (x .channel) (x .piece .now) (not-refused-is e)
+
+abbrev chosen : tie.Else1 → ℕ
+chosen e = e .before .before .before .place .result
+
+-- its channel, taken out of the transfer
+stands-round : (a : tie.After-around) → Around (given (a .before .before) .t) (chosen (a .before)) (a .around .result)
+stands-round a =
+    let r = a .before .before in
+    let x = begun r .args in
+    let t = x .self .transfer in
+    let p = r .before .before in
+    let w = p .before in
+    let n = found-counts t (x .file .now) (x .ledger .now) (may (a .before) .0) in
+    subst (Around t (p .place .result)) (sym (a .around .ensures))
+    (around-is (given r) (fits-together (given r) (may (a .before) .0)) (p .place .result) (p .place .ensures .0) (w .whole .result) (ap (λ s. s .used) (w .whole .ensures) ∙ n .0) (ap (λ s. s .ended) (w .whole .ensures) ∙ n .1))
+
+as-given : (o : tie.After-of) → back (given (o .before .before .before) .t) (chosen (o .before .before)) (o .of .result) ≡ given (o .before .before .before) .t
+as-given o =
+    let e = o .before .before in
+    ap (back (given (e .before) .t) (chosen e)) (o .of .ensures) ∙ back-live (given (e .before) .t) (chosen e)
+
+fits-out : (o : tie.After-of) → let e = o .before .before in let x = begun (e .before) .args in fits (world (back (x .self .transfer) (chosen e) (o .of .result)) (x .file .now) (x .ledger .now)) ≡ true
+fits-out o =
+    let e = o .before .before in
+    let x = begun (e .before) .args in
+    ap (λ t. fits (world t (x .file .now) (x .ledger .now))) (as-given o) ∙ may e .0
+
+whole-requires : tie.Need-whole-requires
+whole-requires c κs = search needs
+
+place-requires : tie.Need-place-requires
+place-requires c κs = search needs
+
+mul-k : tie.Need-mul-k
+mul-k c = search needs
+
+element-copy-out-k : tie.Need-element-copy-out-k
+element-copy-out-k c = search needs
 
 refusal-requires : tie.Need-refusal-requires
 refusal-requires c κs = search needs
@@ -28,16 +91,20 @@ same-length c = search needs
 returns : tie.Need-returns
 returns c =
     let r = c .before .before in
-    let x = r .before .before .before .before .before .before .args in
-    (is-refused (world (x .self .transfer) (x .file .now) (x .ledger .now)) (x .channel) (x .piece .now) (r .refusal .result) (number-is r) (c .before .if1 .taken), c .shown .ensures (x .file .now) (x .ledger .now))
+    let x = begun r .args in
+    (is-refused (given r) (x .channel) (x .piece .now) (r .refusal .result) (number-is r) (c .before .if1 .taken), c .shown .ensures (x .file .now) (x .ledger .now))
+
+around-requires : tie.Need-around-requires
+around-requires c κs = search needs
+
+of-requires : tie.Need-of-requires
+of-requires c κs = search needs
 
 take-requires : tie.Need-take-requires
-take-requires c κs =
-    let e = c .before .before in
-    let r = e .before in
-    let x = r .before .before .before .before .before .before .args in
-    let f = not-refused (world (x .self .transfer) (x .file .now) (x .ledger .now)) (x .channel) (x .piece .now) (sym (number-is r) ∙ none (r .refusal .result) (e .if1 .left)) in
-    (f .1, f .0)
+take-requires c κs = let o = c .before .before in (given (o .before .before .before) .t, stands-round (o .before), fits-out o)
+
+back-requires : tie.Need-back-requires
+back-requires c κs = search needs
 
 shown-requires-2 : tie.Need-shown-requires-2
 shown-requires-2 c κs = search needs
@@ -50,21 +117,36 @@ same-length-3 c = search needs
 
 returns-2 : tie.Need-returns-2
 returns-2 c =
-    let k = c .before .before .before .before .before .before in
-    let e = k .before .before .before in
-    let r = e .before in
-    let x = r .before .before .before .before .before .before .args in
-    (k .take .ensures ∙ is-taken (world (x .self .transfer) (x .file .now) (x .ledger .now)) (x .channel) (x .piece .now) (sym (number-is r) ∙ none (r .refusal .result) (e .if1 .left)), c .shown2 .ensures _ _)
+    let b = c .before in
+    let k = b .before .before .before .before .before .before in
+    let o = k .before .before .before in
+    let e = o .before .before in
+    let x = begun (e .before) .args in
+    let t = x .self .transfer in (
+      ap (λ (u : Transfer). (took (k .take .result .taken), world u (k .take .last .1 .1 .1 .1 .0) (k .take .last .1 .1 .1 .1 .1 .0))) (b .back .ensures)
+          ∙ k .take .ensures t (stands-round (o .before)) (fits-out o)
+          ∙ ap (λ u. bytesOn (chosen e) (world u (x .file .now) (x .ledger .now)) (x .piece .now) 0) (as-given o)
+          ∙ ap (λ i. bytesOn i (given (e .before)) (x .piece .now) 0) (e .before .before .before .place .ensures .1 (may e .1))
+          ∙ is-taken (given (e .before)) (x .channel) (x .piece .now) (not-refused-is e),
+      c .shown2 .ensures _ _,
+    )
 
 pub receive-spec : {M : Type 1} → statement M
 receive-spec =
     tie.close
     (tie.spec
+    whole-requires
+    place-requires
+    mul-k
+    element-copy-out-k
     refusal-requires
     shown-requires
     same-length
     returns
+    around-requires
+    of-requires
     take-requires
+    back-requires
     shown-requires-2
     same-length-2
     same-length-3

@@ -1,0 +1,19 @@
+-- `step::barred`.
+use Prim.Native.Nat.{_<_}
+use mathlib.Core.Path.{refl}
+use native.Mathlib.Omega.{arith}
+use borrow.Author.Tests.{lt-ltb}
+use Rattle.receiver.proofs.step.barred.Statement.{statement}
+use Rattle.receiver.proofs.step.barred.Tie as tie
+
+returns : tie.Need-returns
+returns c = rw (c .if1 .taken)
+
+returns-2 : tie.Need-returns-2
+returns-2 c =
+    let x = c .before .before .before .before .args .x in
+    let h : 0 < x .count = omega arith in
+    rw (lt-ltb 0 (x .count) h) refl
+
+pub barred-spec : {M : Type 1} → statement M
+barred-spec = tie.close (tie.spec returns returns-2)

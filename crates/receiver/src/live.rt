@@ -1,0 +1,121 @@
+// The channel of a call, apart from its transfer: a call changes nothing else but count and fault, so it works on these few numbers and
+// writes them back once.
+use crate::body;
+use checks::fit;
+use checks::fit::Survey;
+use transfer::state::Channel;
+use transfer::state::Transfer;
+ghost use mathlib.Core.Path.{_≡_};
+ghost use mathlib.Core.Bool.{cond};
+ghost use Prim.Native.Nat.{_+_, _*_, _-_, _≤_, _<_};
+ghost use lib.Dec.{eqb};
+ghost use lib.ListN.{length, take, drop};
+ghost use Rattle.receiver.specs.Live.{liveOf, back, othersOf};
+
+// What a call can change of its transfer: the channel's numbers and held bytes, count and fault.
+pub struct Live {
+    pub count: u64,
+    pub fault: u64,
+    pub on: u64,
+    pub state: u8,
+    pub held: u8,
+    pub next: u64,
+    pub left: u64,
+    pub bytes: [u8; 16],
+}
+
+// What a call asks of the rest: the file's length, and how many of the other channels are not unused and have ended.
+pub struct Others {
+    pub len: u64,
+    pub used: u64,
+    pub ended: u64,
+}
+
+// One less, down to 0.
+fn less_one(n: u64) -> u64
+    ensures { λ r. ⌜ r ≡ n - 1 ⌝ }
+{
+    if n == 0 {
+        return 0;
+    }
+    n - 1
+}
+
+fn used_others(used: u64, state: u8) -> u64
+    ensures { λ r. ⌜ r ≡ cond (eqb state 0) used (used - 1) ⌝ }
+{
+    if state == 0 {
+        return used;
+    }
+    less_one(used)
+}
+
+fn ended_others(ended: u64, state: u8) -> u64
+    ensures { λ r. ⌜ r ≡ cond (eqb state 4) (ended - 1) ended ⌝ }
+{
+    if state == 4 {
+        return less_one(ended);
+    }
+    ended
+}
+
+// The counts of all channels, less this one.
+pub fn around(len: u64, found: Survey, state: u8) -> Others
+    ensures { λ r. ⌜ r ≡ othersOf len found state ⌝ }
+{
+    Others {
+        len: len,
+        used: used_others(found.used, state),
+        ended: ended_others(found.ended, state),
+    }
+}
+
+// The 16 bytes that channel c can hold.
+fn bytes_at(heads: &[u8], c: usize) -> [u8; 16]
+    requires { ⌜ (c < 64) × (length (now heads) ≡ 1024) ⌝ }
+    ensures { λ r. ⌜ r ≡ take 16 (drop (16 * c) (now (heads .entry))) ⌝ }
+{
+    let mut bytes = [0u8; 16];
+    let at = fit::HELD_LIMIT * c;
+    body::store(&mut bytes, 0, &heads[at..], fit::HELD_LIMIT);
+    bytes
+}
+
+// Channel c of a transfer.
+pub fn of(t: Transfer, c: usize) -> Live
+    requires { ⌜ c < 64 ⌝ }
+    ensures { λ r. ⌜ r ≡ liveOf t c ⌝ }
+{
+    let k = t.channels[c];
+    Live {
+        count: t.count,
+        fault: t.fault,
+        on: t.on,
+        state: k.state,
+        held: k.held,
+        next: k.next,
+        left: k.left,
+        bytes: bytes_at(&t.heads, c),
+    }
+}
+
+// Written back into its transfer.
+pub fn back(mut t: Transfer, c: usize, x: Live) -> Transfer
+    requires { ⌜ c < 64 ⌝ }
+    ensures { λ r. ⌜ r ≡ back t c x ⌝ }
+{
+    let bytes = x.bytes;
+    let mut heads = t.heads;
+    body::store(&mut heads, fit::HELD_LIMIT * c, &bytes, fit::HELD_LIMIT);
+    t.heads = heads;
+    t.channels[c] = Channel {
+        state: x.state,
+        held: x.held,
+        next: x.next,
+        left: x.left,
+    };
+    t.count = x.count;
+    t.fault = x.fault;
+    t.on = x.on;
+    t
+}
