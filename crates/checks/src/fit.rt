@@ -12,7 +12,6 @@ ghost use lib.Dec.{leb, eqb};
 ghost use lib.ListN.{length, getD, take, drop};
 ghost use Rattle.ledger.specs.Ledger.{zeros, obeys, pairsOf};
 ghost use Rattle.transfer.specs.Fit.{idle, heldFits, restFits, channelFits, channelsFit, restsApart, countFits, faultFits, fitsLedger};
-ghost use Rattle.checks.specs.Survey.{surveyIn};
 ghost use Rattle.checks.specs.Rests.{nextsOf, leftsOf, runsApart, runApartFrom, allApart};
 
 // The most pairs of a ledger.
@@ -272,32 +271,8 @@ pub fn without_file(t: Transfer, ledger: &[u64]) -> bool
     fault_fits(t)
 }
 
-// What one pass over the channels finds; where they don't fit, nothing.
-pub struct Survey {
-    pub fits: bool,
-    pub used: u64,
-    pub ended: u64,
-}
-
 // The whole of it, for a file of so many bytes.
-pub fn whole(t: Transfer, file: usize, ledger: &[u64]) -> Survey
-    ensures { λ r. ⌜ r ≡ surveyIn file t (now (ledger .entry)) ⌝ }
-{
-    if !whole_bool(t, file, ledger) {
-        return Survey {
-            fits: false,
-            used: 0,
-            ended: 0,
-        };
-    }
-    Survey {
-        fits: true,
-        used: count::used(t),
-        ended: count::ended(t),
-    }
-}
-
-fn whole_bool(t: Transfer, file: usize, ledger: &[u64]) -> bool
+pub fn whole(t: Transfer, file: usize, ledger: &[u64]) -> bool
     ensures { λ r. ⌜ r ≡ (eqb file (t .len) && fitsLedger t (now (ledger .entry))) ⌝ }
 {
     if file as u64 != t.len {
