@@ -1,16 +1,16 @@
 -- FIT, test by test in any order, and what a survey says of it.
 use Prim.Native.Nat.{ℕ, _*_, _≤_, _<_}
-use mathlib.Core.Path.{_≡_, refl, sym, _∙_}
+use mathlib.Core.Path.{_≡_, refl, sym}
 use mathlib.Core.Bool.{Bool, true, false, _&&_, and-true, and-false, and-assoc, false≢true}
 use mathlib.Core.List.{List}
 use borrow.Author.Tests.{le-leb, lt-leb, eq-eqb, ne-eqb}
-use lib.Dec.{leb, eqb}
+use lib.Dec.{leb}
 use lib.ListN.{length}
 use Rattle.ledger.specs.Pairs.{endsBy}
 use Rattle.ledger.specs.Ledger.{obeys, pairsOf}
 use Rattle.transfer.specs.declared.state.Transfer.{Transfer}
 use Rattle.transfer.specs.Channel.{channelCount, heldLimit}
-use Rattle.transfer.specs.Transfer.{usedOf, endedOf}
+use Rattle.transfer.specs.Transfer.{usedOf}
 use Rattle.transfer.specs.Fit.{pairLimit, channelsFit, restsApart, countFits, faultFits, fitsLedger}
 use Rattle.checks.specs.Survey.{surveyWhere}
 

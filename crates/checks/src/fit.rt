@@ -25,7 +25,7 @@ pub const HELD_LIMIT: usize = 16;
 
 // ---- one channel
 
-// Whether the held bytes from so many on are all 0.
+// Whether the held bytes from so many on are all 0. It reads them all, so that the compiler can make vector code of it.
 fn zero_from(held: &[u8], from: usize) -> bool
     requires { ⌜ from ≤ length (now held) ⌝ }
     ensures { λ r. ⌜ r ≡ zeros (drop from (now (held .entry))) ⌝ }
@@ -100,7 +100,7 @@ fn channel_fits(k: Channel, held: &[u8], ledger: &[u64]) -> bool
     }
 }
 
-// The same with the heads of all channels, of which the channel c has 16.
+// The same of the channel c, with the held bytes of all channels.
 fn channel_fits_at(k: Channel, heads: &[u8], c: usize, ledger: &[u64]) -> bool
     requires { ⌜ (c < 64) × (length (now heads) ≡ 1024) × (obeys (now ledger) ≡ true) ⌝ }
     ensures { λ r. ⌜ r ≡ channelFits (pairsOf (now (ledger .entry))) (k .state) k (take 16 (drop (16 * c) (now (heads .entry)))) ⌝ }
@@ -259,6 +259,7 @@ fn channels_fit(t: Transfer, ledger: &[u64]) -> Survey
 
 // ---- the whole
 
+// All but the file's length, with what is counted on the way; the tests that read least come first.
 fn surveyed(t: Transfer, ledger: &[u64]) -> Survey
     ensures { λ r. ⌜ r ≡ surveyOf t (now (ledger .entry)) ⌝ }
 {
@@ -284,7 +285,7 @@ fn surveyed(t: Transfer, ledger: &[u64]) -> Survey
     found
 }
 
-// All but the file's length.
+// Its answer alone.
 pub fn without_file(t: Transfer, ledger: &[u64]) -> bool
     ensures { λ r. ⌜ r ≡ fitsLedger t (now (ledger .entry)) ⌝ }
 {

@@ -1,20 +1,20 @@
 -- `fit::channels_fit`: the channels passed, and those that are left, are all.
-use Prim.Native.Nat.{_+_, _-_, _≤_, _<_}
+use Prim.Native.Nat.{_-_, _≤_, _<_}
 use mathlib.Core.Path.{_≡_, refl, sym, _∙_}
 use mathlib.Core.Logic.{⊎-elim}
-use mathlib.Core.Bool.{true, false, _&&_}
+use mathlib.Core.Bool.{Bool, true, false, _&&_}
 use native.Mathlib.Omega.{arith}
 use borrow.Author.Needs.{needs}
 use borrow.Author.Tests.{not-true, not-false}
-use lib.ListN.{length, getD, drop, take}
+use lib.ListN.{length, getD, replicate}
 use lib.Seq.{length-take-le}
 use Rattle.ledger.specs.Ledger.{pairsOf}
-use Rattle.transfer.specs.Channel.{channelCount, heldLimit, blank}
+use Rattle.transfer.specs.Channel.{channelCount, blank}
 use Rattle.transfer.specs.Fit.{channelFits, channelsFit, restsApart}
 use Rattle.transfer.proofs.FitChannels.{bytesAt}
 use Rattle.checks.proofs.Counting.{length-mapped, ended-le}
 use Rattle.checks.proofs.Rests.{packed-apart}
-use Rattle.checks.proofs.Passing.{Passed, one-more, passes-unused, passes-used, all-fit, nexts-packed, lefts-packed, all-used, all-ended}
+use Rattle.checks.proofs.Passing.{Passed, All, passed-none, fails, passes-unused, passes-used, passed-all}
 use Rattle.checks.proofs.fit.channels_fit.Statement.{statement}
 use Rattle.checks.proofs.fit.channels_fit.Tie as tie
 
@@ -27,10 +27,10 @@ abbrev μ-loop : tie.MeasureT-loop
 
 loop-holds : tie.Need-loop-holds Inv-loop μ-loop
 loop-holds c =
-    let t = c .before .args .t1 in
-    let h : length (t .channels) ≡ channelCount = search (length-mapped, needs) in
-    let g : length (t .heads) ≡ 1024 = search needs in
-    ((omega arith, omega arith, omega arith, omega arith, refl, refl, refl, refl, refl, omega arith, omega arith), h, g)
+    let x = c .before .args in
+    let h : length (x .t1 .channels) ≡ channelCount = search (length-mapped, needs) in
+    let g : length (x .t1 .heads) ≡ 1024 = search needs in
+    (passed-none (pairsOf (x .ledger .now)) (x .t1 .channels) (x .t1 .heads) (replicate 64 0) (replicate 64 0) refl refl, h, g)
 
 mul-k : tie.Need-mul-k Inv-loop μ-loop
 mul-k c = omega arith
@@ -43,6 +43,13 @@ channel-fits-at-requires c κs =
     let l = c .before .before .before .before .before in
     (omega arith, l .loop .inv .2, l .before .before .pre)
 
+-- the answer at the channel at hand
+tested : (c : tie.After-channel-fits-at Inv-loop μ-loop) (b : Bool) → c .channel-fits-at .result ≡ b → let l = c .before .before .before .before .before .before in
+    let x = l .before .before .args in
+    let k = getD (x .t1 .channels) (l .loop .c) blank in
+    channelFits (pairsOf (x .ledger .now)) (k .state) k (bytesAt (x .t1 .heads) (l .loop .c)) ≡ b
+tested c b e = sym (c .channel-fits-at .ensures) ∙ e
+
 unfit-requires : tie.Need-unfit-requires Inv-loop μ-loop
 unfit-requires c κs = search needs
 
@@ -51,11 +58,10 @@ returns c =
     let f = c .before in
     let e = f .before in
     let l = e .before .before .before .before .before .before in
-    let t = l .before .before .args .t1 in
-    let ps = pairsOf (l .before .before .args .ledger .now) in
-    let n : channelsFit ps (t .channels) (t .heads) ≡ false =
-    sym (l .loop .inv .0 .6) ∙ one-more ps (t .channels) (t .heads) (l .loop .c) (omega (arith, l .loop .inv .1)) ∙ rw (sym (e .channel-fits-at .ensures) ∙ not-true (e .channel-fits-at .result) (f .if1 .taken)) in
-    c .unfit .ensures ∙ rw n
+    let s = l .loop in
+    let x = l .before .before .args in
+    let q = tested e false (not-true (e .channel-fits-at .result) (f .if1 .taken)) in
+    c .unfit .ensures ∙ rw (fails (pairsOf (x .ledger .now)) (x .t1 .channels) (x .t1 .heads) (s .c) (omega (arith, s .inv .1)) (s .next) (s .left) (s .n) (s .used) (s .ended) (s .inv .0) q)
 
 mul-next : tie.Need-mul-next Inv-loop μ-loop
 mul-next c = omega arith
@@ -97,57 +103,59 @@ loop-again c =
     let f = c .before .before in
     let e = f .before in
     let l = e .before .before .before .before .before .before in
+    let s = l .loop in
+    let v = s .inv in
     let t = l .before .before .args .t1 in
     let ps = pairsOf (l .before .before .args .ledger .now) in
-    let v = l .loop .inv in
-    let h : l .loop .c < length (t .channels) = omega (arith, v .1) in
-    let q = sym (e .channel-fits-at .ensures) ∙ not-false (e .channel-fits-at .result) (f .if1 .left) in (
+    let h : s .c < length (t .channels) = omega (arith, v .1) in
+    let g : s .c < channelCount = omega arith in
+    let q = tested e true (not-false (e .channel-fits-at .result) (f .if1 .left)) in (
       ⊎-elim
-          (λ w. rw (w .3, w .4, w .5, w .6, w .7, w .1 .ensures .1, w .2 .ensures) (passes-used ps (t .channels) (t .heads) (l .loop .c) h q (omega arith) (l .loop .next) (l .loop .left) (l .loop .n) (l .loop .used) (l .loop .ended) (v .0) (w .0 .taken)))
-          (λ w. rw (w .1, w .2, w .3, w .4, w .5) (passes-unused ps (t .channels) (t .heads) (l .loop .c) h q (omega arith) (l .loop .next) (l .loop .left) (l .loop .n) (l .loop .used) (l .loop .ended) (v .0) (omega (arith, w .0 .left))))
+          (λ w. rw (w .3, w .4, w .5, w .6, w .7, w .1 .ensures .1, w .2 .ensures) (passes-used ps (t .channels) (t .heads) (s .c) h (s .next) (s .left) (s .n) (s .used) (s .ended) (v .0) q g (w .0 .taken)))
+          (λ w. rw (w .1, w .2, w .3, w .4, w .5) (passes-unused ps (t .channels) (t .heads) (s .c) h (s .next) (s .left) (s .n) (s .used) (s .ended) (v .0) q g (omega (arith, w .0 .left))))
           (c .if2 .came),
       v .1,
       v .2,
     )
 
+-- the rests that are packed fill no more than the arrays
+room : (c : tie.At-loop Inv-loop μ-loop) → let s = c .loop in (s .n ≤ length (s .next)) × (s .n ≤ length (s .left))
+room c = let v = c .loop .inv .0 in (omega (arith, v .few-packed, v .within, v .next-length), omega (arith, v .few-packed, v .within, v .left-length))
+
 array-share-prefix-next : tie.Need-array-share-prefix-next Inv-loop μ-loop
-array-share-prefix-next c = let v = c .before .loop .inv .0 in omega (arith, v .4)
+array-share-prefix-next c = room (c .before) .0
 
 slice-aggregate-all-apart : tie.Need-slice-aggregate-all-apart Inv-loop μ-loop
-slice-aggregate-all-apart c =
-    let l = c .before .before in
-    sym (length-take-le (l .loop .n) (l .loop .next) (omega (arith, l .loop .inv .0 .4)))
+slice-aggregate-all-apart c = let l = c .before .before in sym (length-take-le (l .loop .n) (l .loop .next) (room l .0))
 
 array-share-prefix-left : tie.Need-array-share-prefix-left Inv-loop μ-loop
-array-share-prefix-left c = let v = c .before .before .loop .inv .0 in omega (arith, v .5)
+array-share-prefix-left c = room (c .before .before) .1
 
 slice-aggregate-all-apart-2 : tie.Need-slice-aggregate-all-apart-2 Inv-loop μ-loop
-slice-aggregate-all-apart-2 c =
-    let l = c .before .before .before in
-    sym (length-take-le (l .loop .n) (l .loop .left) (omega (arith, l .loop .inv .0 .5)))
+slice-aggregate-all-apart-2 c = let l = c .before .before .before in sym (length-take-le (l .loop .n) (l .loop .left) (room l .1))
 
 all-apart-requires : tie.Need-all-apart-requires Inv-loop μ-loop
 all-apart-requires c κs =
     let l = c .before .before .before in
-    let v = l .loop .inv .0 in
-    length-take-le (l .loop .n) (l .loop .left) (omega (arith, v .5)) ∙ sym (length-take-le (l .loop .n) (l .loop .next) (omega (arith, v .4)))
+    length-take-le (l .loop .n) (l .loop .left) (room l .1) ∙ sym (length-take-le (l .loop .n) (l .loop .next) (room l .0))
+
+all : (c : tie.After-loop Inv-loop μ-loop) → let l = c .before in
+    let x = l .before .before .args in
+    let s = l .loop in
+    All (pairsOf (x .ledger .now)) (x .t1) (s .next) (s .left) (s .n) (s .used) (s .ended)
+all c =
+    let l = c .before in
+    let x = l .before .before .args in
+    let s = l .loop in
+    passed-all (pairsOf (x .ledger .now)) (x .t1) (s .next) (s .left) (s .n) (s .used) (s .ended) (s .c) (s .inv .0) (omega (arith, s .inv .1, c .loop-test .left))
 
 -- all channels fit, so whether the rests share a byte decides
 apart-decides : (c : tie.After-all-apart Inv-loop μ-loop) → let x = c .before .before .before .before .before .before .args in
     (channelsFit (pairsOf (x .ledger .now)) (x .t1 .channels) (x .t1 .heads) && restsApart (x .t1 .channels)) ≡ c .all-apart .result
 apart-decides c =
-    let s = c .before .before .before in
-    let l = s .before in
-    let x = l .before .before .args in
-    let ps = pairsOf (x .ledger .now) in
-    let h : length (x .t1 .channels) ≤ l .loop .c = omega (arith, l .loop .inv .1, s .loop-test .left) in
-    rw (
-      all-fit ps (x .t1) (l .loop .next) (l .loop .left) (l .loop .n) (l .loop .used) (l .loop .ended) (l .loop .c) h (l .loop .inv .0),
-      packed-apart (x .t1 .channels),
-      ← nexts-packed ps (x .t1) (l .loop .next) (l .loop .left) (l .loop .n) (l .loop .used) (l .loop .ended) (l .loop .c) h (l .loop .inv .0),
-      ← lefts-packed ps (x .t1) (l .loop .next) (l .loop .left) (l .loop .n) (l .loop .used) (l .loop .ended) (l .loop .c) h (l .loop .inv .0),
-    )
-    (sym (c .all-apart .ensures))
+    let l = c .before .before .before in
+    let a = all l in
+    rw (a .fit, packed-apart (l .before .before .before .args .t1 .channels), ← a .nexts, ← a .lefts) (sym (c .all-apart .ensures))
 
 unfit-requires-2 : tie.Need-unfit-requires-2 Inv-loop μ-loop
 unfit-requires-2 c κs = search needs
@@ -159,16 +167,9 @@ returns-2 c =
 
 returns-3 : tie.Need-returns-3 Inv-loop μ-loop
 returns-3 c =
-    let s = c .before .before .before .before in
-    let l = s .before in
-    let x = l .before .before .args in
-    let ps = pairsOf (x .ledger .now) in
-    let h : length (x .t1 .channels) ≤ l .loop .c = omega (arith, l .loop .inv .1, s .loop-test .left) in
-    rw (
-      apart-decides (c .before) ∙ not-false (c .before .all-apart .result) (c .if3 .left),
-      all-used ps (x .t1) (l .loop .next) (l .loop .left) (l .loop .n) (l .loop .used) (l .loop .ended) (l .loop .c) h (l .loop .inv .0),
-      all-ended ps (x .t1) (l .loop .next) (l .loop .left) (l .loop .n) (l .loop .used) (l .loop .ended) (l .loop .c) h (l .loop .inv .0),
-    )
+    let d = c .before in
+    let a = all (d .before .before .before) in
+    rw (apart-decides d ∙ not-false (d .all-apart .result) (c .if3 .left), a .used-all, a .ended-all)
 
 pub channels-fit-spec : {M : Type 1} → statement M
 channels-fit-spec =

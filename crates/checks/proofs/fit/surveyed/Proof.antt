@@ -1,15 +1,14 @@
 -- `fit::surveyed`: a test that fails says so; the rest decide.
 use Prim.Native.Nat.{_*_}
 use mathlib.Core.Path.{_≡_, refl, sym, ap, _∙_}
-use mathlib.Core.Bool.{true, false, _&&_}
+use mathlib.Core.Bool.{true, _&&_}
 use borrow.Author.Needs.{needs}
 use borrow.Author.Tests.{not-true, not-false}
 use lib.ListN.{length}
 use Rattle.ledger.specs.Pairs.{endsBy}
 use Rattle.ledger.specs.Ledger.{obeys, pairsOf}
 use Rattle.transfer.specs.Channel.{channelCount, heldLimit}
-use Rattle.transfer.specs.Transfer.{usedOf}
-use Rattle.transfer.specs.Fit.{channelsFit, restsApart, countFits, faultFits, fitsLedger}
+use Rattle.transfer.specs.Fit.{channelsFit, restsApart, countFits, fitsLedger}
 use Rattle.transfer.proofs.FitChannels.{both}
 use Rattle.checks.specs.declared.fit.Survey.{Survey}
 use Rattle.checks.specs.Survey.{surveyOf}
