@@ -1,18 +1,18 @@
 -- FIT, test by test in any order, and what a survey says of it.
 use Prim.Native.Nat.{ℕ, _*_, _≤_, _<_}
 use mathlib.Core.Path.{_≡_, refl, sym}
-use mathlib.Core.Bool.{Bool, true, false, _&&_, and-true, and-false, and-assoc, false≢true}
+use mathlib.Core.Bool.{Bool, true, false, cond, _&&_, and-true, and-false, and-assoc, false≢true}
 use mathlib.Core.List.{List}
 use borrow.Author.Tests.{le-leb, lt-leb, eq-eqb, ne-eqb}
-use lib.Dec.{leb}
+use lib.Dec.{leb, eqb}
 use lib.ListN.{length}
 use Rattle.ledger.specs.Pairs.{endsBy}
 use Rattle.ledger.specs.Ledger.{obeys, pairsOf}
 use Rattle.transfer.specs.declared.state.Transfer.{Transfer}
 use Rattle.transfer.specs.Channel.{channelCount, heldLimit}
-use Rattle.transfer.specs.Transfer.{usedOf}
+use Rattle.transfer.specs.Transfer.{usedOf, endedOf}
 use Rattle.transfer.specs.Fit.{pairLimit, channelsFit, restsApart, countFits, faultFits, fitsLedger}
-use Rattle.checks.specs.Survey.{surveyWhere}
+use Rattle.checks.specs.Survey.{unfit, surveyWhere, surveyOf, surveyIn}
 
 -- ---- one test that fails
 
@@ -64,3 +64,15 @@ fits-where false t = refl
 pub used-where : (b : Bool) (t : Transfer) → b ≡ true → surveyWhere b t .used ≡ usedOf t
 used-where true t e = refl
 used-where false t e = absurd (false≢true e)
+
+pub ended-where : (b : Bool) (t : Transfer) → b ≡ true → surveyWhere b t .ended ≡ endedOf t
+ended-where true t e = refl
+ended-where false t e = absurd (false≢true e)
+
+pub survey-in : (file : ℕ) (t : Transfer) (l : List ℕ) → surveyIn file t l ≡ surveyWhere (eqb file (t .len) && fitsLedger t l) t
+unfolding surveyIn surveyOf
+survey-in file t l = go (eqb file (t .len))
+  where
+    go : (b : Bool) → cond b (surveyWhere (fitsLedger t l) t) unfit ≡ surveyWhere (b && fitsLedger t l) t
+    go true = refl
+    go false = refl
