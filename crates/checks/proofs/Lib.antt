@@ -1,3 +1,5 @@
 pub mod Counting
 pub mod Halves
+pub mod Passing
 pub mod Rests
+pub mod Surveys

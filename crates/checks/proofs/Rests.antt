@@ -80,3 +80,8 @@ packs f ks l n c h g = rw (drop-cons ks c blank g, add-one c) (go (eqb (k .left)
     go : (b : Bool) → take (n + cond b 0 1) (set l n (f k)) ++ rest ≡ take n l ++ cond b rest (f k ∷ rest)
     go true = let z : n + 0 ≡ n = omega arith in rw (z, take-set-le n l n (f k) (omega arith))
     go false = rw (add-one n, take-suc-set l n (f k) h) (append-snoc (take n l) (f k) rest)
+
+-- one that has none left is passed over
+pub skips : (f : Channel → ℕ) (ks : List Channel) (c : ℕ) → c < length ks → getD ks c blank .left ≡ 0 → ofWaiting f (drop c ks) ≡ ofWaiting f (drop (c + 1) ks)
+unfolding ofWaiting
+skips f ks c h e = rw (drop-cons ks c blank h, add-one c, e)

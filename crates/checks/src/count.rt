@@ -3,31 +3,18 @@ use transfer::state::Channel;
 use transfer::state::Transfer;
 ghost use mathlib.Core.Path.{_≡_};
 ghost use Prim.Native.Nat.{_+_, min};
-ghost use Rattle.transfer.specs.Transfer.{oneIfEnded, oneIfAlive, endedOf, usedOf, leftOf, isFinal};
+ghost use Rattle.transfer.specs.Transfer.{oneIfEnded, endedOf, leftOf, isFinal};
 
 pub const CHANNELS: usize = 64;
 
 // 1 for a channel that has ended.
-fn one_if_ended(k: Channel) -> u64
+pub fn one_if_ended(k: Channel) -> u64
     ensures { λ r. ⌜ r ≡ oneIfEnded k ⌝ }
 {
     if k.state == 4 {
         return 1;
     }
     0
-}
-
-// 1 for a channel that is not unused: one that has ended, or is in a header or a payload.
-fn one_if_used(k: Channel) -> u64
-    ensures { λ r. ⌜ r ≡ oneIfEnded k + oneIfAlive k ⌝ }
-{
-    if k.state == 0 {
-        return 0;
-    }
-    if 4 < k.state {
-        return 0;
-    }
-    1
 }
 
 // How many have ended.
@@ -52,20 +39,6 @@ pub fn all_ended(t: Transfer) -> bool
         return false;
     }
     ended(t) == t.count
-}
-
-// How many are not unused.
-pub fn used(t: Transfer) -> u64
-    ensures { λ r. ⌜ r ≡ usedOf t ⌝ }
-{
-    let mut n: u64 = 0;
-    let mut c = 0;
-    while c < CHANNELS {
-        let k = t.channels[c];
-        n += one_if_used(k);
-        c += 1;
-    }
-    n
 }
 
 // a + b, or the largest number where that is more.

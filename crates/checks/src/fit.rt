@@ -7,12 +7,15 @@ use transfer::state::Channel;
 use transfer::state::Transfer;
 ghost use mathlib.Core.Path.{_≡_};
 ghost use mathlib.Core.Bool.{true, cond, _&&_};
-ghost use Prim.Native.Nat.{_+_, _≤_, _<_};
+ghost use Prim.Native.Nat.{_+_, _*_, _≤_, _<_};
 ghost use lib.Dec.{leb, eqb};
 ghost use lib.ListN.{length, getD, take, drop};
 ghost use Rattle.ledger.specs.Ledger.{zeros, obeys, pairsOf};
 ghost use Rattle.transfer.specs.Fit.{idle, heldFits, restFits, channelFits, channelsFit, restsApart, countFits, faultFits, fitsLedger};
-ghost use Rattle.checks.specs.Rests.{nextsOf, leftsOf, runsApart, runApartFrom, allApart};
+ghost use Rattle.transfer.specs.declared.state.Transfer.{Transfer};
+ghost use Rattle.transfer.specs.Transfer.{usedOf};
+ghost use Rattle.checks.specs.Rests.{runsApart, runApartFrom, allApart};
+ghost use Rattle.checks.specs.Survey.{unfit, surveyWhere, surveyOf, surveyIn};
 
 // The most pairs of a ledger.
 const PAIR_LIMIT: u64 = 4096;
@@ -22,19 +25,20 @@ pub const HELD_LIMIT: usize = 16;
 
 // ---- one channel
 
-// Whether the held bytes from so many on are all 0.
+// Whether the held bytes from so many on are all 0. It reads them all, so that the compiler can make vector code of it.
 fn zero_from(held: &[u8], from: usize) -> bool
     requires { ⌜ from ≤ length (now held) ⌝ }
     ensures { λ r. ⌜ r ≡ zeros (drop from (now (held .entry))) ⌝ }
 {
+    let mut zero = true;
     let mut i = from;
     while i < held.len() {
         if held[i] != 0 {
-            return false;
+            zero = false;
         }
         i += 1;
     }
-    true
+    zero
 }
 
 // A channel in a header.
@@ -96,31 +100,16 @@ fn channel_fits(k: Channel, held: &[u8], ledger: &[u64]) -> bool
     }
 }
 
-fn channels_fit(t: Transfer, ledger: &[u64]) -> bool
-    requires { ⌜ obeys (now ledger) ≡ true ⌝ }
-    ensures { λ r. ⌜ r ≡ channelsFit (pairsOf (now (ledger .entry))) (t .channels) (t .heads) ⌝ }
+// The same of the channel c, with the held bytes of all channels.
+fn channel_fits_at(k: Channel, heads: &[u8], c: usize, ledger: &[u64]) -> bool
+    requires { ⌜ (c < 64) × (length (now heads) ≡ 1024) × (obeys (now ledger) ≡ true) ⌝ }
+    ensures { λ r. ⌜ r ≡ channelFits (pairsOf (now (ledger .entry))) (k .state) k (take 16 (drop (16 * c) (now (heads .entry)))) ⌝ }
 {
-    let heads = t.heads;
-    let mut c = 0;
-    while c < count::CHANNELS {
-        let k = t.channels[c];
-        let at = HELD_LIMIT * c;
-        if !channel_fits(k, &heads[at..at + HELD_LIMIT], ledger) {
-            return false;
-        }
-        c += 1;
-    }
-    true
+    let at = HELD_LIMIT * c;
+    channel_fits(k, &heads[at..at + HELD_LIMIT], ledger)
 }
 
 // ---- no two rests share a byte
-
-// The next places and the bytes left of the n channels that have some, packed.
-struct Rests {
-    next: [u64; 64],
-    left: [u64; 64],
-    n: usize,
-}
 
 // 1 where bytes are left.
 fn one_if_some(left: u64) -> usize
@@ -130,28 +119,6 @@ fn one_if_some(left: u64) -> usize
         return 0;
     }
     1
-}
-
-// Every channel's numbers are stored at n, and n moves on only past those of a channel that has bytes left.
-fn gather(t: Transfer) -> Rests
-    ensures { λ r. ⌜ (r .n ≤ 64) × (take (r .n) (r .next) ≡ nextsOf (t .channels)) × (take (r .n) (r .left) ≡ leftsOf (t .channels)) ⌝ }
-{
-    let mut next = [0u64; 64];
-    let mut left = [0u64; 64];
-    let mut n = 0;
-    let mut c = 0;
-    while c < count::CHANNELS {
-        let k = t.channels[c];
-        next[n] = k.next;
-        left[n] = k.left;
-        n += one_if_some(k.left);
-        c += 1;
-    }
-    Rests {
-        next: next,
-        left: left,
-        n: n,
-    }
 }
 
 // Whether x places from a on end by b; where they end may be too large for 64 bits.
@@ -205,78 +172,133 @@ fn all_apart(next: &[u64], left: &[u64]) -> bool
     true
 }
 
-fn rests_apart(t: Transfer) -> bool
-    ensures { λ r. ⌜ r ≡ restsApart (t .channels) ⌝ }
-{
-    let rests = gather(t);
-    let next = rests.next;
-    let left = rests.left;
-    let n = rests.n;
-    all_apart(&next[..n], &left[..n])
-}
-
 // ---- count and fault
 
-fn count_fits(t: Transfer) -> bool
-    ensures { λ r. ⌜ r ≡ countFits t ⌝ }
+fn count_fits(count: u64, used: u64) -> bool
+    ensures { λ r. ⌜ ((t : Transfer) → t .count ≡ count → usedOf t ≡ used → r ≡ countFits t) ⌝ }
 {
-    if t.count == 0 {
+    if count == 0 {
         return true;
     }
-    if header::COUNT_LIMIT < t.count {
+    if header::COUNT_LIMIT < count {
         return false;
     }
-    count::used(t) <= t.count
+    used <= count
 }
 
-fn fault_fits(t: Transfer) -> bool
-    ensures { λ r. ⌜ r ≡ faultFits t ⌝ }
+fn fault_fits(fault: u64, on: u64) -> bool
+    ensures { λ r. ⌜ ((t : Transfer) → t .fault ≡ fault → t .on ≡ on → r ≡ faultFits t) ⌝ }
 {
-    if t.fault == 0 {
-        return t.on == 0;
+    if fault == 0 {
+        return on == 0;
     }
-    if t.fault < 11 {
+    if fault < 11 {
         return false;
     }
-    if 20 < t.fault {
+    if 20 < fault {
         return false;
     }
-    t.on < count::CHANNELS as u64
+    on < count::CHANNELS as u64
+}
+
+// ---- all channels
+
+// What one pass over the channels finds; where they don't fit, nothing.
+pub struct Survey {
+    pub fits: bool,
+    // The channels not unused.
+    pub used: u64,
+    // Those that have ended.
+    pub ended: u64,
+}
+
+fn unfit() -> Survey
+    ensures { λ r. ⌜ r ≡ unfit ⌝ }
+{
+    Survey {
+        fits: false,
+        used: 0,
+        ended: 0,
+    }
+}
+
+// Each channel is read once. The next place and the bytes left of a used one are stored at n, which moves on only where bytes are left.
+fn channels_fit(t: Transfer, ledger: &[u64]) -> Survey
+    requires { ⌜ obeys (now ledger) ≡ true ⌝ }
+    ensures { λ r. ⌜ r ≡ surveyWhere (channelsFit (pairsOf (now (ledger .entry))) (t .channels) (t .heads) && restsApart (t .channels)) t ⌝ }
+{
+    let mut next = [0u64; 64];
+    let mut left = [0u64; 64];
+    let mut n = 0;
+    let mut used: u64 = 0;
+    let mut ended: u64 = 0;
+    let mut c = 0;
+    while c < count::CHANNELS {
+        let k = t.channels[c];
+        if !channel_fits_at(k, &t.heads, c, ledger) {
+            return unfit();
+        }
+        if 0 < k.state {
+            next[n] = k.next;
+            left[n] = k.left;
+            n += one_if_some(k.left);
+            used += 1;
+            ended += count::one_if_ended(k);
+        }
+        c += 1;
+    }
+    if !all_apart(&next[..n], &left[..n]) {
+        return unfit();
+    }
+    Survey {
+        fits: true,
+        used: used,
+        ended: ended,
+    }
 }
 
 // ---- the whole
 
-// All but the file's length.
+// All but the file's length, with what is counted on the way; the tests that read least come first.
+fn surveyed(t: Transfer, ledger: &[u64]) -> Survey
+    ensures { λ r. ⌜ r ≡ surveyOf t (now (ledger .entry)) ⌝ }
+{
+    if PAIR_LIMIT < t.pairs {
+        return unfit();
+    }
+    if ledger.len() as u64 != 2 * t.pairs {
+        return unfit();
+    }
+    if !fault_fits(t.fault, t.on) {
+        return unfit();
+    }
+    if !rule::obeys(ledger, t.len) {
+        return unfit();
+    }
+    let found = channels_fit(t, ledger);
+    if !found.fits {
+        return found;
+    }
+    if !count_fits(t.count, found.used) {
+        return unfit();
+    }
+    found
+}
+
+// Its answer alone.
 pub fn without_file(t: Transfer, ledger: &[u64]) -> bool
     ensures { λ r. ⌜ r ≡ fitsLedger t (now (ledger .entry)) ⌝ }
 {
-    if PAIR_LIMIT < t.pairs {
-        return false;
-    }
-    if ledger.len() as u64 != 2 * t.pairs {
-        return false;
-    }
-    if !rule::obeys(ledger, t.len) {
-        return false;
-    }
-    if !channels_fit(t, ledger) {
-        return false;
-    }
-    if !rests_apart(t) {
-        return false;
-    }
-    if !count_fits(t) {
-        return false;
-    }
-    fault_fits(t)
+    let found = surveyed(t, ledger);
+    found.fits
 }
 
 // The whole of it, for a file of so many bytes.
-pub fn whole(t: Transfer, file: usize, ledger: &[u64]) -> bool
-    ensures { λ r. ⌜ r ≡ (eqb file (t .len) && fitsLedger t (now (ledger .entry))) ⌝ }
+pub fn whole(t: Transfer, file: usize, ledger: &[u64]) -> Survey
+    ensures { λ r. ⌜ r ≡ surveyIn file t (now (ledger .entry)) ⌝ }
 {
     if file as u64 != t.len {
-        return false;
+        return unfit();
     }
-    without_file(t, ledger)
+    surveyed(t, ledger)
 }

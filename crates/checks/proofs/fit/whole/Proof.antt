@@ -1,22 +1,30 @@
 -- `fit::whole`.
+use mathlib.Core.Path.{_∙_}
 use borrow.Author.Needs.{needs}
 use borrow.Author.Tests.{eq-eqb, ne-eqb}
+use Rattle.checks.specs.Survey.{surveyIn}
 use Rattle.checks.proofs.fit.whole.Statement.{statement}
 use Rattle.checks.proofs.fit.whole.Tie as tie
 
-returns : tie.Need-returns
-returns c =
-    let x = c .before .before .before .args in
-    rw (ne-eqb (x .file) (x .t .len) (c .if1 .taken))
+unfit-requires : tie.Need-unfit-requires
+unfit-requires c κs = search needs
 
-without-file-requires : tie.Need-without-file-requires
-without-file-requires c κs = search needs
+returns : tie.Need-returns
+unfolding surveyIn
+returns c =
+    let f = c .before in
+    let x = f .before .before .before .args in
+    c .unfit .ensures ∙ rw (ne-eqb (x .file) (x .t .len) (f .if1 .taken))
+
+surveyed-requires : tie.Need-surveyed-requires
+surveyed-requires c κs = search needs
 
 returns-2 : tie.Need-returns-2
+unfolding surveyIn
 returns-2 c =
-    let e = c .before in
-    let x = e .before .before .before .args in
-    rw (eq-eqb (x .file) (x .t .len) (e .if1 .left)) (c .without-file .ensures)
+    let f = c .before in
+    let x = f .before .before .before .args in
+    c .surveyed .ensures ∙ rw (eq-eqb (x .file) (x .t .len) (f .if1 .left))
 
 pub whole-spec : {M : Type 1} → statement M
-whole-spec = tie.close (tie.spec returns without-file-requires returns-2)
+whole-spec = tie.close (tie.spec unfit-requires returns surveyed-requires returns-2)

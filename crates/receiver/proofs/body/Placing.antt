@@ -1,0 +1,31 @@
+-- Bytes put into a part of a list, and the bytes of a list put over another from the front on.
+use Prim.Native.Nat.{ℕ, _+_, _-_, _≤_}
+use mathlib.Core.Path.{_≡_, sym, ap, _∙_}
+use mathlib.Core.List.{List, _++_, append-nil, append-assoc}
+use native.Mathlib.Omega.{arith}
+use lib.ListN.{length, take, drop, length-append, length-take, length-drop, drop-of-length-le}
+use lib.Seq.{length-take-le, take-all, take-at, take-add, drop-at, drop-drop}
+
+-- ys, the part from the place on, has b at its front and is otherwise as it was
+pub onto : (f b ys : List ℕ) (at : ℕ) → at ≤ length f → ys ≡ b ++ drop (length b) (take (length f - at) (drop at f))
+    → take at f ++ (ys ++ drop (length f - at) (drop at f)) ≡ take at f ++ (b ++ drop (at + length b) f)
+onto f b ys at h e =
+    let a : length (drop at f) ≤ length f - at = simp length-drop (omega arith) in
+    rw (drop-of-length-le _ a, append-nil, e, take-all _ _ a, drop-drop)
+
+-- the first m are those of s, and the rest those of d
+pub covers : (s d : List ℕ) (m : ℕ) → m ≤ length s → length s ≤ length d → length (take m s ++ drop m d) ≡ length d
+covers s d m h g = simp (length-append, length-take, length-drop) (omega arith)
+
+-- k more of s behind the first
+pub more : (s d f ys : List ℕ) (at k : ℕ) → at + k ≤ length s → length s ≤ length d → f ≡ take at s ++ drop at d
+    → ys ≡ take k (drop at s) ++ drop (length (take k (drop at s))) (take (length f - at) (drop at f))
+    → take at f ++ (ys ++ drop (length f - at) (drop at f)) ≡ take (at + k) s ++ drop (at + k) d
+more s d f ys at k h g i e =
+    let n : length (take at s) ≡ at = length-take-le at s (omega arith) in
+    let m : length (take k (drop at s)) ≡ k = simp (length-take, length-drop) (omega arith) in
+    let r : length f ≡ length d = ap length i ∙ covers s d at (omega arith) g in
+    onto f (take k (drop at s)) ys at (omega arith) e ∙ rw (m, i, take-at (take at s) (drop at d) at n, behind, take-add at k s) (sym (append-assoc (take at s) (take k (drop at s)) (drop (at + k) d)))
+  where
+    behind : drop (at + k) (take at s ++ drop at d) ≡ drop (at + k) d
+    behind = sym (drop-drop k at (take at s ++ drop at d)) ∙ rw (drop-at (take at s) (drop at d) at (length-take-le at s (omega arith))) (drop-drop k at d)
