@@ -38,9 +38,9 @@ pub extern "C" fn cob_start(len: u64, ledger: &mut [u64]) -> Started
 {
     let started = start::start(len, ledger);
     let receiver = started.receiver;
-    let t = receiver.transfer;
+    let fresh = receiver.transfer;
     Started {
-        transfer: t,
+        transfer: fresh,
         refused: started.refused,
     }
 }

@@ -3,6 +3,7 @@
 use crate::raw;
 use crate::Refusal;
 
+/// Numbered by the first digit of its codes.
 #[derive(Clone, Copy, Debug, PartialEq, Eq, Hash)]
 pub enum Class {
     Preliminary = 1,
