@@ -1,4 +1,4 @@
-/* The layout of every struct, and document 01's screen lines by calls from C. */
+/* The layout of every struct, and every function called from C, document 01's screen lines printed. */
 #include "../cobnutter.h"
 
 #include <stdio.h>
@@ -82,11 +82,41 @@ static int block(uint64_t channel, uint8_t descriptor, uint64_t third, const cha
            received.verdict == cob_verdict(transfer);
 }
 
+#define TEXT(s) (const uint8_t *)(s), sizeof(s) - 1
+
+static int control(void)
+{
+    static const char hosts[] = "10,0,0,1,0,20 192,0,2,1,19,137";
+    uint64_t list[COB_HOST_LIMIT];
+    uint64_t second = (uint64_t)0xc0000201 << 16 | 0x1389;
+    cob_command command = cob_line_read(TEXT("retr a b \r\n"));
+    cob_list read = cob_hosts_read(TEXT(hosts), list, COB_HOST_LIMIT);
+    cob_found found = cob_host_at(TEXT(hosts), 14);
+    return command.refused == 0 && command.verb == 5 && command.from == 5 && command.to == 9 &&
+           cob_line_read(TEXT("PASV \r\n")).refused == 35 && cob_reply_class(226).digit == 2 &&
+           cob_reply_class(600).refused == 36 && read.refused == 0 && read.count == 2 && list[1] == second &&
+           found.found == 1 && found.value == second && found.next == sizeof hosts - 1;
+}
+
+static int forms(void)
+{
+    uint64_t from[4], to[2];
+    uint8_t out[32];
+    cob_fields fields = cob_header_read(TEXT("\x08\0\0\0\0\0\0\0\x05\0\0\0\0\0\0\x01\0"));
+    int read = cob_ranges_read(TEXT("60-89,0-59,5-5"), from, 4);
+    cob_written text = cob_ranges_write(from, 4, out, sizeof out);
+    int same = text.length == 4 && memcmp(out, "0-89", 4) == 0;
+    cob_written saved = cob_saved_write(from, 4, out, sizeof out);
+    return fields.refused == 0 && fields.descriptor == 8 && fields.is_eodc == 0 && fields.length == 5 &&
+           fields.third == 256 && read == 0 && same && saved.length == 22 &&
+           cob_saved_read(out, saved.length, to, 2) == 0 && to[0] == 0 && to[1] == 90;
+}
+
 int main(void)
 {
     cob_started started = cob_start(sizeof file, ledger, 2);
     transfer = started.transfer;
     int good = started.refused == 0 && block(0, 0, 0, "plai") && block(1, 8, 4, "d123") && block(0, 72, 2, "") &&
                memcmp(file, "plaid123", sizeof file) == 0 && cob_stored(transfer, ledger, 2) == sizeof file;
-    return good ? 0 : 1;
+    return good && control() && forms() ? 0 : 1;
 }
