@@ -9,10 +9,12 @@ wordNumber guess = 0
 wordNumber result = 1
 wordNumber broken = 2
 
+-- none where the call is refused
 abbrev pub takenIn : Answer → ℕ
 takenIn (took n) = n
 takenIn (refused k) = 0
 
+-- 0 where it is not refused
 abbrev pub numberIn : Answer → ℕ
 numberIn (took n) = 0
 numberIn (refused k) = k

@@ -11,10 +11,10 @@ ghost use mathlib.Core.Path.{_≡_};
 ghost use mathlib.Core.List.{[]};
 ghost use Rattle.transfer.specs.Transfer.{world, startNumber, startOf, startLeaves, verdictOf};
 ghost use Rattle.transfer.specs.Receive.{receiveOf};
-ghost use Rattle.receiver.specs.Answers.{verdictIs, answerOf};
+ghost use Rattle.receiver.specs.Answers.{verdictIs};
 ghost use Rattle.receiver.specs.Stored.{storedCut};
 ghost use Rattle.screen.specs.Screen.{lineNumber, lineBytes, screenOf, screenLeaves};
-ghost use Rattle.host.specs.Received.{wordNumber, takenIn, numberIn, receivedBy};
+ghost use Rattle.host.specs.Received.{wordNumber, receivedBy};
 
 #[repr(C)]
 pub struct Started {
@@ -55,24 +55,6 @@ fn word_number(v: Verdict) -> u8
     }
 }
 
-fn taken_in(a: Answer) -> usize
-    ensures { λ r. ⌜ r ≡ takenIn (answerOf a) ⌝ }
-{
-    match a {
-        Answer::Took(n) => n,
-        Answer::Refused(_) => 0,
-    }
-}
-
-fn number_in(a: Answer) -> u8
-    ensures { λ r. ⌜ r ≡ numberIn (answerOf a) ⌝ }
-{
-    match a {
-        Answer::Took(_) => 0,
-        Answer::Refused(k) => k,
-    }
-}
-
 #[no_mangle]
 pub extern "C" fn cob_receive(
     transfer: Transfer,
@@ -87,13 +69,22 @@ pub extern "C" fn cob_receive(
     let received = receiver.receive(channel, piece, file, ledger);
     let after = received.receiver;
     let t = after.transfer;
-    let answer = received.answer;
     let verdict = received.verdict;
-    Received {
-        transfer: t,
-        taken: taken_in(answer),
-        verdict: word_number(verdict),
-        refused: number_in(answer),
+    let word = word_number(verdict);
+    let answer = received.answer;
+    match answer {
+        Answer::Took(n) => Received {
+            transfer: t,
+            taken: n,
+            verdict: word,
+            refused: 0,
+        },
+        Answer::Refused(k) => Received {
+            transfer: t,
+            taken: 0,
+            verdict: word,
+            refused: k,
+        },
     }
 }
 
@@ -114,10 +105,13 @@ pub extern "C" fn cob_stored(transfer: Transfer, ledger: &[u64]) -> u64
     receiver.stored(ledger)
 }
 
-fn written(l: Line) -> Written
-    ensures { λ r. ⌜ (r .length ≡ lineBytes l) × (r .refused ≡ lineNumber l) ⌝ }
+#[no_mangle]
+pub extern "C" fn cob_screen_line(transfer: Transfer, ledger: &[u64], out: &mut [u8]) -> Written
+    ensures { λ r. ⌜ (let line = screenOf transfer (now (ledger .entry)) (now (out .entry)) in (r .length ≡ lineBytes line) × (r .refused ≡ lineNumber line) × (now (out .exit) ≡ screenLeaves transfer (now (ledger .entry)) (now (out .entry)))) ⌝ }
 {
-    match l {
+    let receiver = Receiver { transfer: transfer };
+    let answer = line::write(receiver, ledger, out);
+    match answer {
         Line::Bytes(n) => Written {
             length: n,
             refused: 0,
@@ -127,12 +121,4 @@ fn written(l: Line) -> Written
             refused: k,
         },
     }
-}
-
-#[no_mangle]
-pub extern "C" fn cob_screen_line(transfer: Transfer, ledger: &[u64], out: &mut [u8]) -> Written
-    ensures { λ r. ⌜ (let line = screenOf transfer (now (ledger .entry)) (now (out .entry)) in (r .length ≡ lineBytes line) × (r .refused ≡ lineNumber line) × (now (out .exit) ≡ screenLeaves transfer (now (ledger .entry)) (now (out .entry)))) ⌝ }
-{
-    let receiver = Receiver { transfer: transfer };
-    written(line::write(receiver, ledger, out))
 }

@@ -18,10 +18,12 @@ pub struct Fields {
     pub refused: u8,
 }
 
-fn fields_of(h: Header) -> Fields
-    ensures { λ r. ⌜ r ≡ fieldsOf h ⌝ }
+#[no_mangle]
+pub extern "C" fn cob_header_read(bytes: &[u8]) -> Fields
+    ensures { λ r. ⌜ r ≡ fieldsOf (readOf (now (bytes .entry))) ⌝ }
 {
-    match h {
+    let answer = header::read(bytes);
+    match answer {
         Header::Data {
             descriptor,
             length,
@@ -50,28 +52,6 @@ fn fields_of(h: Header) -> Fields
     }
 }
 
-#[no_mangle]
-pub extern "C" fn cob_header_read(bytes: &[u8]) -> Fields
-    ensures { λ r. ⌜ r ≡ fieldsOf (readOf (now (bytes .entry))) ⌝ }
-{
-    fields_of(header::read(bytes))
-}
-
-fn written(w: header::Written) -> Written
-    ensures { λ r. ⌜ (r .length ≡ writtenBytes w) × (r .refused ≡ writtenNumber w) ⌝ }
-{
-    match w {
-        header::Written::Bytes(n) => Written {
-            length: n,
-            refused: 0,
-        },
-        header::Written::Refused(k) => Written {
-            length: 0,
-            refused: k,
-        },
-    }
-}
-
 // third is the offset, or the number of end markers with EODC.
 #[no_mangle]
 pub extern "C" fn cob_header_write(
@@ -82,5 +62,15 @@ pub extern "C" fn cob_header_write(
 ) -> Written
     ensures { λ r. ⌜ (let answer = writeOf descriptor third (now (out .entry)) in (r .length ≡ writtenBytes answer) × (r .refused ≡ writtenNumber answer) × (now (out .exit) ≡ leftBy descriptor length third (now (out .entry)))) ⌝ }
 {
-    written(header::write(descriptor, length, third, out))
+    let answer = header::write(descriptor, length, third, out);
+    match answer {
+        header::Written::Bytes(n) => Written {
+            length: n,
+            refused: 0,
+        },
+        header::Written::Refused(k) => Written {
+            length: 0,
+            refused: k,
+        },
+    }
 }

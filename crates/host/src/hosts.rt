@@ -23,10 +23,12 @@ pub struct Found {
     pub found: u8,
 }
 
-fn list_of(h: Hosts) -> List
-    ensures { λ r. ⌜ r ≡ listOf h ⌝ }
+#[no_mangle]
+pub extern "C" fn cob_hosts_read(text: &[u8], list: &mut [u64]) -> List
+    ensures { λ r. ⌜ (r ≡ listOf (fillOf (now (text .entry)) (now (list .entry)))) × (now (list .exit) ≡ leftBy (now (text .entry)) (now (list .entry))) ⌝ }
 {
-    match h {
+    let answer = hosts::fill(text, list);
+    match answer {
         Hosts::Count(n) => List {
             count: n,
             refused: 0,
@@ -38,17 +40,13 @@ fn list_of(h: Hosts) -> List
     }
 }
 
+// The host-port at a place of the text.
 #[no_mangle]
-pub extern "C" fn cob_hosts_read(text: &[u8], list: &mut [u64]) -> List
-    ensures { λ r. ⌜ (r ≡ listOf (fillOf (now (text .entry)) (now (list .entry)))) × (now (list .exit) ≡ leftBy (now (text .entry)) (now (list .entry))) ⌝ }
+pub extern "C" fn cob_host_at(text: &[u8], at: usize) -> Found
+    ensures { λ r. ⌜ r ≡ foundOf (hostPortAt (now (text .entry)) at) ⌝ }
 {
-    list_of(hosts::fill(text, list))
-}
-
-fn found_of(s: Step) -> Found
-    ensures { λ r. ⌜ r ≡ foundOf s ⌝ }
-{
-    match s {
+    let step = hosts::step_at(text, at);
+    match step {
         Step::Host { value, next } => Found {
             value: value,
             next: next,
@@ -60,12 +58,4 @@ fn found_of(s: Step) -> Found
             found: 0,
         },
     }
-}
-
-// The host-port at a place of the text.
-#[no_mangle]
-pub extern "C" fn cob_host_at(text: &[u8], at: usize) -> Found
-    ensures { λ r. ⌜ r ≡ foundOf (hostPortAt (now (text .entry)) at) ⌝ }
-{
-    found_of(hosts::step_at(text, at))
 }

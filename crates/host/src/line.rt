@@ -15,10 +15,12 @@ pub struct Command {
     pub refused: u8,
 }
 
-fn command_of(l: Line) -> Command
-    ensures { λ r. ⌜ r ≡ commandOf l ⌝ }
+#[no_mangle]
+pub extern "C" fn cob_line_read(line: &[u8]) -> Command
+    ensures { λ r. ⌜ r ≡ commandOf (readOf (now (line .entry))) ⌝ }
 {
-    match l {
+    let answer = line::read(line);
+    match answer {
         Line::Command { verb, from, to } => Command {
             from: from,
             to: to,
@@ -32,11 +34,4 @@ fn command_of(l: Line) -> Command
             refused: k,
         },
     }
-}
-
-#[no_mangle]
-pub extern "C" fn cob_line_read(line: &[u8]) -> Command
-    ensures { λ r. ⌜ r ≡ commandOf (readOf (now (line .entry))) ⌝ }
-{
-    command_of(line::read(line))
 }

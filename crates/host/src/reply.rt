@@ -20,10 +20,12 @@ fn accepted(n: u8) -> Reply
     }
 }
 
-fn reply_of(c: Class) -> Reply
-    ensures { λ r. ⌜ (r .digit ≡ digit c) × (r .refused ≡ number c) ⌝ }
+#[no_mangle]
+pub extern "C" fn cob_reply_class(code: u16) -> Reply
+    ensures { λ r. ⌜ (r .digit ≡ digit (classOf code)) × (r .refused ≡ number (classOf code)) ⌝ }
 {
-    match c {
+    let class = reply::class_of(code);
+    match class {
         Class::Preliminary => accepted(1),
         Class::Completion => accepted(2),
         Class::Intermediate => accepted(3),
@@ -34,11 +36,4 @@ fn reply_of(c: Class) -> Reply
             refused: k,
         },
     }
-}
-
-#[no_mangle]
-pub extern "C" fn cob_reply_class(code: u16) -> Reply
-    ensures { λ r. ⌜ (r .digit ≡ digit (classOf code)) × (r .refused ≡ number (classOf code)) ⌝ }
-{
-    reply_of(reply::class_of(code))
 }
