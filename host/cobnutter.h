@@ -5,7 +5,8 @@
  * Memory. The host owns everything. A run of bytes or numbers is a pointer and how many there are. A pointer is never
  * null, not even with the length 0, and numbers are aligned as uint64_t is. What is lent to one call may not overlap,
  * unless all of it is const. Nothing is kept: a call is done with what it was lent when it returns. No call allocates,
- * blocks, or touches anything else, so calls on different memory may run at the same time.
+ * blocks, or touches anything else, so calls on different memory may run at the same time. A call takes less than 64 kB
+ * of stack.
  *
  * A transfer goes in by value and the answer holds the next one, which takes its place:
  *

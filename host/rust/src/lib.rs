@@ -42,7 +42,14 @@ pub mod reply;
 pub mod saved;
 mod transfer;
 mod verdict;
+mod written;
 
 pub use refusal::{meaning, Refusal};
 pub use transfer::{Received, Transfer};
 pub use verdict::Verdict;
+
+/// A channel's number is below this.
+pub const CHANNELS: u64 = 64;
+
+/// The most entries of a ledger.
+pub const LEDGER_LIMIT: usize = 8192;

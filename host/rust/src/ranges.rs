@@ -1,11 +1,8 @@
 //! Restart range lists, as REST carries them: `0-29,60-89`, both ends counted.
 
 use crate::raw;
-use crate::refusal::{text, written};
+use crate::written::{pairs, text, written};
 use crate::Refusal;
-
-/// The most pairs of a ledger that is not refused.
-pub(crate) const PAIR_LIMIT: usize = 4096;
 
 /// Two numbers of 20 digits, a hyphen and a comma.
 const RANGE: usize = 42;
@@ -20,7 +17,7 @@ pub fn read(text: impl AsRef<[u8]>, ledger: &mut [u64]) -> Result<(), Refusal> {
 }
 
 pub fn write(ledger: &[u64]) -> Result<String, Refusal> {
-    let out = vec![0; RANGE * PAIR_LIMIT.min(ledger.len() / 2)];
+    let out = vec![0; RANGE * pairs(ledger)];
     written(out, |out| unsafe {
         raw::cob_ranges_write(ledger.as_ptr(), ledger.len(), out.as_mut_ptr(), out.len())
     })

@@ -1,4 +1,3 @@
-use crate::raw::Written;
 use std::fmt;
 
 /// A call that changed nothing but what its number says, or a text that is not well formed.
@@ -66,19 +65,4 @@ pub fn meaning(number: u64) -> &'static str {
         64 => "a saved ledger of more pairs than the ledger has",
         _ => "unknown",
     }
-}
-
-/// The first bytes of `out`, by a writer that is lent all of it.
-pub(crate) fn written(
-    mut out: Vec<u8>,
-    write: impl FnOnce(&mut [u8]) -> Written,
-) -> Result<Vec<u8>, Refusal> {
-    let answer = write(&mut out);
-    out.truncate(answer.length);
-    Refusal::unless(answer.refused, out)
-}
-
-/// Every writer of text writes ASCII.
-pub(crate) fn text(bytes: Vec<u8>) -> String {
-    String::from_utf8(bytes).expect("ASCII")
 }

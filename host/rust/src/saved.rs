@@ -1,8 +1,7 @@
 //! Saved ledgers, kind 1.
 
-use crate::ranges::PAIR_LIMIT;
 use crate::raw;
-use crate::refusal::written;
+use crate::written::{pairs, written};
 use crate::Refusal;
 
 /// The length and the kind of a record.
@@ -25,7 +24,7 @@ pub fn read(bytes: &[u8], ledger: &mut [u64]) -> Result<(), Refusal> {
 }
 
 pub fn write(ledger: &[u64]) -> Result<Vec<u8>, Refusal> {
-    let out = vec![0; FRAME + PAIR * PAIR_LIMIT.min(ledger.len() / 2)];
+    let out = vec![0; FRAME + PAIR * pairs(ledger)];
     written(out, |out| unsafe {
         raw::cob_saved_write(ledger.as_ptr(), ledger.len(), out.as_mut_ptr(), out.len())
     })

@@ -1,5 +1,5 @@
 use crate::raw;
-use crate::refusal::{text, written};
+use crate::written::{text, written};
 use crate::{Refusal, Verdict};
 
 /// More bytes than any screen line has.

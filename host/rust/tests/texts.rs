@@ -4,7 +4,7 @@ use cobnutter::header::{self, Header};
 use cobnutter::line::{self, Verb};
 use cobnutter::reply::{self, Class};
 use cobnutter::{hosts, ranges, saved};
-use cobnutter::{meaning, Refusal, Transfer, Verdict};
+use cobnutter::{meaning, Refusal, Transfer, Verdict, CHANNELS, LEDGER_LIMIT};
 use std::net::{Ipv4Addr, SocketAddrV4};
 
 fn number<T>(answer: Result<T, Refusal>) -> u8 {
@@ -130,14 +130,16 @@ fn ledgers() {
 /// The longest text and the longest saved bytes that a ledger can have.
 #[test]
 fn full_ledgers() {
-    let top = u64::MAX - 2 * 4096;
-    let ledger: Vec<u64> = (0..8192).map(|i| top + 2 * (i / 2) + i % 2).collect();
-    let mut back = vec![0; 8192];
+    let entries = LEDGER_LIMIT as u64;
+    let ledger: Vec<u64> = (u64::MAX - entries..u64::MAX).collect();
+    let mut back = vec![0; LEDGER_LIMIT];
     ranges::read(ranges::write(&ledger).unwrap(), &mut back).unwrap();
     assert_eq!(back, ledger);
     back.fill(0);
     saved::read(&saved::write(&ledger).unwrap(), &mut back).unwrap();
     assert_eq!(back, ledger);
+    assert_eq!(number(ranges::write(&[0; LEDGER_LIMIT + 2])), 53);
+    assert_eq!(number(saved::write(&[0; LEDGER_LIMIT + 2])), 53);
 }
 
 #[test]
@@ -161,7 +163,7 @@ fn a_fault_and_refusals() {
         1
     );
     assert_eq!(
-        number(transfer.receive(64, &first, &mut file, &mut ledger)),
+        number(transfer.receive(CHANNELS, &first, &mut file, &mut ledger)),
         2
     );
     assert_eq!(transfer, before);
