@@ -1,0 +1,115 @@
+//! The two receivers side by side: every call goes to both, and all that it leaves is compared.
+
+use super::library;
+use super::random::Random;
+use super::second::receiver::{Transfer, Verdict};
+use super::second::{screen, Answer};
+use super::seen::Seen;
+use cobnutter::raw;
+
+#[derive(Clone)]
+pub struct Lent {
+    pub transfer: Transfer,
+    pub file: Vec<u8>,
+    pub ledger: Vec<u64>,
+}
+
+pub struct Both<'a> {
+    pub random: &'a Random,
+    pub seen: &'a mut Seen,
+    second: Lent,
+    library: (raw::Transfer, Vec<u8>, Vec<u64>),
+}
+
+/// What a byte buffer holds before a call.
+pub const FILL: u8 = 0xee;
+
+impl<'a> Both<'a> {
+    pub fn of(lent: Lent, random: &'a Random, seen: &'a mut Seen) -> Both<'a> {
+        let library = (library::to_raw(&lent.transfer), lent.file.clone(), lent.ledger.clone());
+        let mut both = Both { random, seen, second: lent, library };
+        both.compare();
+        both
+    }
+
+    /// Of a file and ledger that hold bytes of chance.
+    pub fn start(len: usize, entries: usize, random: &'a Random, seen: &'a mut Seen) -> Both<'a> {
+        let file = random.bytes(len);
+        let ledger = (0..entries).map(|_| random.next()).collect();
+        let transfer = Transfer::fresh(0, 0);
+        let mut both = Both::of(Lent { transfer, file, ledger }, random, seen);
+        both.restart(len as u64);
+        both
+    }
+
+    /// A start over what is lent at present.
+    pub fn restart(&mut self, len: u64) {
+        let mine = Transfer::start(len, &mut self.second.ledger);
+        let (theirs, transfer) = library::start(len, &mut self.library.2);
+        assert_eq!(theirs, mine.as_ref().map(|_| ()).map_err(|number| *number));
+        self.seen.note("start", &theirs);
+        self.second.transfer = mine.unwrap_or(Transfer::fresh(0, 0));
+        self.library.0 = transfer;
+        self.compare();
+    }
+
+    pub fn receive(&mut self, channel: u64, piece: &[u8]) -> Answer<usize> {
+        let before = self.second.transfer.fault;
+        let Lent { transfer, file, ledger } = &mut self.second;
+        let mine = transfer.receive(channel, piece, file, ledger);
+        let (transfer, file, ledger) = &mut self.library;
+        let theirs = library::receive(transfer, channel, piece, file, ledger);
+        assert_eq!(theirs, mine, "channel {channel}, piece {piece:?}");
+        self.seen.note("receive", &mine);
+        let fault = self.library.0.fault;
+        if fault != before {
+            assert_ne!(fault, 20, "no transfer that fits reaches it");
+            self.seen.note::<()>("fault", &Err(fault));
+        }
+        self.compare();
+        mine.map(|(_, taken)| taken)
+    }
+
+    /// Changes what is lent, the transfer included, behind the receivers' backs.
+    pub fn harm(&mut self, harm: impl FnOnce(&mut Lent, &Random)) {
+        harm(&mut self.second, self.random);
+        self.lend(self.second.clone());
+    }
+
+    pub fn lend(&mut self, lent: Lent) {
+        self.library = (library::to_raw(&lent.transfer), lent.file.clone(), lent.ledger.clone());
+        self.second = lent;
+        self.compare();
+    }
+
+    pub fn lent(&self) -> &Lent {
+        &self.second
+    }
+
+    pub fn verdict(&self) -> Verdict {
+        self.second.transfer.verdict()
+    }
+
+    fn compare(&mut self) {
+        let Lent { transfer, file, ledger } = &self.second;
+        assert_eq!(self.library.0, library::to_raw(transfer));
+        assert!(self.library.1 == *file, "the files differ");
+        assert!(self.library.2 == *ledger, "the ledgers differ");
+        assert_eq!(library::verdict(&self.library.0), transfer.verdict());
+        let stored = library::stored(&self.library.0, ledger);
+        // Document 01 says nothing of the stored bytes of a broken ledger.
+        assert!(!transfer.fits(ledger) || stored == transfer.stored(ledger));
+        self.compare_screen_lines();
+    }
+
+    fn compare_screen_lines(&mut self) {
+        let Lent { transfer, ledger, .. } = &self.second;
+        let needed = screen::line(transfer, ledger).map_or(0, |line| line.len());
+        let size = *self.random.pick(&[needed + 3, needed, needed.saturating_sub(1)]);
+        let (mut mine, mut theirs) = (vec![FILL; size], vec![FILL; size]);
+        let answer = screen::write(transfer, ledger, &mut mine);
+        assert_eq!(library::screen_line(&self.library.0, ledger, &mut theirs), answer);
+        assert_eq!(theirs, mine);
+        self.seen.note("screen line", &answer);
+    }
+}

@@ -1,0 +1,139 @@
+//! Transfers that fit or nearly fit, made at once instead of by a list of calls, and calls at the ledger's edges.
+
+use super::both::{Both, Lent};
+use super::harm::harm;
+use super::random::Random;
+use super::second::ledger::{self, MOST_ENTRIES};
+use super::second::receiver::{Channel, Transfer, CHANNELS, ENDED, HEADER, LAST_PAYLOAD, PAYLOAD, UNUSED};
+use super::seen::Seen;
+
+pub fn few_calls(random: &Random, seen: &mut Seen) {
+    let lent = lent(random);
+    let mut both = Both::of(lent, random, seen);
+    for _ in 0..both.random.between(1, 6) {
+        if both.random.one_in(4) {
+            both.harm(harm);
+        }
+        let channel = both.random.below(CHANNELS);
+        let piece = piece(both.lent(), channel, both.random);
+        let _ = both.receive(channel as u64, &piece);
+    }
+}
+
+/// A start over a ledger of any length.
+pub fn start(random: &Random, seen: &mut Seen) {
+    let entries = *random.pick(&[random.size(20), random.between(MOST_ENTRIES - 2, MOST_ENTRIES + 2)]);
+    let len = random.size(100);
+    let mut both = Both::start(len, entries, random, seen);
+    let _ = both.receive(0, &[0]);
+    let asked = both.random.wild();
+    both.restart(asked);
+    let _ = both.receive(0, &[0]);
+}
+
+fn lent(random: &Random) -> Lent {
+    // Far from 0 no file can be lent: there the screen line and the stored bytes are left to compare.
+    let far = random.one_in(4);
+    let span = *random.pick(&[random.size(200), random.size(17_000)]) as u64;
+    let (from, len) = if far { (u64::MAX - span, u64::MAX - random.below(2) as u64) } else { (0, span) };
+    let entries = rising(from, len, random);
+    let room = *random.pick(&[0, 2, 4, random.size(MOST_ENTRIES)]);
+    let mut ledger = entries.clone();
+    ledger.resize((entries.len() + room / 2 * 2).min(MOST_ENTRIES), 0);
+    let file = if far { Vec::new() } else { random.bytes(len as usize) };
+    let mut transfer = Transfer::fresh(len, ledger.len() as u64 / 2);
+    use_channels(&mut transfer, &ledger, random);
+    Lent { transfer, file, ledger }
+}
+
+/// Entries of a ledger between two places.
+pub fn rising(from: u64, to: u64, random: &Random) -> Vec<u64> {
+    let most = *random.pick(&[random.size(40), random.size(MOST_ENTRIES), MOST_ENTRIES]);
+    let step = *random.pick(&[0, 2, 30, 600]);
+    let mut entries = Vec::new();
+    let mut place = Some(from + random.size(3) as u64);
+    while let Some(entry) = place.filter(|entry| *entry <= to && entries.len() < most) {
+        entries.push(entry);
+        place = entry.checked_add(1 + random.size(step) as u64);
+    }
+    entries.truncate(entries.len() / 2 * 2);
+    entries
+}
+
+fn use_channels(transfer: &mut Transfer, ledger: &[u64], random: &Random) {
+    let mut free: Vec<[u64; 2]> = ledger::used(ledger).to_vec();
+    random.shuffle(&mut free);
+    let idle = *random.pick(&[1, 2, 12]);
+    for at in 0..CHANNELS {
+        if random.one_in(idle) {
+            continue;
+        }
+        let state = *random.pick(&[UNUSED, HEADER, HEADER, PAYLOAD, LAST_PAYLOAD, ENDED]);
+        let channel = &mut transfer.channels[at];
+        match (state, free.last_mut()) {
+            (HEADER, _) => {
+                let held = random.size(16);
+                transfer.heads[at][..held].copy_from_slice(&header(ledger, transfer.len, random)[..held]);
+                *channel = Channel { state, held: held as u8, ..Channel::default() };
+            }
+            (PAYLOAD | LAST_PAYLOAD, Some([start, end])) => {
+                let left = 1 + random.size((*end - *start - 1) as usize) as u64;
+                *end -= left;
+                *channel = Channel { state, held: 0, next: *end, left };
+                if start == end {
+                    free.pop();
+                }
+            }
+            (UNUSED | ENDED, _) => channel.state = state,
+            _ => {}
+        }
+    }
+    let used = transfer.channels.iter().filter(|channel| channel.state != UNUSED).count();
+    if random.one_in(2) {
+        transfer.count = *random.pick(&[used.max(1), random.between(used.max(1), CHANNELS)]) as u64;
+    }
+    if random.one_in(8) {
+        (transfer.fault, transfer.on) = (random.between(11, 20) as u64, random.below(CHANNELS) as u64);
+    }
+}
+
+/// A header whose range begins and stops near ends of claimed ranges.
+fn header(ledger: &[u64], len: u64, random: &Random) -> [u8; 17] {
+    let used = ledger::used(ledger).as_flattened();
+    let edge = || match random.below(4) {
+        0 => len,
+        1 => random.size(len as usize) as u64,
+        _ if used.is_empty() => 0,
+        _ => *random.pick(used),
+    };
+    let (place, stop) = (edge(), edge());
+    let place = *random.pick(&[place, random.near(place)]);
+    let length = *random.pick(&[stop.wrapping_sub(place), random.size(9) as u64, 0, random.wild()]);
+    let (descriptor, length, place) = match random.below(5) {
+        0 => (*random.pick(&[64, 72, 76]), random.wild(), random.size(70) as u64),
+        1 => (random.byte(), length, place),
+        _ => (*random.pick(&[0, 8, 12, 32, 40, 44]), length, place),
+    };
+    let mut bytes = [descriptor; 17];
+    bytes[1..9].copy_from_slice(&length.to_be_bytes());
+    bytes[9..].copy_from_slice(&place.to_be_bytes());
+    bytes
+}
+
+/// What the channel has under way, then a few blocks, cut anywhere.
+fn piece(lent: &Lent, channel: usize, random: &Random) -> Vec<u8> {
+    let Lent { transfer, ledger, .. } = lent;
+    let Channel { held, left, .. } = transfer.channels[channel];
+    let mut piece = random.bytes(left.min(20_000) as usize);
+    for at in 0..random.between(1, 3) {
+        let header = header(ledger, transfer.len, random);
+        let skip = if at == 0 { usize::from(held).min(17) } else { 0 };
+        piece.extend(&header[skip..]);
+        let payload = u64::from_be_bytes(header[1..9].try_into().unwrap()).min(600) as usize;
+        piece.extend(random.bytes(payload));
+    }
+    if random.one_in(3) {
+        piece.truncate(random.size(piece.len()));
+    }
+    piece
+}

@@ -1,0 +1,58 @@
+//! What a careless host could do to what it lends.
+
+use super::both::Lent;
+use super::random::Random;
+use super::second::ledger;
+use super::second::receiver::{Channel, Transfer, CHANNELS};
+
+pub fn harm(lent: &mut Lent, random: &Random) {
+    match random.below(8) {
+        0 | 1 => harm_entry(&mut lent.ledger, random),
+        2 => harm_lengths(lent, random),
+        3 => harm_numbers(&mut lent.transfer, random),
+        4 => lent.transfer.heads[random.below(CHANNELS)][random.below(16)] ^= 1 << random.below(8),
+        5 => copy_channel(&mut lent.transfer, random),
+        _ => harm_channel(&mut lent.transfer, random),
+    }
+}
+
+/// Changes an entry of the used pairs or close behind them.
+pub fn harm_entry(ledger: &mut [u64], random: &Random) {
+    let reach = (2 * ledger::used(ledger).len() + 4).min(ledger.len());
+    if reach > 0 {
+        let entry = &mut ledger[random.below(reach)];
+        *entry = *random.pick(&[0, random.near(*entry), random.wild()]);
+    }
+}
+
+fn harm_lengths(lent: &mut Lent, random: &Random) {
+    let Lent { file, ledger, .. } = lent;
+    match random.below(4) {
+        0 => file.resize(random.near(file.len() as u64).min(70_000) as usize, 0),
+        1 => file.truncate(random.size(file.len())),
+        2 => ledger.resize(random.near(ledger.len() as u64).min(9_000) as usize, 0),
+        _ => ledger.truncate(random.size(ledger.len())),
+    }
+}
+
+fn harm_numbers(transfer: &mut Transfer, random: &Random) {
+    let Transfer { len, pairs, count, fault, on, .. } = transfer;
+    let number = [len, pairs, count, fault, on].into_iter().nth(random.below(5)).unwrap();
+    *number = *random.pick(&[random.near(*number), random.below(70) as u64, random.wild()]);
+}
+
+/// Two channels that are in the same payload.
+fn copy_channel(transfer: &mut Transfer, random: &Random) {
+    transfer.channels[random.below(CHANNELS)] = transfer.channels[random.below(CHANNELS)];
+}
+
+fn harm_channel(transfer: &mut Transfer, random: &Random) {
+    let Channel { state, held, next, left } = &mut transfer.channels[random.below(CHANNELS)];
+    match random.below(6) {
+        0 | 1 => *state = random.below(7) as u8,
+        2 => *held = *random.pick(&[random.below(20) as u8, random.byte()]),
+        3 => *next = *random.pick(&[random.near(*next), random.wild()]),
+        4 => *left = *random.pick(&[0, random.near(*left), random.wild()]),
+        _ => (*next, *left) = (random.wild(), random.wild()),
+    }
+}
