@@ -1,0 +1,23 @@
+-- `calls::cob_screen_line`.
+use mathlib.Core.Path.{ap, _∙_}
+use Rattle.screen.specs.Screen.{lineBytes, lineNumber}
+use borrow.Author.Needs.{needs}
+use Rattle.host.proofs.calls.cob_screen_line.Statement.{statement}
+use Rattle.host.proofs.calls.cob_screen_line.Tie as tie
+
+write-requires : tie.Need-write-requires
+write-requires c κs = search needs
+
+written-requires : tie.Need-written-requires
+written-requires c κs = search needs
+
+same-length : tie.Need-same-length
+same-length c = search needs
+
+returns : tie.Need-returns
+returns c =
+    let w = c .before .before .before .write .ensures in
+    (c .written .ensures .0 ∙ ap lineBytes (w .0), c .written .ensures .1 ∙ ap lineNumber (w .0), w .1)
+
+pub cob-screen-line-spec : {M : Type 1} → statement M
+cob-screen-line-spec = tie.close (tie.spec write-requires written-requires same-length returns)
