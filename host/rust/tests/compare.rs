@@ -56,7 +56,9 @@ impl Drop for Round {
         if std::thread::panicking() {
             let Round { seed, round } = self;
             let alone = seed.wrapping_add(*round);
-            println!("seed {seed}, round {round}: again by COBNUTTER_SEED={alone} COBNUTTER_ROUNDS=1");
+            println!(
+                "seed {seed}, round {round}: again by COBNUTTER_SEED={alone} COBNUTTER_ROUNDS=1"
+            );
         }
     }
 }
@@ -67,7 +69,10 @@ fn setting(name: &str, or: u64) -> u64 {
 
 #[test]
 fn the_two_agree() {
-    let (seed, rounds) = (setting("COBNUTTER_SEED", SEED), setting("COBNUTTER_ROUNDS", ROUNDS));
+    let (seed, rounds) = (
+        setting("COBNUTTER_SEED", SEED),
+        setting("COBNUTTER_ROUNDS", ROUNDS),
+    );
     let mut seen = Seen::default();
     for round in 0..rounds {
         let _named = Round { seed, round };

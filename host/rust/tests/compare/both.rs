@@ -26,8 +26,17 @@ pub const FILL: u8 = 0xee;
 
 impl<'a> Both<'a> {
     pub fn of(lent: Lent, random: &'a Random, seen: &'a mut Seen) -> Both<'a> {
-        let library = (library::to_raw(&lent.transfer), lent.file.clone(), lent.ledger.clone());
-        let mut both = Both { random, seen, second: lent, library };
+        let library = (
+            library::to_raw(&lent.transfer),
+            lent.file.clone(),
+            lent.ledger.clone(),
+        );
+        let mut both = Both {
+            random,
+            seen,
+            second: lent,
+            library,
+        };
         both.compare();
         both
     }
@@ -37,7 +46,15 @@ impl<'a> Both<'a> {
         let file = random.bytes(len);
         let ledger = (0..entries).map(|_| random.next()).collect();
         let transfer = Transfer::fresh(0, 0);
-        let mut both = Both::of(Lent { transfer, file, ledger }, random, seen);
+        let mut both = Both::of(
+            Lent {
+                transfer,
+                file,
+                ledger,
+            },
+            random,
+            seen,
+        );
         both.restart(len as u64);
         both
     }
@@ -55,7 +72,11 @@ impl<'a> Both<'a> {
 
     pub fn receive(&mut self, channel: u64, piece: &[u8]) -> Answer<usize> {
         let before = self.second.transfer.fault;
-        let Lent { transfer, file, ledger } = &mut self.second;
+        let Lent {
+            transfer,
+            file,
+            ledger,
+        } = &mut self.second;
         let mine = transfer.receive(channel, piece, file, ledger);
         let (transfer, file, ledger) = &mut self.library;
         let theirs = library::receive(transfer, channel, piece, file, ledger);
@@ -77,7 +98,11 @@ impl<'a> Both<'a> {
     }
 
     pub fn lend(&mut self, lent: Lent) {
-        self.library = (library::to_raw(&lent.transfer), lent.file.clone(), lent.ledger.clone());
+        self.library = (
+            library::to_raw(&lent.transfer),
+            lent.file.clone(),
+            lent.ledger.clone(),
+        );
         self.second = lent;
         self.compare();
     }
@@ -91,7 +116,11 @@ impl<'a> Both<'a> {
     }
 
     fn compare(&mut self) {
-        let Lent { transfer, file, ledger } = &self.second;
+        let Lent {
+            transfer,
+            file,
+            ledger,
+        } = &self.second;
         assert_eq!(self.library.0, library::to_raw(transfer));
         assert!(self.library.1 == *file, "the files differ");
         assert!(self.library.2 == *ledger, "the ledgers differ");
@@ -103,12 +132,19 @@ impl<'a> Both<'a> {
     }
 
     fn compare_screen_lines(&mut self) {
-        let Lent { transfer, ledger, .. } = &self.second;
+        let Lent {
+            transfer, ledger, ..
+        } = &self.second;
         let needed = screen::line(transfer, ledger).map_or(0, |line| line.len());
-        let size = *self.random.pick(&[needed + 3, needed, needed.saturating_sub(1)]);
+        let size = *self
+            .random
+            .pick(&[needed + 3, needed, needed.saturating_sub(1)]);
         let (mut mine, mut theirs) = (vec![FILL; size], vec![FILL; size]);
         let answer = screen::write(transfer, ledger, &mut mine);
-        assert_eq!(library::screen_line(&self.library.0, ledger, &mut theirs), answer);
+        assert_eq!(
+            library::screen_line(&self.library.0, ledger, &mut theirs),
+            answer
+        );
         assert_eq!(theirs, mine);
         self.seen.note("screen line", &answer);
     }

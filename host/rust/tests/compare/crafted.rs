@@ -4,7 +4,9 @@ use super::both::{Both, Lent};
 use super::harm::harm;
 use super::random::Random;
 use super::second::ledger::{self, MOST_ENTRIES};
-use super::second::receiver::{Channel, Transfer, CHANNELS, ENDED, HEADER, LAST_PAYLOAD, PAYLOAD, UNUSED};
+use super::second::receiver::{
+    Channel, Transfer, CHANNELS, ENDED, HEADER, LAST_PAYLOAD, PAYLOAD, UNUSED,
+};
 use super::seen::Seen;
 
 pub fn few_calls(random: &Random, seen: &mut Seen) {
@@ -22,7 +24,10 @@ pub fn few_calls(random: &Random, seen: &mut Seen) {
 
 /// A start over a ledger of any length.
 pub fn start(random: &Random, seen: &mut Seen) {
-    let entries = *random.pick(&[random.size(20), random.between(MOST_ENTRIES - 2, MOST_ENTRIES + 2)]);
+    let entries = *random.pick(&[
+        random.size(20),
+        random.between(MOST_ENTRIES - 2, MOST_ENTRIES + 2),
+    ]);
     let len = random.size(100);
     let mut both = Both::start(len, entries, random, seen);
     let _ = both.receive(0, &[0]);
@@ -35,15 +40,27 @@ fn lent(random: &Random) -> Lent {
     // Far from 0 no file can be lent: there the screen line and the stored bytes are left to compare.
     let far = random.one_in(4);
     let span = *random.pick(&[random.size(200), random.size(17_000)]) as u64;
-    let (from, len) = if far { (u64::MAX - span, u64::MAX - random.below(2) as u64) } else { (0, span) };
+    let (from, len) = if far {
+        (u64::MAX - span, u64::MAX - random.below(2) as u64)
+    } else {
+        (0, span)
+    };
     let entries = rising(from, len, random);
     let room = *random.pick(&[0, 2, 4, random.size(MOST_ENTRIES)]);
     let mut ledger = entries.clone();
     ledger.resize((entries.len() + room / 2 * 2).min(MOST_ENTRIES), 0);
-    let file = if far { Vec::new() } else { random.bytes(len as usize) };
+    let file = if far {
+        Vec::new()
+    } else {
+        random.bytes(len as usize)
+    };
     let mut transfer = Transfer::fresh(len, ledger.len() as u64 / 2);
     use_channels(&mut transfer, &ledger, random);
-    Lent { transfer, file, ledger }
+    Lent {
+        transfer,
+        file,
+        ledger,
+    }
 }
 
 /// Entries of a ledger between two places.
@@ -73,13 +90,23 @@ fn use_channels(transfer: &mut Transfer, ledger: &[u64], random: &Random) {
         match (state, free.last_mut()) {
             (HEADER, _) => {
                 let held = random.size(16);
-                transfer.heads[at][..held].copy_from_slice(&header(ledger, transfer.len, random)[..held]);
-                *channel = Channel { state, held: held as u8, ..Channel::default() };
+                transfer.heads[at][..held]
+                    .copy_from_slice(&header(ledger, transfer.len, random)[..held]);
+                *channel = Channel {
+                    state,
+                    held: held as u8,
+                    ..Channel::default()
+                };
             }
             (PAYLOAD | LAST_PAYLOAD, Some([start, end])) => {
                 let left = 1 + random.size((*end - *start - 1) as usize) as u64;
                 *end -= left;
-                *channel = Channel { state, held: 0, next: *end, left };
+                *channel = Channel {
+                    state,
+                    held: 0,
+                    next: *end,
+                    left,
+                };
                 if start == end {
                     free.pop();
                 }
@@ -88,12 +115,17 @@ fn use_channels(transfer: &mut Transfer, ledger: &[u64], random: &Random) {
             _ => {}
         }
     }
-    let used = transfer.channels.iter().filter(|channel| channel.state != UNUSED).count();
+    let used = transfer
+        .channels
+        .iter()
+        .filter(|channel| channel.state != UNUSED)
+        .count();
     if random.one_in(2) {
         transfer.count = *random.pick(&[used.max(1), random.between(used.max(1), CHANNELS)]) as u64;
     }
     if random.one_in(8) {
-        (transfer.fault, transfer.on) = (random.between(11, 20) as u64, random.below(CHANNELS) as u64);
+        (transfer.fault, transfer.on) =
+            (random.between(11, 20) as u64, random.below(CHANNELS) as u64);
     }
 }
 
@@ -108,9 +140,18 @@ fn header(ledger: &[u64], len: u64, random: &Random) -> [u8; 17] {
     };
     let (place, stop) = (edge(), edge());
     let place = *random.pick(&[place, random.near(place)]);
-    let length = *random.pick(&[stop.wrapping_sub(place), random.size(9) as u64, 0, random.wild()]);
+    let length = *random.pick(&[
+        stop.wrapping_sub(place),
+        random.size(9) as u64,
+        0,
+        random.wild(),
+    ]);
     let (descriptor, length, place) = match random.below(5) {
-        0 => (*random.pick(&[64, 72, 76]), random.wild(), random.size(70) as u64),
+        0 => (
+            *random.pick(&[64, 72, 76]),
+            random.wild(),
+            random.size(70) as u64,
+        ),
         1 => (random.byte(), length, place),
         _ => (*random.pick(&[0, 8, 12, 32, 40, 44]), length, place),
     };
@@ -122,12 +163,18 @@ fn header(ledger: &[u64], len: u64, random: &Random) -> [u8; 17] {
 
 /// What the channel has under way, then a few blocks, cut anywhere.
 fn piece(lent: &Lent, channel: usize, random: &Random) -> Vec<u8> {
-    let Lent { transfer, ledger, .. } = lent;
+    let Lent {
+        transfer, ledger, ..
+    } = lent;
     let Channel { held, left, .. } = transfer.channels[channel];
     let mut piece = random.bytes(left.min(20_000) as usize);
     for at in 0..random.between(1, 3) {
         let header = header(ledger, transfer.len, random);
-        let skip = if at == 0 { usize::from(held).min(17) } else { 0 };
+        let skip = if at == 0 {
+            usize::from(held).min(17)
+        } else {
+            0
+        };
         piece.extend(&header[skip..]);
         let payload = u64::from_be_bytes(header[1..9].try_into().unwrap()).min(600) as usize;
         piece.extend(random.bytes(payload));

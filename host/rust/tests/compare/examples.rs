@@ -14,15 +14,24 @@ struct World {
 impl World {
     fn start(len: usize) -> World {
         let mut ledger = vec![7; 8];
-        World { transfer: Transfer::start(len as u64, &mut ledger).unwrap(), file: vec![0; len], ledger }
+        World {
+            transfer: Transfer::start(len as u64, &mut ledger).unwrap(),
+            file: vec![0; len],
+            ledger,
+        }
     }
 
     /// A block's header and what follows it, as one piece.
     fn send(&mut self, channel: u64, header: [u64; 3], payload: &str) -> Answer<(Verdict, usize)> {
         let [descriptor, length, place] = header;
-        let header = Header { descriptor: descriptor as u8, length, place };
+        let header = Header {
+            descriptor: descriptor as u8,
+            length,
+            place,
+        };
         let piece = [&header.to_bytes(), payload.as_bytes()].concat();
-        self.transfer.receive(channel, &piece, &mut self.file, &mut self.ledger)
+        self.transfer
+            .receive(channel, &piece, &mut self.file, &mut self.ledger)
     }
 
     fn screen_line(&self) -> String {
@@ -39,14 +48,32 @@ fn fault_of(header: [u64; 3]) -> u64 {
 
 #[test]
 fn headers() {
-    let data = Header { descriptor: 8, length: 5, place: 256 };
-    assert_eq!(data.to_bytes(), [8, 0, 0, 0, 0, 0, 0, 0, 5, 0, 0, 0, 0, 0, 0, 1, 0]);
+    let data = Header {
+        descriptor: 8,
+        length: 5,
+        place: 256,
+    };
+    assert_eq!(
+        data.to_bytes(),
+        [8, 0, 0, 0, 0, 0, 0, 0, 5, 0, 0, 0, 0, 0, 0, 1, 0]
+    );
     assert_eq!(block::read(&data.to_bytes()), Ok(data));
-    let eodc = Header { descriptor: 72, length: 9, place: 3 };
-    assert_eq!(eodc.to_bytes(), [72, 0, 0, 0, 0, 0, 0, 0, 0, 0, 0, 0, 0, 0, 0, 0, 3]);
+    let eodc = Header {
+        descriptor: 72,
+        length: 9,
+        place: 3,
+    };
+    assert_eq!(
+        eodc.to_bytes(),
+        [72, 0, 0, 0, 0, 0, 0, 0, 0, 0, 0, 0, 0, 0, 0, 0, 3]
+    );
     for (descriptor, fault) in [(17, 11), (144, 12), (4, 13), (96, 13), (76, 0)] {
         assert_eq!(fault_of([descriptor, 0, 1]), fault);
-        let header = Header { descriptor: descriptor as u8, length: 0, place: 1 };
+        let header = Header {
+            descriptor: descriptor as u8,
+            length: 0,
+            place: 1,
+        };
         assert_eq!(block::read(&header.to_bytes()).err().unwrap_or(0), fault);
         assert_eq!(block::write(header, &mut [0; 17]).err().unwrap_or(0), fault);
     }
@@ -54,10 +81,21 @@ fn headers() {
 
 #[test]
 fn accepted_descriptors() {
-    let accepts = |descriptor: &u8| Header { descriptor: *descriptor, length: 0, place: 1 }.judge_descriptor();
-    let accepted: Vec<u8> = (0..=255).filter(|descriptor| accepts(descriptor).is_ok()).collect();
+    let accepts = |descriptor: &u8| {
+        Header {
+            descriptor: *descriptor,
+            length: 0,
+            place: 1,
+        }
+        .judge_descriptor()
+    };
+    let accepted: Vec<u8> = (0..=255)
+        .filter(|descriptor| accepts(descriptor).is_ok())
+        .collect();
     assert_eq!(accepted, [0, 8, 12, 32, 40, 44, 64, 72, 76]);
-    let combined: Vec<u8> = (0..=255).filter(|descriptor| accepts(descriptor) == Err(13)).collect();
+    let combined: Vec<u8> = (0..=255)
+        .filter(|descriptor| accepts(descriptor) == Err(13))
+        .collect();
     assert_eq!(combined, [4, 36, 68, 96, 100, 104, 108]);
 }
 
@@ -121,8 +159,15 @@ fn lines() {
 
 #[test]
 fn saved_ledgers() {
-    let cases: [(&[u64], &[u8]); 2] =
-        [(&[0, 0], &[2, 0, 0, 0, 1, 0]), (&[0, 90], &[18, 0, 0, 0, 1, 0, 0, 0, 0, 0, 0, 0, 0, 0, 90, 0, 0, 0, 0, 0, 0, 0])];
+    let cases: [(&[u64], &[u8]); 2] = [
+        (&[0, 0], &[2, 0, 0, 0, 1, 0]),
+        (
+            &[0, 90],
+            &[
+                18, 0, 0, 0, 1, 0, 0, 0, 0, 0, 0, 0, 0, 0, 90, 0, 0, 0, 0, 0, 0, 0,
+            ],
+        ),
+    ];
     for (ledger, record) in cases {
         let mut out = vec![0; record.len()];
         assert_eq!(saved::write(ledger, &mut out), Ok(record.len()));

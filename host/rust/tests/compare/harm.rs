@@ -36,8 +36,18 @@ fn harm_lengths(lent: &mut Lent, random: &Random) {
 }
 
 fn harm_numbers(transfer: &mut Transfer, random: &Random) {
-    let Transfer { len, pairs, count, fault, on, .. } = transfer;
-    let number = [len, pairs, count, fault, on].into_iter().nth(random.below(5)).unwrap();
+    let Transfer {
+        len,
+        pairs,
+        count,
+        fault,
+        on,
+        ..
+    } = transfer;
+    let number = [len, pairs, count, fault, on]
+        .into_iter()
+        .nth(random.below(5))
+        .unwrap();
     *number = *random.pick(&[random.near(*number), random.below(70) as u64, random.wild()]);
 }
 
@@ -47,7 +57,12 @@ fn copy_channel(transfer: &mut Transfer, random: &Random) {
 }
 
 fn harm_channel(transfer: &mut Transfer, random: &Random) {
-    let Channel { state, held, next, left } = &mut transfer.channels[random.below(CHANNELS)];
+    let Channel {
+        state,
+        held,
+        next,
+        left,
+    } = &mut transfer.channels[random.below(CHANNELS)];
     match random.below(6) {
         0 | 1 => *state = random.below(7) as u8,
         2 => *held = *random.pick(&[random.below(20) as u8, random.byte()]),

@@ -19,7 +19,15 @@ fn written(answer: raw::Written) -> Answer<usize> {
 }
 
 pub fn to_raw(transfer: &Transfer) -> raw::Transfer {
-    let Transfer { len, pairs, count, fault, on, heads, channels } = *transfer;
+    let Transfer {
+        len,
+        pairs,
+        count,
+        fault,
+        on,
+        heads,
+        channels,
+    } = *transfer;
     raw::Transfer {
         len,
         pairs,
@@ -27,7 +35,19 @@ pub fn to_raw(transfer: &Transfer) -> raw::Transfer {
         fault,
         on,
         heads: heads.as_flattened().try_into().unwrap(),
-        channels: channels.map(|Channel { state, held, next, left }| raw::Channel { state, held, next, left }),
+        channels: channels.map(
+            |Channel {
+                 state,
+                 held,
+                 next,
+                 left,
+             }| raw::Channel {
+                state,
+                held,
+                next,
+                left,
+            },
+        ),
     }
 }
 
@@ -62,7 +82,10 @@ pub fn receive(
     };
     assert!(received.refused == 0 || received.taken == 0);
     *transfer = received.transfer;
-    unless(received.refused, (to_verdict(received.verdict), received.taken))
+    unless(
+        received.refused,
+        (to_verdict(received.verdict), received.taken),
+    )
 }
 
 pub fn verdict(transfer: &raw::Transfer) -> Verdict {
@@ -75,25 +98,53 @@ pub fn stored(transfer: &raw::Transfer, ledger: &[u64]) -> u64 {
 
 pub fn screen_line(transfer: &raw::Transfer, ledger: &[u64], out: &mut [u8]) -> Answer<usize> {
     written(unsafe {
-        raw::cob_screen_line(*transfer, ledger.as_ptr(), ledger.len(), out.as_mut_ptr(), out.len())
+        raw::cob_screen_line(
+            *transfer,
+            ledger.as_ptr(),
+            ledger.len(),
+            out.as_mut_ptr(),
+            out.len(),
+        )
     })
 }
 
 pub fn header_read(bytes: &[u8]) -> Answer<Header> {
     let fields = unsafe { raw::cob_header_read(bytes.as_ptr(), bytes.len()) };
-    let raw::Fields { length, third, descriptor, is_eodc, refused } = fields;
+    let raw::Fields {
+        length,
+        third,
+        descriptor,
+        is_eodc,
+        refused,
+    } = fields;
     assert_eq!(is_eodc == 1, refused == 0 && descriptor & 64 != 0);
-    unless(refused, Header { descriptor, length, place: third })
+    unless(
+        refused,
+        Header {
+            descriptor,
+            length,
+            place: third,
+        },
+    )
 }
 
 pub fn header_write(header: Header, out: &mut [u8]) -> Answer<usize> {
-    let Header { descriptor, length, place } = header;
-    written(unsafe { raw::cob_header_write(descriptor, length, place, out.as_mut_ptr(), out.len()) })
+    let Header {
+        descriptor,
+        length,
+        place,
+    } = header;
+    written(unsafe {
+        raw::cob_header_write(descriptor, length, place, out.as_mut_ptr(), out.len())
+    })
 }
 
 pub fn line(line: &[u8]) -> Answer<(u64, &[u8])> {
     let command = unsafe { raw::cob_line_read(line.as_ptr(), line.len()) };
-    unless(command.refused, (command.verb.into(), &line[command.from..command.to]))
+    unless(
+        command.refused,
+        (command.verb.into(), &line[command.from..command.to]),
+    )
 }
 
 pub fn reply_class(code: u16) -> Answer<u64> {
@@ -103,19 +154,26 @@ pub fn reply_class(code: u16) -> Answer<u64> {
 
 pub fn hosts(argument: &[u8], list: &mut [u64]) -> Answer<usize> {
     let hosts = unsafe {
-        raw::cob_hosts_read(argument.as_ptr(), argument.len(), list.as_mut_ptr(), list.len())
+        raw::cob_hosts_read(
+            argument.as_ptr(),
+            argument.len(),
+            list.as_mut_ptr(),
+            list.len(),
+        )
     };
     unless(hosts.refused, hosts.count)
 }
 
 pub fn host_at(text: &[u8], at: usize) -> Option<(u64, usize)> {
-    let raw::Found { value, next, found } = unsafe { raw::cob_host_at(text.as_ptr(), text.len(), at) };
+    let raw::Found { value, next, found } =
+        unsafe { raw::cob_host_at(text.as_ptr(), text.len(), at) };
     (found == 1).then_some((value, next))
 }
 
 pub fn ranges_read(text: &[u8], ledger: &mut [u64]) -> Answer<()> {
-    let refused =
-        unsafe { raw::cob_ranges_read(text.as_ptr(), text.len(), ledger.as_mut_ptr(), ledger.len()) };
+    let refused = unsafe {
+        raw::cob_ranges_read(text.as_ptr(), text.len(), ledger.as_mut_ptr(), ledger.len())
+    };
     unless(refused, ())
 }
 
@@ -126,8 +184,14 @@ pub fn ranges_write(ledger: &[u64], out: &mut [u8]) -> Answer<usize> {
 }
 
 pub fn saved_read(record: &[u8], ledger: &mut [u64]) -> Answer<()> {
-    let refused =
-        unsafe { raw::cob_saved_read(record.as_ptr(), record.len(), ledger.as_mut_ptr(), ledger.len()) };
+    let refused = unsafe {
+        raw::cob_saved_read(
+            record.as_ptr(),
+            record.len(),
+            ledger.as_mut_ptr(),
+            ledger.len(),
+        )
+    };
     unless(refused, ())
 }
 

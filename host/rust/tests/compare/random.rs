@@ -38,7 +38,9 @@ impl Random {
     pub fn size(&self, most: usize) -> usize {
         let bits = usize::BITS - most.leading_zeros();
         let shift = self.below(bits as usize + 1) as u32;
-        self.below(most.saturating_add(1)).checked_shr(shift).unwrap_or(0)
+        self.below(most.saturating_add(1))
+            .checked_shr(shift)
+            .unwrap_or(0)
     }
 
     pub fn one_in(&self, chances: usize) -> bool {

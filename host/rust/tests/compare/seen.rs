@@ -35,8 +35,10 @@ impl Seen {
 
     pub fn print(&self) {
         for (entry, numbers) in ENTRIES {
-            let counts: Vec<String> =
-                numbers.iter().map(|number| format!("{number}: {}", self.count(entry, *number))).collect();
+            let counts: Vec<String> = numbers
+                .iter()
+                .map(|number| format!("{number}: {}", self.count(entry, *number)))
+                .collect();
             println!("{entry:13}{}", counts.join(", "));
         }
         println!("fault 20: unreachable, {}", self.count("fault", 20));
@@ -44,7 +46,10 @@ impl Seen {
 
     /// The numbers that an entry can give and never gave.
     pub fn missing(&self) -> Vec<(&'static str, u64)> {
-        let all = ENTRIES.iter().flat_map(|(entry, numbers)| numbers.iter().map(|number| (*entry, *number)));
-        all.filter(|(entry, number)| self.count(entry, *number) == 0).collect()
+        let all = ENTRIES
+            .iter()
+            .flat_map(|(entry, numbers)| numbers.iter().map(|number| (*entry, *number)));
+        all.filter(|(entry, number)| self.count(entry, *number) == 0)
+            .collect()
     }
 }

@@ -25,7 +25,14 @@ pub struct Sending {
 
 impl Block {
     fn data(place: u64, payload: Vec<u8>) -> Block {
-        Block { header: Header { descriptor: 0, length: payload.len() as u64, place }, payload }
+        Block {
+            header: Header {
+                descriptor: 0,
+                length: payload.len() as u64,
+                place,
+            },
+            payload,
+        }
     }
 
     fn empty(random: &Random) -> Block {
@@ -33,7 +40,14 @@ impl Block {
     }
 
     fn eodc(count: u64, random: &Random) -> Block {
-        Block { header: Header { descriptor: 64, length: random.wild(), place: count }, payload: Vec::new() }
+        Block {
+            header: Header {
+                descriptor: 64,
+                length: random.wild(),
+                place: count,
+            },
+            payload: Vec::new(),
+        }
     }
 
     fn is_eodc(&self) -> bool {
@@ -108,15 +122,26 @@ impl Sending {
                 let other = self.any_block(random).header.place;
                 self.any_block(random).header.place = other;
             }
-            3 => self.eodc().header.place = *random.pick(&[0, 65, 64, count - 1, count + 1, random.wild()]),
+            3 => {
+                self.eodc().header.place =
+                    *random.pick(&[0, 65, 64, count - 1, count + 1, random.wild()])
+            }
             _ => {
                 let len = self.len as u64;
                 let header = &mut self.any_block(random).header;
                 match random.below(5) {
                     0 => header.descriptor = random.byte(),
                     1 => header.descriptor ^= 1 << random.below(8),
-                    2 => header.length = *random.pick(&[random.near(header.length), random.near(len), random.wild()]),
-                    3 => header.place = *random.pick(&[random.near(header.place), random.near(len)]),
+                    2 => {
+                        header.length = *random.pick(&[
+                            random.near(header.length),
+                            random.near(len),
+                            random.wild(),
+                        ])
+                    }
+                    3 => {
+                        header.place = *random.pick(&[random.near(header.place), random.near(len)])
+                    }
                     _ => header.place = random.wild(),
                 }
             }
@@ -131,7 +156,9 @@ impl Sending {
 
     fn eodc(&mut self) -> &mut Block {
         let mut blocks = self.lanes.iter_mut().flat_map(|lane| &mut lane.blocks);
-        blocks.find(|block| block.header.descriptor & 64 != 0).unwrap()
+        blocks
+            .find(|block| block.header.descriptor & 64 != 0)
+            .unwrap()
     }
 }
 
@@ -139,7 +166,13 @@ fn empty_lanes(random: &Random) -> Vec<Lane> {
     let mut channels: Vec<u64> = (0..CHANNELS as u64).collect();
     random.shuffle(&mut channels);
     channels.truncate(random.size(CHANNELS).max(1));
-    channels.into_iter().map(|channel| Lane { channel, blocks: Vec::new() }).collect()
+    channels
+        .into_iter()
+        .map(|channel| Lane {
+            channel,
+            blocks: Vec::new(),
+        })
+        .collect()
 }
 
 /// Payloads side by side, some left out.

@@ -16,7 +16,11 @@ struct Stream {
 
 impl Stream {
     fn of(lane: &Lane) -> Stream {
-        Stream { channel: lane.channel, bytes: lane.bytes(), taken: 0 }
+        Stream {
+            channel: lane.channel,
+            bytes: lane.bytes(),
+            taken: 0,
+        }
     }
 
     fn rest(&self) -> &[u8] {
@@ -52,7 +56,10 @@ pub fn cached(random: &Random, seen: &mut Seen) {
     let mut streams: Vec<Stream> = first.lanes.iter().map(Stream::of).collect();
     let mut later = Vec::new();
     for lane in &second.lanes {
-        match streams.iter_mut().find(|stream| stream.channel == lane.channel) {
+        match streams
+            .iter_mut()
+            .find(|stream| stream.channel == lane.channel)
+        {
             Some(stream) => stream.bytes.extend(lane.bytes()),
             None => later.push(Stream::of(lane)),
         }
@@ -73,9 +80,17 @@ pub fn cached(random: &Random, seen: &mut Seen) {
 /// Demand 3 for the arrival of a well-formed sending.
 fn assert_whole(both: &Both, sending: &Sending) {
     assert_eq!(both.verdict(), Verdict::Result);
-    for block in sending.lanes.iter().flat_map(|lane| &lane.blocks).filter(|block| !block.payload.is_empty()) {
+    for block in sending
+        .lanes
+        .iter()
+        .flat_map(|lane| &lane.blocks)
+        .filter(|block| !block.payload.is_empty())
+    {
         let place = block.header.place as usize;
-        assert_eq!(both.lent().file[place..][..block.payload.len()], block.payload);
+        assert_eq!(
+            both.lent().file[place..][..block.payload.len()],
+            block.payload
+        );
     }
 }
 
@@ -101,14 +116,19 @@ fn feed(both: &mut Both, streams: &mut [Stream]) {
     while both.verdict() == Verdict::Guess {
         let channels = &both.lent().transfer.channels;
         let open: Vec<usize> = (0..streams.len())
-            .filter(|at| !streams[*at].rest().is_empty() && channels[streams[*at].channel as usize].state != ENDED)
+            .filter(|at| {
+                !streams[*at].rest().is_empty()
+                    && channels[streams[*at].channel as usize].state != ENDED
+            })
             .collect();
         if open.is_empty() {
             break;
         }
         let stream = &mut streams[*both.random.pick(&open)];
         let length = both.random.size(longest.min(stream.rest().len()));
-        stream.taken += both.receive(stream.channel, &stream.rest()[..length]).unwrap();
+        stream.taken += both
+            .receive(stream.channel, &stream.rest()[..length])
+            .unwrap();
         if disturbed && both.random.one_in(6) {
             disturb(both);
         }
@@ -129,7 +149,12 @@ fn disturb(both: &mut Both) {
             let _ = both.receive(channel, &[]);
         }
         2 => {
-            let ended = both.lent().transfer.channels.iter().position(|channel| channel.state == ENDED);
+            let ended = both
+                .lent()
+                .transfer
+                .channels
+                .iter()
+                .position(|channel| channel.state == ENDED);
             if let Some(channel) = ended {
                 let _ = both.receive(channel as u64, &piece);
             }

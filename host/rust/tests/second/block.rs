@@ -21,7 +21,11 @@ impl Header {
         let number = |at: usize| u64::from_be_bytes(bytes[at..at + 8].try_into().unwrap());
         let descriptor = bytes[0];
         let length = if descriptor & EODC != 0 { 0 } else { number(1) };
-        Header { descriptor, length, place: number(9) }
+        Header {
+            descriptor,
+            length,
+            place: number(9),
+        }
     }
 
     pub fn to_bytes(self) -> [u8; LENGTH] {

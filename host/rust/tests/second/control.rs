@@ -2,8 +2,9 @@
 
 use super::Answer;
 
-pub const VERBS: [&str; 12] =
-    ["MODE", "PASV", "PORT", "REST", "RETR", "STOR", "SPAS", "SPOR", "ERET", "ESTO", "SBUF", "OPTS"];
+pub const VERBS: [&str; 12] = [
+    "MODE", "PASV", "PORT", "REST", "RETR", "STOR", "SPAS", "SPOR", "ERET", "ESTO", "SBUF", "OPTS",
+];
 const LONGEST_LINE: usize = 2_048;
 pub const MOST_HOSTS: usize = 64;
 
@@ -16,15 +17,25 @@ pub fn line(line: &[u8]) -> Answer<(u64, &[u8])> {
     if !text.iter().all(|byte| (32..=126).contains(byte)) {
         return Err(33);
     }
-    let letters = text.iter().take_while(|byte| byte.is_ascii_alphabetic()).count();
+    let letters = text
+        .iter()
+        .take_while(|byte| byte.is_ascii_alphabetic())
+        .count();
     let (verb, rest) = text.split_at(letters);
-    let number = VERBS.iter().position(|known| verb.eq_ignore_ascii_case(known.as_bytes())).ok_or(34u64)?;
+    let number = VERBS
+        .iter()
+        .position(|known| verb.eq_ignore_ascii_case(known.as_bytes()))
+        .ok_or(34u64)?;
     if rest.first().is_some_and(|byte| *byte != b' ') {
         return Err(34);
     }
     let alone = matches!(VERBS[number], "PASV" | "SPAS");
     let argument = &rest[rest.iter().take_while(|byte| **byte == b' ').count()..];
-    if if alone { !rest.is_empty() } else { argument.is_empty() } {
+    if if alone {
+        !rest.is_empty()
+    } else {
+        argument.is_empty()
+    } {
         return Err(35);
     }
     Ok((number as u64 + 1, argument))
@@ -75,7 +86,10 @@ pub fn host_at(text: &[u8], at: usize) -> Option<(u64, usize)> {
             place += 1;
         }
         let digits = text.get(place..)?;
-        let digits = &digits[..digits.iter().take_while(|byte| byte.is_ascii_digit()).count()];
+        let digits = &digits[..digits
+            .iter()
+            .take_while(|byte| byte.is_ascii_digit())
+            .count()];
         value = value * 256 + number(digits)?;
         place += digits.len();
     }
@@ -86,6 +100,8 @@ fn number(digits: &[u8]) -> Option<u64> {
     if !(1..=3).contains(&digits.len()) {
         return None;
     }
-    let value = digits.iter().fold(0, |value, digit| value * 10 + u64::from(digit - b'0'));
+    let value = digits
+        .iter()
+        .fold(0, |value, digit| value * 10 + u64::from(digit - b'0'));
     Some(value).filter(|value| *value <= 255)
 }

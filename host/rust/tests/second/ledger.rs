@@ -5,7 +5,7 @@ use super::Answer;
 pub const MOST_ENTRIES: usize = 8_192;
 
 pub fn is_sized(ledger: &[u64]) -> bool {
-    ledger.len() % 2 == 0 && ledger.len() <= MOST_ENTRIES
+    ledger.len().is_multiple_of(2) && ledger.len() <= MOST_ENTRIES
 }
 
 /// The used pairs of a ledger that obeys its rule: an end is above a start, so it is never 0.
@@ -17,7 +17,9 @@ pub fn used(ledger: &[u64]) -> &[[u64; 2]] {
 /// The ledger rule. Start before end and end before the next start make the used entries one rising run.
 pub fn obeys(ledger: &[u64]) -> bool {
     let (pairs, zeros) = ledger.split_at(2 * used(ledger).len());
-    let rising = pairs.windows(2).fold(true, |ok, two| ok & (two[0] < two[1]));
+    let rising = pairs
+        .windows(2)
+        .fold(true, |ok, two| ok & (two[0] < two[1]));
     rising && zeros.iter().fold(0, |any, entry| any | entry) == 0
 }
 
@@ -35,14 +37,18 @@ pub fn to_write(ledger: &[u64]) -> Answer<&[[u64; 2]]> {
 /// Saturates, for a ledger that breaks its rule.
 pub fn claimed(ledger: &[u64]) -> u64 {
     let (pairs, _) = ledger.as_chunks();
-    pairs.iter().fold(0, |sum: u64, [start, end]| sum.saturating_add(end.saturating_sub(*start)))
+    pairs.iter().fold(0, |sum: u64, [start, end]| {
+        sum.saturating_add(end.saturating_sub(*start))
+    })
 }
 
 /// Whether the places from `start` up to `end` lie inside one claimed range.
 pub fn covers(ledger: &[u64], start: u64, end: u64) -> bool {
     let pairs = used(ledger);
     let at = pairs.partition_point(|pair| pair[1] <= start);
-    pairs.get(at).is_some_and(|pair| pair[0] <= start && end <= pair[1])
+    pairs
+        .get(at)
+        .is_some_and(|pair| pair[0] <= start && end <= pair[1])
 }
 
 /// Claims the places from `start` up to `end`, or refuses by "One transfer": 17, then 18.

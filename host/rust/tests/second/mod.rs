@@ -3,6 +3,7 @@
 
 pub mod block;
 pub mod control;
+mod fit;
 pub mod ledger;
 pub mod ranges;
 pub mod receiver;
@@ -13,6 +14,8 @@ pub type Answer<T> = Result<T, u64>;
 
 /// Writes all of `bytes` to the front of `out`, or nothing.
 fn put(bytes: &[u8], out: &mut [u8]) -> Answer<usize> {
-    out.get_mut(..bytes.len()).ok_or(55u64)?.copy_from_slice(bytes);
+    out.get_mut(..bytes.len())
+        .ok_or(55u64)?
+        .copy_from_slice(bytes);
     Ok(bytes.len())
 }

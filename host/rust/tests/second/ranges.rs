@@ -48,7 +48,9 @@ fn number(digits: &[u8]) -> Answer<u128> {
     if !(1..=20).contains(&digits.len()) || !digits.iter().all(u8::is_ascii_digit) {
         return Err(51);
     }
-    Ok(digits.iter().fold(0, |value, digit| value * 10 + u128::from(digit - b'0')))
+    Ok(digits
+        .iter()
+        .fold(0, |value, digit| value * 10 + u128::from(digit - b'0')))
 }
 
 pub fn write(ledger: &[u64], out: &mut [u8]) -> Answer<usize> {
@@ -56,6 +58,9 @@ pub fn write(ledger: &[u64], out: &mut [u8]) -> Answer<usize> {
     if pairs.is_empty() {
         return Err(54);
     }
-    let words: Vec<String> = pairs.iter().map(|[start, end]| format!("{start}-{}", end - 1)).collect();
+    let words: Vec<String> = pairs
+        .iter()
+        .map(|[start, end]| format!("{start}-{}", end - 1))
+        .collect();
     put(words.join(",").as_bytes(), out)
 }

@@ -1,10 +1,10 @@
-//! "One transfer": start, receive, the verdict and FIT.
+//! "One transfer": start, receive and the verdict.
 
 use super::block::{self, Header};
 use super::{ledger, Answer};
 
 pub const CHANNELS: usize = 64;
-const HOLDS: usize = block::LENGTH - 1;
+pub const HOLDS: usize = block::LENGTH - 1;
 
 pub const UNUSED: u8 = 0;
 pub const HEADER: u8 = 1;
@@ -106,21 +106,36 @@ impl Transfer {
     }
 
     pub fn ended(&self) -> u64 {
-        self.channels.iter().filter(|channel| channel.state == ENDED).count() as u64
+        self.channels
+            .iter()
+            .filter(|channel| channel.state == ENDED)
+            .count() as u64
     }
 
-    fn used(&self) -> u64 {
-        self.channels.iter().filter(|channel| channel.state != UNUSED).count() as u64
+    pub fn used(&self) -> u64 {
+        self.channels
+            .iter()
+            .filter(|channel| channel.state != UNUSED)
+            .count() as u64
     }
 
     /// Stored bytes. Sums saturate, for a transfer and ledger that do not fit.
     pub fn stored(&self, ledger: &[u64]) -> u64 {
-        let left = self.channels.iter().fold(0, |sum: u64, channel| sum.saturating_add(channel.left));
+        let left = self
+            .channels
+            .iter()
+            .fold(0, |sum: u64, channel| sum.saturating_add(channel.left));
         ledger::claimed(ledger).saturating_sub(left)
     }
 
     /// Takes bytes from the front of `rest` until it is empty or the channel has ended. An `Err` is a peer's fault.
-    fn take(&mut self, at: usize, rest: &mut &[u8], file: &mut [u8], ledger: &mut [u64]) -> Answer<()> {
+    fn take(
+        &mut self,
+        at: usize,
+        rest: &mut &[u8],
+        file: &mut [u8],
+        ledger: &mut [u64],
+    ) -> Answer<()> {
         while !rest.is_empty() {
             match self.channels[at].state {
                 UNUSED if self.count != 0 && self.used() == self.count => return Err(19),
@@ -176,23 +191,46 @@ impl Transfer {
     }
 
     fn open_payload(&mut self, at: usize, header: Header, ledger: &mut [u64]) -> Answer<()> {
-        let end = header.place.checked_add(header.length).filter(|end| *end <= self.len).ok_or(16u64)?;
+        let end = header
+            .place
+            .checked_add(header.length)
+            .filter(|end| *end <= self.len)
+            .ok_or(16u64)?;
         ledger::claim(ledger, header.place, end)?;
-        let state = if header.is_last() { LAST_PAYLOAD } else { PAYLOAD };
-        self.channels[at] = Channel { state, held: 0, next: header.place, left: header.length };
+        let state = if header.is_last() {
+            LAST_PAYLOAD
+        } else {
+            PAYLOAD
+        };
+        self.channels[at] = Channel {
+            state,
+            held: 0,
+            next: header.place,
+            left: header.length,
+        };
         Ok(())
     }
 
     fn take_payload(&mut self, at: usize, rest: &mut &[u8], file: &mut [u8]) -> Answer<()> {
-        let Channel { state, next, left, .. } = self.channels[at];
-        let (now, later) = rest.split_at(rest.len().min(usize::try_from(left).unwrap_or(usize::MAX)));
+        let Channel {
+            state, next, left, ..
+        } = self.channels[at];
+        let (now, later) = rest.split_at(rest.len().min(left as usize));
         *rest = later;
         file[next as usize..][..now.len()].copy_from_slice(now);
         let taken = now.len() as u64;
         if taken < left {
-            self.channels[at] = Channel { state, held: 0, next: next + taken, left: left - taken };
+            self.channels[at] = Channel {
+                state,
+                held: 0,
+                next: next + taken,
+                left: left - taken,
+            };
         } else if state == PAYLOAD {
-            self.channels[at] = Channel { state: HEADER, ..Channel::default() };
+            self.channels[at] = Channel {
+                state: HEADER,
+                ..Channel::default()
+            };
         } else {
             self.end(at)?;
         }
@@ -204,62 +242,10 @@ impl Transfer {
         if self.count != 0 && self.ended() == self.count {
             return Err(20);
         }
-        self.channels[at] = Channel { state: ENDED, ..Channel::default() };
+        self.channels[at] = Channel {
+            state: ENDED,
+            ..Channel::default()
+        };
         Ok(())
-    }
-}
-
-/// FIT, without the file's length: the screen line is lent no file.
-impl Transfer {
-    pub fn fits(&self, ledger: &[u64]) -> bool {
-        self.ledger_fits(ledger) && self.channels_fit() && self.rests_fit(ledger) && self.count_fits() && self.fault_fits()
-    }
-
-    fn ledger_fits(&self, ledger: &[u64]) -> bool {
-        ledger::is_sized(ledger)
-            && ledger.len() as u64 / 2 == self.pairs
-            && ledger::obeys(ledger)
-            && ledger::used(ledger).last().is_none_or(|pair| pair[1] <= self.len)
-    }
-
-    fn channels_fit(&self) -> bool {
-        self.channels.iter().zip(&self.heads).all(|(channel, head)| {
-            let Channel { state, held, next, left } = *channel;
-            match state {
-                HEADER => next == 0 && left == 0 && head.get(held.into()..).is_some_and(|free| free.iter().all(|b| *b == 0)),
-                PAYLOAD | LAST_PAYLOAD => left > 0 && held == 0 && *head == [0; HOLDS],
-                UNUSED | ENDED => next == 0 && left == 0 && held == 0 && *head == [0; HOLDS],
-                _ => false,
-            }
-        })
-    }
-
-    /// Each payload's rest lies inside one claimed range, and no two share a byte.
-    fn rests_fit(&self, ledger: &[u64]) -> bool {
-        let mut rests = [(0, 0); CHANNELS];
-        let mut found = 0;
-        for channel in self.channels.iter().filter(|channel| channel.left > 0) {
-            let start = channel.next;
-            let Some(end) = start.checked_add(channel.left) else { return false };
-            let apart = rests[..found].iter().all(|&(from, to)| end <= from || to <= start);
-            if !apart || !ledger::covers(ledger, start, end) {
-                return false;
-            }
-            rests[found] = (start, end);
-            found += 1;
-        }
-        true
-    }
-
-    fn count_fits(&self) -> bool {
-        self.count == 0 || self.count <= CHANNELS as u64 && self.used() <= self.count
-    }
-
-    fn fault_fits(&self) -> bool {
-        match self.fault {
-            0 => self.on == 0,
-            11..=20 => self.on < CHANNELS as u64,
-            _ => false,
-        }
     }
 }

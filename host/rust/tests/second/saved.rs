@@ -17,9 +17,15 @@ pub fn read(record: &[u8], ledger: &mut [u64]) -> Answer<()> {
         return Err(62);
     }
     let (entries, cut) = body.as_chunks();
-    let entries: Vec<u64> = entries.iter().map(|bytes| u64::from_le_bytes(*bytes)).collect();
+    let entries: Vec<u64> = entries
+        .iter()
+        .map(|bytes| u64::from_le_bytes(*bytes))
+        .collect();
     // Rising entries are the ledger rule without unused pairs.
-    if !cut.is_empty() || entries.len() % 2 != 0 || !entries.is_sorted_by(|one, next| one < next) {
+    if !cut.is_empty()
+        || !entries.len().is_multiple_of(2)
+        || !entries.is_sorted_by(|one, next| one < next)
+    {
         return Err(63);
     }
     let (loaded, free) = ledger.split_at_mut_checked(entries.len()).ok_or(64u64)?;

@@ -7,7 +7,9 @@ pub fn line(transfer: &Transfer, ledger: &[u64]) -> Answer<String> {
     if !transfer.fits(ledger) {
         return Err(1);
     }
-    let Transfer { count, fault, on, .. } = *transfer;
+    let Transfer {
+        count, fault, on, ..
+    } = *transfer;
     let ended = transfer.ended();
     let word = match transfer.verdict() {
         Verdict::Broken => format!("BROKEN {fault} on {on}"),
