@@ -28,21 +28,22 @@ use random::Random;
 use seen::Seen;
 
 const SEED: u64 = 1;
-const ROUNDS: u64 = 4_000;
+const ROUNDS: u64 = 1_000;
 
-const KINDS: [fn(&Random, &mut Seen); 12] = [
-    sessions::one,
-    sessions::cached,
-    crafted::few_calls,
-    crafted::start,
-    texts::headers,
-    texts::lines,
-    texts::replies,
-    texts::hosts,
-    texts::range_texts,
-    texts::range_writing,
-    texts::saving,
-    texts::saved_records,
+/// Each with how often a round does it.
+const KINDS: [(fn(&Random, &mut Seen), usize); 12] = [
+    (sessions::one, 4),
+    (sessions::cached, 1),
+    (crafted::few_calls, 60),
+    (crafted::start, 2),
+    (texts::headers, 20),
+    (texts::lines, 20),
+    (texts::replies, 5),
+    (texts::hosts, 20),
+    (texts::range_texts, 20),
+    (texts::range_writing, 10),
+    (texts::saving, 10),
+    (texts::saved_records, 20),
 ];
 
 /// Says on failure how to run the round again.
@@ -77,8 +78,10 @@ fn the_two_agree() {
     for round in 0..rounds {
         let _named = Round { seed, round };
         let random = Random::new(seed.wrapping_add(round));
-        for kind in KINDS {
-            kind(&random, &mut seen);
+        for (kind, times) in KINDS {
+            for _ in 0..times {
+                kind(&random, &mut seen);
+            }
         }
     }
     seen.print();

@@ -39,7 +39,7 @@ pub fn start(random: &Random, seen: &mut Seen) {
 fn lent(random: &Random) -> Lent {
     // Far from 0 no file can be lent: there the screen line and the stored bytes are left to compare.
     let far = random.one_in(4);
-    let span = *random.pick(&[random.size(200), random.size(17_000)]) as u64;
+    let span = *random.pick(&[random.size(200), random.size(17_000), 17_000]) as u64;
     let (from, len) = if far {
         (u64::MAX - span, u64::MAX - random.below(2) as u64)
     } else {
@@ -68,7 +68,7 @@ pub fn rising(from: u64, to: u64, random: &Random) -> Vec<u64> {
     let most = *random.pick(&[random.size(40), random.size(MOST_ENTRIES), MOST_ENTRIES]);
     let step = *random.pick(&[0, 2, 30, 600]);
     let mut entries = Vec::new();
-    let mut place = Some(from + random.size(3) as u64);
+    let mut place = from.checked_add(random.size(3) as u64);
     while let Some(entry) = place.filter(|entry| *entry <= to && entries.len() < most) {
         entries.push(entry);
         place = entry.checked_add(1 + random.size(step) as u64);
@@ -140,13 +140,10 @@ fn header(ledger: &[u64], len: u64, random: &Random) -> [u8; 17] {
     };
     let (place, stop) = (edge(), edge());
     let place = *random.pick(&[place, random.near(place)]);
-    let length = *random.pick(&[
-        stop.wrapping_sub(place),
-        random.size(9) as u64,
-        0,
-        random.wild(),
-    ]);
-    let (descriptor, length, place) = match random.below(5) {
+    let gap = stop.wrapping_sub(place);
+    let small = random.size(60) as u64;
+    let length = *random.pick(&[gap, gap, small, small, 0, random.wild()]);
+    let (descriptor, length, place) = match random.below(8) {
         0 => (
             *random.pick(&[64, 72, 76]),
             random.wild(),

@@ -3,14 +3,17 @@
 use super::both::Lent;
 use super::random::Random;
 use super::second::ledger;
-use super::second::receiver::{Channel, Transfer, CHANNELS};
+use super::second::receiver::{Channel, Transfer, CHANNELS, UNUSED};
 
 pub fn harm(lent: &mut Lent, random: &Random) {
     match random.below(8) {
         0 | 1 => harm_entry(&mut lent.ledger, random),
         2 => harm_lengths(lent, random),
         3 => harm_numbers(&mut lent.transfer, random),
-        4 => lent.transfer.heads[random.below(CHANNELS)][random.below(16)] ^= 1 << random.below(8),
+        4 => {
+            lent.transfer.heads[any_channel(&lent.transfer, random)][random.below(16)] ^=
+                1 << random.below(8)
+        }
         5 => copy_channel(&mut lent.transfer, random),
         _ => harm_channel(&mut lent.transfer, random),
     }
@@ -53,7 +56,20 @@ fn harm_numbers(transfer: &mut Transfer, random: &Random) {
 
 /// Two channels that are in the same payload.
 fn copy_channel(transfer: &mut Transfer, random: &Random) {
-    transfer.channels[random.below(CHANNELS)] = transfer.channels[random.below(CHANNELS)];
+    let from = any_channel(transfer, random);
+    transfer.channels[any_channel(transfer, random)] = transfer.channels[from];
+}
+
+/// Half of the time a used one, if there is any.
+fn any_channel(transfer: &Transfer, random: &Random) -> usize {
+    let used: Vec<usize> = (0..CHANNELS)
+        .filter(|at| transfer.channels[*at].state != UNUSED)
+        .collect();
+    if used.is_empty() || random.one_in(2) {
+        random.below(CHANNELS)
+    } else {
+        *random.pick(&used)
+    }
 }
 
 fn harm_channel(transfer: &mut Transfer, random: &Random) {
@@ -62,7 +78,7 @@ fn harm_channel(transfer: &mut Transfer, random: &Random) {
         held,
         next,
         left,
-    } = &mut transfer.channels[random.below(CHANNELS)];
+    } = &mut transfer.channels[any_channel(transfer, random)];
     match random.below(6) {
         0 | 1 => *state = random.below(7) as u8,
         2 => *held = *random.pick(&[random.below(20) as u8, random.byte()]),

@@ -4,7 +4,7 @@ use super::random::Random;
 use super::second::block::Header;
 use super::second::receiver::CHANNELS;
 
-const LONGEST_FILE: usize = 6_000;
+const LONGEST_FILE: usize = 3_000;
 
 pub struct Block {
     pub header: Header,

@@ -15,14 +15,15 @@ pub fn headers(random: &Random, seen: &mut Seen) {
     let length = *random.pick(&[17, 17, 17, 16, 18, random.size(40)]);
     let mut bytes = random.bytes(length);
     if length > 9 && random.one_in(2) {
+        bytes[0] = descriptor(random);
         bytes[9..].fill(0);
-        bytes[length - 1] = random.byte() & 127;
+        bytes[length - 1] = random.size(70) as u8;
     }
     let answer = block::read(&bytes);
     assert_eq!(library::header_read(&bytes), answer, "{bytes:?}");
     seen.note("header read", &answer);
 
-    let descriptor = *random.pick(&[random.byte(), 8 * random.below(10) as u8, 0, 44, 64, 76]);
+    let descriptor = descriptor(random);
     let place = *random.pick(&[random.size(70) as u64, random.wild()]);
     let header = Header {
         descriptor,
@@ -36,6 +37,10 @@ pub fn headers(random: &Random, seen: &mut Seen) {
         |out| library::header_write(header, out),
     );
     seen.note("header write", &written);
+}
+
+fn descriptor(random: &Random) -> u8 {
+    *random.pick(&[random.byte(), random.byte() & 108, 44, 64, 76])
 }
 
 /// Lends both writers as many bytes, around the length that is needed.
