@@ -9,8 +9,9 @@ const LIB: &str = "libhost.a";
 fn folder() -> PathBuf {
     match env::var_os("COBNUTTER_LIB") {
         Some(named) => PathBuf::from(named),
-        None => PathBuf::from(env::var_os("CARGO_MANIFEST_DIR").unwrap())
-            .join("../../target/staticlib"),
+        None => {
+            PathBuf::from(env::var_os("CARGO_MANIFEST_DIR").unwrap()).join("../../target/staticlib")
+        }
     }
 }
 

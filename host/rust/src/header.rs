@@ -46,8 +46,7 @@ pub fn write(header: Header) -> Result<[u8; LENGTH], Refusal> {
         Header::Eodc { descriptor, count } => (descriptor, 0, count),
     };
     let mut out = [0; LENGTH];
-    let answer = unsafe {
-        raw::cob_header_write(descriptor, length, third, out.as_mut_ptr(), out.len())
-    };
+    let answer =
+        unsafe { raw::cob_header_write(descriptor, length, third, out.as_mut_ptr(), out.len()) };
     Refusal::unless(answer.refused, out)
 }

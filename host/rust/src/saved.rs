@@ -14,7 +14,12 @@ const PAIR: usize = 16;
 /// Fills the ledger with a saved one. Refused it changes nothing.
 pub fn read(bytes: &[u8], ledger: &mut [u64]) -> Result<(), Refusal> {
     let refused = unsafe {
-        raw::cob_saved_read(bytes.as_ptr(), bytes.len(), ledger.as_mut_ptr(), ledger.len())
+        raw::cob_saved_read(
+            bytes.as_ptr(),
+            bytes.len(),
+            ledger.as_mut_ptr(),
+            ledger.len(),
+        )
     };
     Refusal::unless(refused, ())
 }
