@@ -109,6 +109,7 @@ fn deal(payloads: &[Payload], file: &[u8]) -> [Stream; CHANNELS] {
         streams[index % CHANNELS].push(0, payload.clone(), file);
     }
     let (first, others) = streams.split_first_mut().unwrap();
+    // EODC: the third field is the number of channels, and no payload follows.
     first.push(72, CHANNELS..CHANNELS, file);
     for stream in others {
         stream.push(8, 0..0, file);
@@ -140,9 +141,12 @@ fn second_receiver(arrival: &Arrival, file: &mut [u8], ledger: &mut [u64]) {
     assert_eq!(transfer.verdict(), second::receiver::Verdict::Result);
 }
 
+/// Brings the pieces into the file, with a ledger.
+type Work = fn(&Arrival, &mut [u8], &mut [u64]);
+
 /// The best time of each, the three taking turns so that a busy machine disturbs them alike.
 fn measure(arrival: &Arrival, pairs: usize) -> [Duration; 3] {
-    let works: [fn(&Arrival, &mut [u8], &mut [u64]); 3] = [copy, library, second_receiver];
+    let works: [Work; 3] = [copy, library, second_receiver];
     let mut file = vec![0; arrival.file.len()];
     let mut ledger = vec![0; 2 * pairs];
     let mut best = [Duration::MAX; 3];

@@ -26,12 +26,15 @@ mod texts;
 
 use random::Random;
 use seen::Seen;
+use std::fs;
 
 const SEED: u64 = 1;
 const ROUNDS: u64 = 1_000;
 
+type Kind = fn(&Random, &mut Seen);
+
 /// Each with how often a round does it.
-const KINDS: [(fn(&Random, &mut Seen), usize); 12] = [
+const KINDS: [(Kind, usize); 12] = [
     (sessions::one, 4),
     (sessions::cached, 1),
     (crafted::few_calls, 60),
@@ -88,4 +91,18 @@ fn the_two_agree() {
     if rounds >= ROUNDS {
         assert_eq!(seen.missing(), []);
     }
+}
+
+#[test]
+fn the_two_agree_on_recordings() {
+    let folder = concat!(env!("CARGO_MANIFEST_DIR"), "/../../recordings");
+    let (random, mut seen) = (Random::new(SEED), Seen::default());
+    let mut recordings = 0;
+    for entry in fs::read_dir(folder).unwrap() {
+        let bytes = fs::read(entry.unwrap().path()).unwrap();
+        if sessions::recorded(&bytes, &random, &mut seen).is_some() {
+            recordings += 1;
+        }
+    }
+    assert_ne!(recordings, 0);
 }

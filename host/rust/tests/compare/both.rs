@@ -7,18 +7,29 @@ use super::second::{screen, Answer};
 use super::seen::Seen;
 use cobnutter::raw;
 
+/// A transfer with what is lent to its calls.
 #[derive(Clone)]
-pub struct Lent {
-    pub transfer: Transfer,
+pub struct Lent<T = Transfer> {
+    pub transfer: T,
     pub file: Vec<u8>,
     pub ledger: Vec<u64>,
+}
+
+impl Lent {
+    fn for_library(&self) -> Lent<raw::Transfer> {
+        Lent {
+            transfer: library::to_raw(&self.transfer),
+            file: self.file.clone(),
+            ledger: self.ledger.clone(),
+        }
+    }
 }
 
 pub struct Both<'a> {
     pub random: &'a Random,
     pub seen: &'a mut Seen,
     second: Lent,
-    library: (raw::Transfer, Vec<u8>, Vec<u64>),
+    library: Lent<raw::Transfer>,
 }
 
 /// What a byte buffer holds before a call.
@@ -26,16 +37,11 @@ pub const FILL: u8 = 0xee;
 
 impl<'a> Both<'a> {
     pub fn of(lent: Lent, random: &'a Random, seen: &'a mut Seen) -> Both<'a> {
-        let library = (
-            library::to_raw(&lent.transfer),
-            lent.file.clone(),
-            lent.ledger.clone(),
-        );
         let mut both = Both {
             random,
             seen,
+            library: lent.for_library(),
             second: lent,
-            library,
         };
         both.compare();
         both
@@ -43,30 +49,33 @@ impl<'a> Both<'a> {
 
     /// Of a file and ledger that hold bytes of chance.
     pub fn start(len: usize, entries: usize, random: &'a Random, seen: &'a mut Seen) -> Both<'a> {
-        let file = random.bytes(len);
-        let ledger = (0..entries).map(|_| random.next()).collect();
-        let transfer = Transfer::fresh(0, 0);
-        let mut both = Both::of(
-            Lent {
-                transfer,
-                file,
-                ledger,
-            },
-            random,
-            seen,
-        );
+        let lent = Lent {
+            transfer: Transfer::fresh(0, 0),
+            file: random.bytes(len),
+            ledger: (0..entries).map(|_| random.next()).collect(),
+        };
+        let mut both = Both::of(lent, random, seen);
         both.restart(len as u64);
         both
+    }
+
+    /// A start over a file and a ledger of other lengths.
+    pub fn start_next(&mut self, len: usize, entries: usize) {
+        self.harm(|lent, _| {
+            lent.file.resize(len, 0);
+            lent.ledger.resize(entries, 0);
+        });
+        self.restart(len as u64);
     }
 
     /// A start over what is lent at present.
     pub fn restart(&mut self, len: u64) {
         let mine = Transfer::start(len, &mut self.second.ledger);
-        let (theirs, transfer) = library::start(len, &mut self.library.2);
+        let (theirs, transfer) = library::start(len, &mut self.library.ledger);
         assert_eq!(theirs, mine.as_ref().map(|_| ()).map_err(|number| *number));
         self.seen.note("start", &theirs);
         self.second.transfer = mine.unwrap_or(Transfer::fresh(0, 0));
-        self.library.0 = transfer;
+        self.library.transfer = transfer;
         self.compare();
     }
 
@@ -78,11 +87,15 @@ impl<'a> Both<'a> {
             ledger,
         } = &mut self.second;
         let mine = transfer.receive(channel, piece, file, ledger);
-        let (transfer, file, ledger) = &mut self.library;
+        let Lent {
+            transfer,
+            file,
+            ledger,
+        } = &mut self.library;
         let theirs = library::receive(transfer, channel, piece, file, ledger);
         assert_eq!(theirs, mine, "channel {channel}, piece {piece:?}");
         self.seen.note("receive", &mine);
-        let fault = self.library.0.fault;
+        let fault = self.library.transfer.fault;
         if fault != before {
             assert_ne!(fault, 20, "no transfer that fits reaches it");
             self.seen.note::<()>("fault", &Err(fault));
@@ -98,11 +111,7 @@ impl<'a> Both<'a> {
     }
 
     pub fn lend(&mut self, lent: Lent) {
-        self.library = (
-            library::to_raw(&lent.transfer),
-            lent.file.clone(),
-            lent.ledger.clone(),
-        );
+        self.library = lent.for_library();
         self.second = lent;
         self.compare();
     }
@@ -121,11 +130,11 @@ impl<'a> Both<'a> {
             file,
             ledger,
         } = &self.second;
-        assert_eq!(self.library.0, library::to_raw(transfer));
-        assert!(self.library.1 == *file, "the files differ");
-        assert!(self.library.2 == *ledger, "the ledgers differ");
-        assert_eq!(library::verdict(&self.library.0), transfer.verdict());
-        let stored = library::stored(&self.library.0, ledger);
+        assert_eq!(self.library.transfer, library::to_raw(transfer));
+        assert!(self.library.file == *file, "the files differ");
+        assert!(self.library.ledger == *ledger, "the ledgers differ");
+        assert_eq!(library::verdict(&self.library.transfer), transfer.verdict());
+        let stored = library::stored(&self.library.transfer, ledger);
         // Document 01 says nothing of the stored bytes of a broken ledger.
         assert!(!transfer.fits(ledger) || stored == transfer.stored(ledger));
         self.compare_screen_lines();
@@ -142,7 +151,7 @@ impl<'a> Both<'a> {
         let (mut mine, mut theirs) = (vec![FILL; size], vec![FILL; size]);
         let answer = screen::write(transfer, ledger, &mut mine);
         assert_eq!(
-            library::screen_line(&self.library.0, ledger, &mut theirs),
+            library::screen_line(&self.library.transfer, ledger, &mut theirs),
             answer
         );
         assert_eq!(theirs, mine);

@@ -47,11 +47,14 @@ fn harm_numbers(transfer: &mut Transfer, random: &Random) {
         on,
         ..
     } = transfer;
-    let number = [len, pairs, count, fault, on]
-        .into_iter()
-        .nth(random.below(5))
-        .unwrap();
-    *number = *random.pick(&[random.near(*number), random.below(70) as u64, random.wild()]);
+    let channel = *random.pick(&[0, random.below(CHANNELS) as u64, random.near(64)]);
+    match random.below(5) {
+        0 => *len = *random.pick(&[random.near(*len), random.wild()]),
+        1 => *pairs = *random.pick(&[random.near(*pairs), random.wild()]),
+        2 => *count = *random.pick(&[random.near(*count), random.near(64), random.wild()]),
+        3 => (*fault, *on) = (random.between(9, 22) as u64, channel),
+        _ => *on = *random.pick(&[channel, random.wild()]),
+    }
 }
 
 /// Two channels that are in the same payload.

@@ -50,13 +50,9 @@ impl Block {
         }
     }
 
-    fn is_eodc(&self) -> bool {
-        self.header.descriptor == 64
-    }
-
     /// Gives it one of the descriptors that its place in the channel allows.
     fn describe(&mut self, last: bool, random: &Random) {
-        self.header.descriptor = *match (self.is_eodc(), last) {
+        self.header.descriptor = *match (self.header.is_eodc(), last) {
             (false, false) => random.pick(&[0, 32]),
             (false, true) => random.pick(&[8, 12, 40, 44]),
             (true, false) => &64,
@@ -156,9 +152,7 @@ impl Sending {
 
     fn eodc(&mut self) -> &mut Block {
         let mut blocks = self.lanes.iter_mut().flat_map(|lane| &mut lane.blocks);
-        blocks
-            .find(|block| block.header.descriptor & 64 != 0)
-            .unwrap()
+        blocks.find(|block| block.header.is_eodc()).unwrap()
     }
 }
 

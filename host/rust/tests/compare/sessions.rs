@@ -6,6 +6,7 @@ use super::random::Random;
 use super::second::receiver::{Verdict, CHANNELS, ENDED};
 use super::seen::Seen;
 use super::sending::{Lane, Sending};
+use cobnutter::recording::{requests, Request};
 
 /// What is still to come on a channel.
 struct Stream {
@@ -43,9 +44,10 @@ pub fn one(random: &Random, seen: &mut Seen) {
         follow_up(&mut streams, random);
     }
     let mut both = Both::start(sending.len, 2 * sending.pairs, random, seen);
-    feed(&mut both, &mut streams);
     if whole {
-        assert_whole(&both, &sending);
+        deliver(&mut both, &mut streams, &sending);
+    } else {
+        feed(&mut both, &mut streams);
     }
     call_after_the_end(&mut both, &streams);
 }
@@ -65,33 +67,39 @@ pub fn cached(random: &Random, seen: &mut Seen) {
         }
     }
     let mut both = Both::start(first.len, 2 * first.pairs, random, seen);
-    feed(&mut both, &mut streams);
-    assert_whole(&both, &first);
+    deliver(&mut both, &mut streams, &first);
     streams.extend(later);
-    both.harm(|lent, _| {
-        lent.file.resize(second.len, 0);
-        lent.ledger.resize(2 * second.pairs, 0);
-    });
-    both.restart(second.len as u64);
-    feed(&mut both, &mut streams);
-    assert_whole(&both, &second);
+    both.start_next(second.len, 2 * second.pairs);
+    deliver(&mut both, &mut streams, &second);
 }
 
-/// Demand 3 for the arrival of a well-formed sending.
-fn assert_whole(both: &Both, sending: &Sending) {
-    assert_eq!(both.verdict(), Verdict::Result);
-    for block in sending
-        .lanes
-        .iter()
-        .flat_map(|lane| &lane.blocks)
-        .filter(|block| !block.payload.is_empty())
-    {
-        let place = block.header.place as usize;
-        assert_eq!(
-            both.lent().file[place..][..block.payload.len()],
-            block.payload
-        );
+/// What real senders sent, as far as `bytes` are a recording.
+pub fn recorded(bytes: &[u8], random: &Random, seen: &mut Seen) -> Option<()> {
+    let mut both = Both::start(0, 0, random, seen);
+    for request in requests(bytes)? {
+        match request {
+            Request::Start { len, entries } => both.start_next(len as usize, entries as usize),
+            Request::Piece { channel, bytes } => drop(both.receive(channel, bytes)),
+        }
     }
+    Some(())
+}
+
+/// Feeds a well-formed sending: it ends with RESULT, all payloads in their places and nothing else changed.
+fn deliver(both: &mut Both, streams: &mut [Stream], sending: &Sending) {
+    let mut expected = both.lent().file.clone();
+    let mut stored = 0;
+    feed(both, streams);
+    let blocks = sending.lanes.iter().flat_map(|lane| &lane.blocks);
+    for block in blocks.filter(|block| !block.payload.is_empty()) {
+        let place = block.header.place as usize;
+        expected[place..][..block.payload.len()].copy_from_slice(&block.payload);
+        stored += block.payload.len() as u64;
+    }
+    let lent = both.lent();
+    assert_eq!(both.verdict(), Verdict::Result);
+    assert!(lent.file == expected, "the file is not what was sent");
+    assert_eq!(lent.transfer.stored(&lent.ledger), stored);
 }
 
 fn flip(streams: &mut [Stream], random: &Random) {
@@ -141,22 +149,17 @@ fn disturb(both: &mut Both) {
     let piece = both.random.bytes(length);
     match both.random.below(4) {
         0 => {
-            let channel = *both.random.pick(&[64, 65, u64::MAX, both.random.wild()]);
+            let channel = both.random.wild();
             let _ = both.receive(channel, if channel < 64 { &[] } else { &piece });
         }
         1 => {
-            let channel = both.random.below(CHANNELS) as u64;
+            let channel = both.random.below(CHANNELS + 2) as u64;
             let _ = both.receive(channel, &[]);
         }
         2 => {
-            let ended = both
-                .lent()
-                .transfer
-                .channels
-                .iter()
-                .position(|channel| channel.state == ENDED);
-            if let Some(channel) = ended {
-                let _ = both.receive(channel as u64, &piece);
+            let mut channels = both.lent().transfer.channels.iter();
+            if let Some(ended) = channels.position(|channel| channel.state == ENDED) {
+                let _ = both.receive(ended as u64, &piece);
             }
         }
         _ => {
