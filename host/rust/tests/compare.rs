@@ -29,15 +29,15 @@ use seen::Seen;
 use std::fs;
 
 const SEED: u64 = 1;
-const ROUNDS: u64 = 1_000;
+const ROUNDS: u64 = 400;
 
 type Kind = fn(&Random, &mut Seen);
 
 /// Each with how often a round does it.
 const KINDS: [(Kind, usize); 12] = [
-    (sessions::one, 4),
+    (sessions::one, 2),
     (sessions::cached, 1),
-    (crafted::few_calls, 60),
+    (crafted::few_calls, 150),
     (crafted::start, 2),
     (texts::headers, 20),
     (texts::lines, 20),
