@@ -97,6 +97,12 @@ impl Arrival {
         self.pieces.push((channel, here..self.wire.len()));
     }
 
+    fn each(&self, mut take: impl FnMut(u64, &[u8])) {
+        for (channel, piece) in &self.pieces {
+            take(*channel, &self.wire[piece.clone()]);
+        }
+    }
+
     fn payload_bytes(&self) -> usize {
         self.copies.iter().map(|(source, _)| source.len()).sum()
     }
@@ -125,19 +131,17 @@ fn copy(arrival: &Arrival, file: &mut [u8], _ledger: &mut [u64]) {
 
 fn library(arrival: &Arrival, file: &mut [u8], ledger: &mut [u64]) {
     let mut transfer = Transfer::start(file.len() as u64, ledger).unwrap();
-    for (channel, piece) in &arrival.pieces {
-        let piece = &arrival.wire[piece.clone()];
-        transfer.receive(*channel, piece, file, ledger).unwrap();
-    }
+    arrival.each(|channel, piece| {
+        transfer.receive(channel, piece, file, ledger).unwrap();
+    });
     assert_eq!(transfer.verdict(), cobnutter::Verdict::Result);
 }
 
 fn second_receiver(arrival: &Arrival, file: &mut [u8], ledger: &mut [u64]) {
     let mut transfer = second::receiver::Transfer::start(file.len() as u64, ledger).unwrap();
-    for (channel, piece) in &arrival.pieces {
-        let piece = &arrival.wire[piece.clone()];
-        transfer.receive(*channel, piece, file, ledger).unwrap();
-    }
+    arrival.each(|channel, piece| {
+        transfer.receive(channel, piece, file, ledger).unwrap();
+    });
     assert_eq!(transfer.verdict(), second::receiver::Verdict::Result);
 }
 

@@ -5,10 +5,14 @@ mod second;
 
 #[path = "compare/both.rs"]
 mod both;
+#[path = "compare/buffers.rs"]
+mod buffers;
 #[path = "compare/crafted.rs"]
 mod crafted;
 #[path = "compare/examples.rs"]
 mod examples;
+#[path = "compare/forms.rs"]
+mod forms;
 #[path = "compare/harm.rs"]
 mod harm;
 #[path = "compare/library.rs"]
@@ -43,10 +47,10 @@ const KINDS: [(Kind, usize); 12] = [
     (texts::lines, 20),
     (texts::replies, 5),
     (texts::hosts, 20),
-    (texts::range_texts, 20),
-    (texts::range_writing, 10),
-    (texts::saving, 10),
-    (texts::saved_records, 20),
+    (forms::range_texts, 20),
+    (forms::range_writing, 10),
+    (forms::saving, 10),
+    (forms::saved_records, 20),
 ];
 
 /// Says on failure how to run the round again.

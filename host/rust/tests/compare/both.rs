@@ -1,5 +1,6 @@
 //! The two receivers side by side: every call goes to both, and all that it leaves is compared.
 
+use super::buffers;
 use super::library;
 use super::random::Random;
 use super::second::receiver::{Transfer, Verdict};
@@ -31,9 +32,6 @@ pub struct Both<'a> {
     second: Lent,
     library: Lent<raw::Transfer>,
 }
-
-/// What a byte buffer holds before a call.
-pub const FILL: u8 = 0xee;
 
 impl<'a> Both<'a> {
     pub fn of(lent: Lent, random: &'a Random, seen: &'a mut Seen) -> Both<'a> {
@@ -141,20 +139,14 @@ impl<'a> Both<'a> {
     }
 
     fn compare_screen_lines(&mut self) {
-        let Lent {
-            transfer, ledger, ..
-        } = &self.second;
-        let needed = screen::line(transfer, ledger).map_or(0, |line| line.len());
-        let size = *self
-            .random
-            .pick(&[needed + 3, needed, needed.saturating_sub(1)]);
-        let (mut mine, mut theirs) = (vec![FILL; size], vec![FILL; size]);
-        let answer = screen::write(transfer, ledger, &mut mine);
-        assert_eq!(
-            library::screen_line(&self.library.transfer, ledger, &mut theirs),
-            answer
+        let (second, library) = (&self.second, &self.library);
+        let line = screen::line(&second.transfer, &second.ledger);
+        let answer = buffers::write(
+            line.map_or(0, |line| line.len()),
+            self.random,
+            |out| screen::write(&second.transfer, &second.ledger, out),
+            |out| library::screen_line(&library.transfer, &library.ledger, out),
         );
-        assert_eq!(theirs, mine);
         self.seen.note("screen line", &answer);
     }
 }

@@ -3,11 +3,13 @@
 use super::both::{Both, Lent};
 use super::harm::harm;
 use super::random::Random;
+use super::second::block::{Header, LENGTH};
 use super::second::ledger::{self, MOST_ENTRIES};
 use super::second::receiver::{
-    Channel, Transfer, CHANNELS, ENDED, HEADER, LAST_PAYLOAD, PAYLOAD, UNUSED,
+    Channel, Transfer, CHANNELS, ENDED, HEADER, HOLDS, LAST_PAYLOAD, PAYLOAD,
 };
 use super::seen::Seen;
+use super::sending::wire;
 
 pub fn few_calls(random: &Random, seen: &mut Seen) {
     let lent = lent(random);
@@ -56,6 +58,7 @@ fn lent(random: &Random) -> Lent {
     };
     let mut transfer = Transfer::fresh(len, ledger.len() as u64 / 2);
     use_channels(&mut transfer, &ledger, random);
+    know_numbers(&mut transfer, random);
     Lent {
         transfer,
         file,
@@ -82,55 +85,52 @@ fn use_channels(transfer: &mut Transfer, ledger: &[u64], random: &Random) {
     random.shuffle(&mut free);
     let idle = *random.pick(&[1, 2, 12]);
     for at in 0..CHANNELS {
-        if random.one_in(idle) {
-            continue;
-        }
-        let state = *random.pick(&[UNUSED, HEADER, HEADER, PAYLOAD, LAST_PAYLOAD, ENDED]);
-        let channel = &mut transfer.channels[at];
+        let state = *random.pick(&[HEADER, HEADER, PAYLOAD, LAST_PAYLOAD, ENDED]);
         match (state, free.last_mut()) {
+            _ if random.one_in(idle) => {}
             (HEADER, _) => {
-                let held = random.size(16);
-                transfer.heads[at][..held]
-                    .copy_from_slice(&header(ledger, transfer.len, random)[..held]);
-                *channel = Channel {
-                    state,
-                    held: held as u8,
-                    ..Channel::default()
-                };
+                let held = random.size(HOLDS);
+                let header = wire(header(ledger, transfer.len, random));
+                transfer.heads[at][..held].copy_from_slice(&header[..held]);
+                transfer.channels[at].state = state;
+                transfer.channels[at].held = held as u8;
             }
-            (PAYLOAD | LAST_PAYLOAD, Some([start, end])) => {
-                let left = 1 + random.size((*end - *start - 1) as usize) as u64;
-                *end -= left;
-                *channel = Channel {
-                    state,
-                    held: 0,
-                    next: *end,
-                    left,
-                };
-                if start == end {
-                    free.pop();
-                }
+            (ENDED, _) => transfer.channels[at].state = state,
+            (_, None) => {}
+            (_, Some(pair)) => {
+                transfer.channels[at] = payload(state, pair, random);
+                free.retain(|[start, end]| start < end);
             }
-            (UNUSED | ENDED, _) => channel.state = state,
-            _ => {}
         }
     }
-    let used = transfer
-        .channels
-        .iter()
-        .filter(|channel| channel.state != UNUSED)
-        .count();
+}
+
+/// A payload whose rest is cut off the end of a claimed range.
+fn payload(state: u8, pair: &mut [u64; 2], random: &Random) -> Channel {
+    let [start, end] = pair;
+    let left = 1 + random.size((*end - *start - 1) as usize) as u64;
+    *end -= left;
+    Channel {
+        state,
+        held: 0,
+        next: *end,
+        left,
+    }
+}
+
+fn know_numbers(transfer: &mut Transfer, random: &Random) {
+    let least = (transfer.used() as usize).max(1);
     if random.one_in(2) {
-        transfer.count = *random.pick(&[used.max(1), random.between(used.max(1), CHANNELS)]) as u64;
+        transfer.count = *random.pick(&[least, random.between(least, CHANNELS)]) as u64;
     }
     if random.one_in(8) {
-        (transfer.fault, transfer.on) =
-            (random.between(11, 20) as u64, random.below(CHANNELS) as u64);
+        transfer.fault = random.between(11, 20) as u64;
+        transfer.on = random.below(CHANNELS) as u64;
     }
 }
 
 /// A header whose range begins and stops near ends of claimed ranges.
-fn header(ledger: &[u64], len: u64, random: &Random) -> [u8; 17] {
+fn header(ledger: &[u64], len: u64, random: &Random) -> Header {
     let used = ledger::used(ledger).as_flattened();
     let edge = || match random.below(4) {
         0 => len,
@@ -144,18 +144,15 @@ fn header(ledger: &[u64], len: u64, random: &Random) -> [u8; 17] {
     let small = random.size(60) as u64;
     let length = *random.pick(&[gap, gap, small, small, 0, random.wild()]);
     let (descriptor, length, place) = match random.below(8) {
-        0 => (
-            *random.pick(&[64, 72, 76]),
-            random.wild(),
-            random.size(70) as u64,
-        ),
+        0 => (*random.pick(&[64, 72, 76]), length, random.size(70) as u64),
         1 => (random.byte(), length, place),
         _ => (*random.pick(&[0, 8, 12, 32, 40, 44]), length, place),
     };
-    let mut bytes = [descriptor; 17];
-    bytes[1..9].copy_from_slice(&length.to_be_bytes());
-    bytes[9..].copy_from_slice(&place.to_be_bytes());
-    bytes
+    Header {
+        descriptor,
+        length,
+        place,
+    }
 }
 
 /// What the channel has under way, then a few blocks, cut anywhere.
@@ -165,16 +162,12 @@ fn piece(lent: &Lent, channel: usize, random: &Random) -> Vec<u8> {
     } = lent;
     let Channel { held, left, .. } = transfer.channels[channel];
     let mut piece = random.bytes(left.min(20_000) as usize);
-    for at in 0..random.between(1, 3) {
+    let mut skip = usize::from(held).min(LENGTH);
+    for _ in 0..random.between(1, 3) {
         let header = header(ledger, transfer.len, random);
-        let skip = if at == 0 {
-            usize::from(held).min(17)
-        } else {
-            0
-        };
-        piece.extend(&header[skip..]);
-        let payload = u64::from_be_bytes(header[1..9].try_into().unwrap()).min(600) as usize;
-        piece.extend(random.bytes(payload));
+        piece.extend(&wire(header)[skip..]);
+        piece.extend(random.bytes(header.length.min(600) as usize));
+        skip = 0;
     }
     if random.one_in(3) {
         piece.truncate(random.size(piece.len()));

@@ -140,11 +140,14 @@ pub fn header_write(header: Header, out: &mut [u8]) -> Answer<usize> {
 }
 
 pub fn line(line: &[u8]) -> Answer<(u64, &[u8])> {
-    let command = unsafe { raw::cob_line_read(line.as_ptr(), line.len()) };
-    unless(
-        command.refused,
-        (command.verb.into(), &line[command.from..command.to]),
-    )
+    let raw::Command {
+        from,
+        to,
+        verb,
+        refused,
+    } = unsafe { raw::cob_line_read(line.as_ptr(), line.len()) };
+    assert!(refused == 0 || from == to);
+    unless(refused, (verb.into(), &line[from..to]))
 }
 
 pub fn reply_class(code: u16) -> Answer<u64> {

@@ -1,7 +1,7 @@
 //! Sendings by "Well-formed sending", and their blocks damaged.
 
 use super::random::Random;
-use super::second::block::Header;
+use super::second::block::{Header, LENGTH};
 use super::second::receiver::CHANNELS;
 
 const LONGEST_FILE: usize = 3_000;
@@ -59,21 +59,22 @@ impl Block {
             (true, true) => random.pick(&[72, 76]),
         };
     }
+}
 
-    /// The bytes on the wire, the unused field of an EODC block included.
-    fn push_to(&self, bytes: &mut Vec<u8>) {
-        bytes.push(self.header.descriptor);
-        bytes.extend(self.header.length.to_be_bytes());
-        bytes.extend(self.header.place.to_be_bytes());
-        bytes.extend(&self.payload);
-    }
+/// A header on the wire, whatever stands in the unused field of an EODC block.
+pub fn wire(header: Header) -> [u8; LENGTH] {
+    let mut bytes = [header.descriptor; LENGTH];
+    bytes[1..9].copy_from_slice(&header.length.to_be_bytes());
+    bytes[9..].copy_from_slice(&header.place.to_be_bytes());
+    bytes
 }
 
 impl Lane {
     pub fn bytes(&self) -> Vec<u8> {
         let mut bytes = Vec::new();
         for block in &self.blocks {
-            block.push_to(&mut bytes);
+            bytes.extend(wire(block.header));
+            bytes.extend(&block.payload);
         }
         bytes
     }
@@ -124,22 +125,7 @@ impl Sending {
             }
             _ => {
                 let len = self.len as u64;
-                let header = &mut self.any_block(random).header;
-                match random.below(5) {
-                    0 => header.descriptor = random.byte(),
-                    1 => header.descriptor ^= 1 << random.below(8),
-                    2 => {
-                        header.length = *random.pick(&[
-                            random.near(header.length),
-                            random.near(len),
-                            random.wild(),
-                        ])
-                    }
-                    3 => {
-                        header.place = *random.pick(&[random.near(header.place), random.near(len)])
-                    }
-                    _ => header.place = random.wild(),
-                }
+                damage_header(&mut self.any_block(random).header, len, random);
             }
         }
     }
@@ -153,6 +139,20 @@ impl Sending {
     fn eodc(&mut self) -> &mut Block {
         let mut blocks = self.lanes.iter_mut().flat_map(|lane| &mut lane.blocks);
         blocks.find(|block| block.header.is_eodc()).unwrap()
+    }
+}
+
+fn damage_header(header: &mut Header, len: u64, random: &Random) {
+    let Header {
+        descriptor,
+        length,
+        place,
+    } = header;
+    match random.below(4) {
+        0 => *descriptor = random.byte(),
+        1 => *descriptor ^= 1 << random.below(8),
+        2 => *length = *random.pick(&[random.near(*length), random.near(len), random.wild()]),
+        _ => *place = *random.pick(&[random.near(*place), random.near(len), random.wild()]),
     }
 }
 

@@ -1,15 +1,12 @@
-//! The readers and writers that know no transfer.
+//! Headers and the texts of the control channel.
 
-use super::both::FILL;
-use super::crafted::rising;
-use super::harm::harm_entry;
+use super::buffers;
 use super::library;
 use super::random::Random;
 use super::second::block::{self, Header};
 use super::second::control::{self, MOST_HOSTS, VERBS};
-use super::second::ledger::MOST_ENTRIES;
-use super::second::{ranges, saved, Answer};
 use super::seen::Seen;
+use std::ptr;
 
 pub fn headers(random: &Random, seen: &mut Seen) {
     let length = *random.pick(&[17, 17, 17, 16, 18, random.size(40)]);
@@ -30,7 +27,7 @@ pub fn headers(random: &Random, seen: &mut Seen) {
         length: random.wild(),
         place,
     };
-    let written = write(
+    let written = buffers::write(
         17,
         random,
         |out| block::write(header, out),
@@ -43,29 +40,8 @@ fn descriptor(random: &Random) -> u8 {
     *random.pick(&[random.byte(), random.byte() & 108, 44, 64, 76])
 }
 
-/// Lends both writers as many bytes, around the length that is needed.
-fn write(
-    needed: usize,
-    random: &Random,
-    mine: impl Fn(&mut [u8]) -> Answer<usize>,
-    theirs: impl Fn(&mut [u8]) -> Answer<usize>,
-) -> Answer<usize> {
-    let size = *random.pick(&[
-        needed + 4,
-        needed + 1,
-        needed,
-        needed.saturating_sub(1),
-        random.size(needed),
-    ]);
-    let (mut one, mut two) = (vec![FILL; size], vec![FILL; size]);
-    let answer = mine(&mut one);
-    assert_eq!(theirs(&mut two), answer);
-    assert_eq!(two, one);
-    answer
-}
-
 /// One edit at any place.
-fn edit(text: &mut Vec<u8>, random: &Random, bytes: &[u8]) {
+pub fn edit(text: &mut Vec<u8>, random: &Random, bytes: &[u8]) {
     let at = random.between(0, text.len());
     let byte = *random.pick(bytes);
     match random.below(4) {
@@ -95,8 +71,14 @@ pub fn lines(random: &Random, seen: &mut Seen) {
         edit(&mut line, random, b"\r\n \x1f\x7f\x80~aZ@[`{1");
     }
     let answer = control::line(&line);
-    assert_eq!(library::line(&line), answer, "{line:?}");
+    let theirs = library::line(&line);
+    assert_eq!(theirs.map(located), answer.map(located), "{line:?}");
     seen.note("line", &answer);
+}
+
+/// With the place in the line where the argument begins.
+fn located((verb, argument): (u64, &[u8])) -> (u64, &[u8], Option<*const u8>) {
+    (verb, argument, argument.first().map(ptr::from_ref))
 }
 
 pub fn replies(random: &Random, seen: &mut Seen) {
@@ -126,11 +108,12 @@ pub fn hosts(random: &Random, seen: &mut Seen) {
         MOST_HOSTS + 1,
         random.size(200),
     ]);
-    let mut mine: Vec<u64> = (0..lent).map(|_| random.next()).collect();
-    let mut theirs = mine.clone();
-    let answer = control::hosts(&text, &mut mine);
-    assert_eq!(library::hosts(&text, &mut theirs), answer, "{text:?}");
-    assert_eq!(theirs, mine, "{text:?}");
+    let answer = buffers::read(
+        lent,
+        random,
+        |list| control::hosts(&text, list),
+        |list| library::hosts(&text, list),
+    );
     seen.note("hosts", &answer);
 
     let at = *random.pick(&[0, random.size(text.len() + 2), random.wild() as usize]);
@@ -152,143 +135,4 @@ fn host_port(random: &Random) -> String {
         )
         .collect();
     numbers.join(",")
-}
-
-/// An even length that is allowed, or one beside it.
-fn entries(random: &Random) -> usize {
-    *random.pick(&[
-        2 * random.size(8),
-        2 * random.size(8),
-        random.size(20),
-        MOST_ENTRIES + random.below(3),
-    ])
-}
-
-/// Lends both readers a ledger of that many entries.
-fn load(
-    entries: usize,
-    random: &Random,
-    mine: impl Fn(&mut [u64]) -> Answer<()>,
-    theirs: impl Fn(&mut [u64]) -> Answer<()>,
-) -> Answer<()> {
-    let mut one: Vec<u64> = (0..entries).map(|_| random.next()).collect();
-    let mut two = one.clone();
-    let answer = mine(&mut one);
-    assert_eq!(theirs(&mut two), answer);
-    assert_eq!(two, one);
-    answer
-}
-
-pub fn range_texts(random: &Random, seen: &mut Seen) {
-    let most = *random.pick(&[3, 12, 12, 400]);
-    let words: Vec<String> = (0..=random.size(most)).map(|_| range(random)).collect();
-    let mut text = words.join(",").into_bytes();
-    for _ in 0..random.size(2) {
-        edit(&mut text, random, b",,--0123456789 x+");
-    }
-    let read = |ledger: &mut [u64]| ranges::read(&text, ledger);
-    let answer = load(entries(random), random, read, |ledger| {
-        library::ranges_read(&text, ledger)
-    });
-    seen.note("ranges read", &answer);
-}
-
-fn range(random: &Random) -> String {
-    let first = match random.below(8) {
-        0 => u128::from(random.wild()),
-        1 => u128::from(u64::MAX) - 3 + random.below(6) as u128,
-        _ => random.below(40) as u128,
-    };
-    let last = if random.one_in(20) {
-        first.saturating_sub(1)
-    } else {
-        first + random.size(6) as u128
-    };
-    let width = *random.pick(&[1, 1, 1, 20, 20, if random.one_in(10) { 21 } else { 3 }]);
-    format!("{first:0width$}-{last:0width$}")
-}
-
-/// A ledger for the writers, seldom one that breaks its rule.
-fn ledger(random: &Random) -> Vec<u64> {
-    let from = *random.pick(&[0, u64::MAX - random.size(9_000) as u64, random.next() / 2]);
-    let mut ledger = rising(from, u64::MAX, random);
-    ledger.truncate(*random.pick(&[0, 2, 2 * random.size(6), MOST_ENTRIES]));
-    ledger.resize(
-        ledger.len() + *random.pick(&[0, 2 * random.size(6), random.size(9)]),
-        0,
-    );
-    if random.one_in(30) {
-        ledger.resize(MOST_ENTRIES + random.below(3), 0);
-    }
-    if random.one_in(4) {
-        harm_entry(&mut ledger, random);
-    }
-    ledger
-}
-
-pub fn range_writing(random: &Random, seen: &mut Seen) {
-    let ledger = ledger(random);
-    let needed = ranges::write(&ledger, &mut vec![0; 42 * MOST_ENTRIES]).unwrap_or(8);
-    let mine = |out: &mut [u8]| ranges::write(&ledger, out);
-    let answer = write(needed, random, mine, |out| {
-        library::ranges_write(&ledger, out)
-    });
-    seen.note("ranges write", &answer);
-}
-
-pub fn saving(random: &Random, seen: &mut Seen) {
-    let ledger = ledger(random);
-    let needed = saved::write(&ledger, &mut vec![0; 9 * MOST_ENTRIES]).unwrap_or(6);
-    let mine = |out: &mut [u8]| saved::write(&ledger, out);
-    let answer = write(needed, random, mine, |out| {
-        library::saved_write(&ledger, out)
-    });
-    seen.note("saved write", &answer);
-}
-
-pub fn saved_records(random: &Random, seen: &mut Seen) {
-    let mut record = record(&ledger(random), random);
-    if random.one_in(4) {
-        edit(&mut record, random, &[0, 1, 255]);
-    }
-    let pairs = record.len() / 16;
-    let room = *random.pick(&[
-        2 * pairs,
-        2 * pairs + 2,
-        (2 * pairs).saturating_sub(2),
-        entries(random),
-    ]);
-    let mine = |ledger: &mut [u64]| saved::read(&record, ledger);
-    let answer = load(room, random, mine, |ledger| {
-        library::saved_read(&record, ledger)
-    });
-    seen.note("saved read", &answer);
-}
-
-/// A record of any entries, whether they obey the ledger rule or not.
-fn record(entries: &[u64], random: &Random) -> Vec<u8> {
-    let used = if random.one_in(4) {
-        entries.len()
-    } else {
-        entries.iter().take_while(|entry| **entry != 0).count()
-    };
-    let mut body: Vec<u8> = entries[..used]
-        .iter()
-        .flat_map(|entry| entry.to_le_bytes())
-        .collect();
-    if random.one_in(16) {
-        body.truncate(random.size(body.len()));
-    }
-    let length = body.len() as u32 + 2;
-    let length = if random.one_in(12) {
-        random.near(length.into()) as u32
-    } else {
-        length
-    };
-    let kind = if random.one_in(12) {
-        random.next() as u16 & 257
-    } else {
-        1
-    };
-    [&length.to_le_bytes()[..], &kind.to_le_bytes(), &body].concat()
 }

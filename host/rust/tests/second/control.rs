@@ -31,11 +31,12 @@ pub fn line(line: &[u8]) -> Answer<(u64, &[u8])> {
     }
     let alone = matches!(VERBS[number], "PASV" | "SPAS");
     let argument = &rest[rest.iter().take_while(|byte| **byte == b' ').count()..];
-    if if alone {
+    let wrong = if alone {
         !rest.is_empty()
     } else {
         argument.is_empty()
-    } {
+    };
+    if wrong {
         return Err(35);
     }
     Ok((number as u64 + 1, argument))
@@ -85,13 +86,10 @@ pub fn host_at(text: &[u8], at: usize) -> Option<(u64, usize)> {
             text.get(place).filter(|byte| **byte == b',')?;
             place += 1;
         }
-        let digits = text.get(place..)?;
-        let digits = &digits[..digits
-            .iter()
-            .take_while(|byte| byte.is_ascii_digit())
-            .count()];
-        value = value * 256 + number(digits)?;
-        place += digits.len();
+        let rest = text.get(place..)?;
+        let digits = rest.iter().take_while(|byte| byte.is_ascii_digit()).count();
+        value = value * 256 + number(&rest[..digits])?;
+        place += digits;
     }
     Some((value, place))
 }
