@@ -40,9 +40,10 @@ fn descriptor(random: &Random) -> u8 {
     *random.pick(&[random.byte(), random.byte() & 108, 44, 64, 76])
 }
 
-/// One edit at any place.
+/// One edit, at the end as often as anywhere else.
 pub fn edit(text: &mut Vec<u8>, random: &Random, bytes: &[u8]) {
-    let at = random.between(0, text.len());
+    let end = text.len() - random.size(text.len().min(3));
+    let at = *random.pick(&[random.between(0, text.len()), end]);
     let byte = *random.pick(bytes);
     match random.below(4) {
         0 => text.insert(at, byte),
