@@ -21,19 +21,36 @@ fn entries(random: &Random) -> usize {
 }
 
 pub fn range_texts(random: &Random, seen: &mut Seen) {
-    let most = *random.pick(&[3, 12, 12, 400]);
-    let words: Vec<String> = (0..=random.size(most)).map(|_| range(random)).collect();
+    let full = random.one_in(150);
+    let words = if full {
+        apart(random)
+    } else {
+        ranges_of_chance(random)
+    };
     let mut text = words.join(",").into_bytes();
     for _ in 0..random.size(2) {
         edit(&mut text, random, b",,--0123456789 x+");
     }
     let answer = buffers::read(
-        entries(random),
+        if full { MOST_ENTRIES } else { entries(random) },
         random,
         |ledger| ranges::read(&text, ledger),
         |ledger| library::ranges_read(&text, ledger),
     );
     seen.note("ranges read", &answer);
+}
+
+/// About as many ranges as the largest ledger has pairs, none touching another.
+fn apart(random: &Random) -> Vec<String> {
+    let count = MOST_ENTRIES / 2 - 2 + random.below(5);
+    let mut words: Vec<String> = (0..count).map(|at| format!("{0}-{0}", 2 * at)).collect();
+    random.shuffle(&mut words);
+    words
+}
+
+fn ranges_of_chance(random: &Random) -> Vec<String> {
+    let most = *random.pick(&[3, 12, 12, 400]);
+    (0..=random.size(most)).map(|_| range(random)).collect()
 }
 
 fn range(random: &Random) -> String {
