@@ -24,17 +24,19 @@ pub fn few_calls(random: &Random, seen: &mut Seen) {
     }
 }
 
-/// A start over a ledger of any length.
+/// A start over a ledger of any length; one that is refused leaves a transfer for an empty file and ledger.
 pub fn start(random: &Random, seen: &mut Seen) {
-    let entries = *random.pick(&[
-        random.size(20),
-        random.between(MOST_ENTRIES - 2, MOST_ENTRIES + 2),
-    ]);
+    let limit = random.between(MOST_ENTRIES - 2, MOST_ENTRIES + 2);
+    let entries = *random.pick(&[random.size(20), limit]);
     let len = random.size(100);
     let mut both = Both::start(len, entries, random, seen);
     let _ = both.receive(0, &[0]);
-    let asked = both.random.wild();
-    both.restart(asked);
+    both.restart(random.wild());
+    let _ = both.receive(0, &[0]);
+    both.harm(|lent, _| {
+        lent.file.clear();
+        lent.ledger.clear();
+    });
     let _ = both.receive(0, &[0]);
 }
 

@@ -159,7 +159,9 @@ fn damage_header(header: &mut Header, len: u64, random: &Random) {
 fn empty_lanes(random: &Random) -> Vec<Lane> {
     let mut channels: Vec<u64> = (0..CHANNELS as u64).collect();
     random.shuffle(&mut channels);
-    channels.truncate(random.size(CHANNELS).max(1));
+    if !random.one_in(8) {
+        channels.truncate(random.size(CHANNELS).max(1));
+    }
     channels
         .into_iter()
         .map(|channel| Lane {
