@@ -16,8 +16,8 @@ use std::time::{Duration, Instant};
 
 const CHANNELS: usize = 8;
 /// For the runs of one row, the copies included.
-const BUDGET: Duration = Duration::from_millis(1_200);
-const LEAST_RUNS: usize = 3;
+const BUDGET: Duration = Duration::from_secs(1);
+const LEAST_RUNS: usize = 5;
 
 /// A payload's range in the file.
 type Payload = Range<usize>;

@@ -5,16 +5,16 @@ use super::second::receiver::{Channel, Transfer, Verdict};
 use super::second::Answer;
 use cobnutter::raw;
 
-fn unless<T>(refused: u8, value: T) -> Answer<T> {
+/// Of a refused call every other field is 0.
+fn unless<T: Default + PartialEq>(refused: u8, value: T) -> Answer<T> {
     if refused == 0 {
-        Ok(value)
-    } else {
-        Err(refused.into())
+        return Ok(value);
     }
+    assert!(value == T::default());
+    Err(refused.into())
 }
 
 fn written(answer: raw::Written) -> Answer<usize> {
-    assert!(answer.refused == 0 || answer.length == 0);
     unless(answer.refused, answer.length)
 }
 
@@ -80,12 +80,9 @@ pub fn receive(
             ledger.len(),
         )
     };
-    assert!(received.refused == 0 || received.taken == 0);
     *transfer = received.transfer;
-    unless(
-        received.refused,
-        (to_verdict(received.verdict), received.taken),
-    )
+    let taken = unless(received.refused, received.taken);
+    taken.map(|taken| (to_verdict(received.verdict), taken))
 }
 
 pub fn verdict(transfer: &raw::Transfer) -> Verdict {
@@ -117,15 +114,13 @@ pub fn header_read(bytes: &[u8]) -> Answer<Header> {
         is_eodc,
         refused,
     } = fields;
-    assert_eq!(is_eodc == 1, refused == 0 && descriptor & 64 != 0);
-    unless(
-        refused,
-        Header {
-            descriptor,
-            length,
-            place: third,
-        },
-    )
+    assert_eq!(is_eodc, descriptor >> 6 & 1);
+    let fields = unless(refused, (descriptor, length, third));
+    fields.map(|(descriptor, length, place)| Header {
+        descriptor,
+        length,
+        place,
+    })
 }
 
 pub fn header_write(header: Header, out: &mut [u8]) -> Answer<usize> {
@@ -146,7 +141,6 @@ pub fn line(line: &[u8]) -> Answer<(u64, &[u8])> {
         verb,
         refused,
     } = unsafe { raw::cob_line_read(line.as_ptr(), line.len()) };
-    assert!(refused == 0 || from == to);
     unless(refused, (verb.into(), &line[from..to]))
 }
 
@@ -170,6 +164,7 @@ pub fn hosts(argument: &[u8], list: &mut [u64]) -> Answer<usize> {
 pub fn host_at(text: &[u8], at: usize) -> Option<(u64, usize)> {
     let raw::Found { value, next, found } =
         unsafe { raw::cob_host_at(text.as_ptr(), text.len(), at) };
+    assert!(found == 1 || (value, next) == (0, 0));
     (found == 1).then_some((value, next))
 }
 
