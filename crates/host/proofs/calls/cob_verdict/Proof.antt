@@ -1,0 +1,19 @@
+-- `calls::cob_verdict`.
+use mathlib.Core.Path.{ap, _∙_}
+use mathlib.Core.List.{[]}
+use Rattle.host.specs.Received.{wordNumber}
+use borrow.Author.Needs.{needs}
+use Rattle.host.proofs.calls.cob_verdict.Statement.{statement}
+use Rattle.host.proofs.calls.cob_verdict.Tie as tie
+
+verdict-requires : tie.Need-verdict-requires
+verdict-requires c κs = search needs
+
+word-number-requires : tie.Need-word-number-requires
+word-number-requires c κs = search needs
+
+returns : tie.Need-returns
+returns c = c .word-number .ensures ∙ ap wordNumber (c .before .verdict .ensures [] [])
+
+pub cob-verdict-spec : {M : Type 1} → statement M
+cob-verdict-spec = tie.close (tie.spec verdict-requires word-number-requires returns)

@@ -1,0 +1,17 @@
+-- What host-ports are found, as a host has it.
+use Rattle.control.specs.declared.hosts.Hosts.{Hosts}
+use Rattle.control.specs.declared.hosts.Hosts.the-variants.{Count, Refused}
+use Rattle.control.specs.declared.hosts.Step.{Step}
+use Rattle.control.specs.declared.hosts.Step.the-variants.{Host, Malformed}
+use Rattle.host.specs.declared.hosts.List.{List}
+use Rattle.host.specs.declared.hosts.Found.{Found}
+
+-- of a whole text
+abbrev pub listOf : Hosts → List
+listOf (Count n) = record { count = n; refused = 0 }
+listOf (Refused k) = record { count = 0; refused = k }
+
+-- at one place
+abbrev pub foundOf : Step → Found
+foundOf (Host v next) = record { value = v; next = next; found = 1 }
+foundOf Malformed = record { value = 0; next = 0; found = 0 }

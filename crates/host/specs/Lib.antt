@@ -1,0 +1,4 @@
+pub mod Received
+pub mod Header
+pub mod Line
+pub mod Hosts

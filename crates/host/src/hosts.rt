@@ -1,0 +1,61 @@
+// Host-ports.
+use control::hosts;
+use control::hosts::Hosts;
+use control::hosts::Step;
+ghost use mathlib.Core.Path.{_≡_};
+ghost use Rattle.control.specs.HostPort.{hostPortAt, fillOf, leftBy};
+ghost use Rattle.host.specs.Hosts.{listOf, foundOf};
+
+#[repr(C)]
+pub struct List {
+    // How many host-ports the text has.
+    pub count: usize,
+    pub refused: u8,
+}
+
+#[repr(C)]
+pub struct Found {
+    // address * 65,536 + port.
+    pub value: u64,
+    // The place behind it.
+    pub next: usize,
+    // 1 where a host-port stands at the place, else 0.
+    pub found: u8,
+}
+
+#[no_mangle]
+pub extern "C" fn cob_hosts_read(text: &[u8], list: &mut [u64]) -> List
+    ensures { λ r. ⌜ (r ≡ listOf (fillOf (now (text .entry)) (now (list .entry)))) × (now (list .exit) ≡ leftBy (now (text .entry)) (now (list .entry))) ⌝ }
+{
+    let answer = hosts::fill(text, list);
+    match answer {
+        Hosts::Count(n) => List {
+            count: n,
+            refused: 0,
+        },
+        Hosts::Refused(k) => List {
+            count: 0,
+            refused: k,
+        },
+    }
+}
+
+// The host-port at a place of the text.
+#[no_mangle]
+pub extern "C" fn cob_host_at(text: &[u8], at: usize) -> Found
+    ensures { λ r. ⌜ r ≡ foundOf (hostPortAt (now (text .entry)) at) ⌝ }
+{
+    let step = hosts::step_at(text, at);
+    match step {
+        Step::Host { value, next } => Found {
+            value: value,
+            next: next,
+            found: 1,
+        },
+        Step::Malformed => Found {
+            value: 0,
+            next: 0,
+            found: 0,
+        },
+    }
+}

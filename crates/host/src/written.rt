@@ -1,0 +1,8 @@
+// What every writer answers.
+
+#[repr(C)]
+pub struct Written {
+    // The bytes written at the front of those lent.
+    pub length: usize,
+    pub refused: u8,
+}

@@ -1,0 +1,197 @@
+/*
+ * The receiving side of GridFTP's extended block mode (MODE E), over functions that are proved to answer as defined.
+ * Link libhost.a, which `rt staticlib host` writes; it needs nothing but the C library.
+ *
+ * Memory. The host owns everything. A run of bytes or numbers is a pointer and how many there are. A pointer is never
+ * null, not even with the length 0, and numbers are aligned as uint64_t is. What is lent to one call may not overlap,
+ * unless all of it is const. Nothing is kept: a call is done with what it was lent when it returns. No call allocates,
+ * blocks, or touches anything else, so calls on different memory may run at the same time. A call takes less than 64 kB
+ * of stack.
+ *
+ * A transfer goes in by value and the answer holds the next one, which takes its place:
+ *
+ *     cob_received r = cob_receive(t, channel, piece, piece_len, file, file_len, ledger, ledger_len);
+ *     t = r.transfer;
+ *
+ * The file has as many bytes (F) as were named at the start, and the ledger as many entries: 2R numbers for R ranges,
+ * an even number, at most COB_LEDGER_LIMIT. The ledger holds pairs of start and end, end not counted, ascending, with
+ * zeros behind them. As many pairs as the sender has blocks always serve; ranges that touch become one, so fewer mostly
+ * do. Transfer, file and ledger belong together: every call tests that they fit, and refuses with 1 where not.
+ *
+ * A channel is a number below COB_CHANNELS that the host gives to one data connection; its pieces come in order. A
+ * sender counts the connections of each listener apart, so a host keeps one transfer for each listener. Where a channel
+ * ends, less than the piece may be taken: the rest belongs to the next transfer on that cached connection. A cached
+ * connection that the sender closes (descriptor 4) is not fed into the next transfer.
+ *
+ * Numbers. `refused` is 0 where a call is not refused. In every answer a field that means nothing in a case is 0.
+ *
+ *      1  transfer, file and ledger do not fit, or a ledger that is to be written breaks its rule
+ *      2  channel 64 or above                       3  the verdict is RESULT or BROKEN already
+ *      4  the channel has ended                     5  start: odd ledger length, or above COB_LEDGER_LIMIT
+ *     21  a header does not have 17 bytes
+ *     31  line above 2,048 bytes                   32  no CR LF at the end
+ *     33  a byte outside 32 to 126                 34  verb
+ *     35  argument missing, or not allowed         36  reply code outside 100 to 599
+ *     41  host-port malformed or empty             42  more than 64 host-ports
+ *     43  list of fewer than 64 entries
+ *     51  range malformed                          52  more ranges than pairs
+ *     53  ledger length, as 5                      54  an empty ledger has no text
+ *     55  too few bytes lent for the whole output
+ *     61  saved ledger cut short, wrong length     62  another kind of record
+ *     63  pairs not whole, or against the rule     64  more pairs than the ledger has
+ *
+ * A peer's fault is no refusal: the call is answered, the verdict is COB_BROKEN, and the transfer has the number and the
+ * channel. The header reader and writer refuse with 11, 12, 13 and 15 too.
+ *
+ *     11  descriptor with bit 1 or 2               12  descriptor with bit 128 or 16
+ *     13  descriptor whose bits don't go together  14  a second count of end markers
+ *     15  count 0, above 64, or below the channels in use
+ *     16  payload past the file's end              17  payload shares a byte with another
+ *     18  no pair left in the ledger               19  a channel more than was counted
+ *     20  an end of data more than was counted
+ *
+ * By 1 to 5, 21 to 36, 43 and 53 to 64 nothing that was lent changes. By 41 and 42 the whole list becomes 0, by 51 and 52
+ * the whole ledger.
+ */
+#ifndef COBNUTTER_H
+#define COBNUTTER_H
+
+#include <stddef.h>
+#include <stdint.h>
+
+#ifdef __cplusplus
+extern "C" {
+#endif
+
+#define COB_CHANNELS 64
+#define COB_LEDGER_LIMIT 8192
+#define COB_HEADER_LENGTH 17
+/* The fewest entries of a list for host-ports, and the most host-ports of a text. */
+#define COB_HOST_LIMIT 64
+/* More bytes than any screen line has. */
+#define COB_SCREEN_LINE 64
+
+/* The verdicts. */
+#define COB_GUESS 0
+#define COB_RESULT 1
+#define COB_BROKEN 2
+
+/* ---- one transfer */
+
+typedef struct cob_channel {
+    uint8_t state; /* 0 unused, 1 in a header, 2 in a payload, 3 in the last payload, 4 ended */
+    uint8_t held;  /* header bytes held, 0 unless in a header */
+    uint64_t next; /* the payload's next place, 0 unless in one */
+    uint64_t left; /* the payload's bytes still to come, 0 unless in one */
+} cob_channel;
+
+typedef struct cob_transfer {
+    uint64_t len;        /* F */
+    uint64_t pairs;      /* R */
+    uint64_t count;      /* of end markers, 0 while unknown */
+    uint64_t fault;      /* 0 where there is none */
+    uint64_t on;         /* the fault's channel */
+    uint8_t heads[1024]; /* held header bytes, 16 for each channel */
+    cob_channel channels[COB_CHANNELS];
+} cob_transfer;
+
+typedef struct cob_started {
+    cob_transfer transfer; /* of 0 bytes and 0 pairs where it is refused */
+    uint8_t refused;
+} cob_started;
+
+typedef struct cob_received {
+    cob_transfer transfer;
+    size_t taken; /* bytes of the piece */
+    uint8_t verdict;
+    uint8_t refused;
+} cob_received;
+
+/* What every writer answers. */
+typedef struct cob_written {
+    size_t length; /* bytes written; those behind them are unchanged */
+    uint8_t refused;
+} cob_written;
+
+/* Zeroes the ledger. */
+cob_started cob_start(uint64_t len, uint64_t *ledger, size_t ledger_len);
+
+cob_received cob_receive(cob_transfer transfer, uint64_t channel, const uint8_t *piece, size_t piece_len,
+                         uint8_t *file, size_t file_len, uint64_t *ledger, size_t ledger_len);
+
+uint8_t cob_verdict(cob_transfer transfer);
+
+/* The payload bytes stored since the start. */
+uint64_t cob_stored(cob_transfer transfer, const uint64_t *ledger, size_t ledger_len);
+
+/* Ends with LF, and has no 0 behind it. */
+cob_written cob_screen_line(cob_transfer transfer, const uint64_t *ledger, size_t ledger_len, uint8_t *out,
+                            size_t out_len);
+
+/* ---- block headers */
+
+typedef struct cob_fields {
+    uint64_t length; /* of the payload, 0 with EODC */
+    uint64_t third;  /* the offset, or the count of end markers with EODC */
+    uint8_t descriptor;
+    uint8_t is_eodc; /* 1 with EODC (bit 64), else 0 */
+    uint8_t refused;
+} cob_fields;
+
+cob_fields cob_header_read(const uint8_t *bytes, size_t bytes_len);
+
+/* With EODC the length is ignored, and 0 is written. */
+cob_written cob_header_write(uint8_t descriptor, uint64_t length, uint64_t third, uint8_t *out, size_t out_len);
+
+/* ---- the control channel */
+
+typedef struct cob_command {
+    size_t from; /* the argument's first place in the line, and the place behind its last */
+    size_t to;
+    uint8_t verb; /* 1 to 12: MODE PASV PORT REST RETR STOR SPAS SPOR ERET ESTO SBUF OPTS */
+    uint8_t refused;
+} cob_command;
+
+typedef struct cob_reply {
+    uint8_t digit; /* 1 preliminary, 2 completion, 3 intermediate, 4 transient, 5 permanent */
+    uint8_t refused;
+} cob_reply;
+
+typedef struct cob_list {
+    size_t count; /* of host-ports */
+    uint8_t refused;
+} cob_list;
+
+typedef struct cob_found {
+    uint64_t value; /* address * 65,536 + port */
+    size_t next;    /* the place behind it */
+    uint8_t found;  /* 1 where a host-port stands at the place, else 0 */
+} cob_found;
+
+/* The line with its CR LF. */
+cob_command cob_line_read(const uint8_t *line, size_t line_len);
+
+cob_reply cob_reply_class(uint16_t code);
+
+/* Fills the list; entries that hold no host-port become 0. */
+cob_list cob_hosts_read(const uint8_t *text, size_t text_len, uint64_t *list, size_t list_len);
+
+/* The host-port that begins at one place, for a host that walks a text. */
+cob_found cob_host_at(const uint8_t *text, size_t text_len, size_t at);
+
+/* ---- ledgers as text and as saved bytes; the readers answer the number of the refusal, or 0 */
+
+/* Range lists, both ends counted. */
+uint8_t cob_ranges_read(const uint8_t *text, size_t text_len, uint64_t *ledger, size_t ledger_len);
+
+cob_written cob_ranges_write(const uint64_t *ledger, size_t ledger_len, uint8_t *out, size_t out_len);
+
+uint8_t cob_saved_read(const uint8_t *bytes, size_t bytes_len, uint64_t *ledger, size_t ledger_len);
+
+cob_written cob_saved_write(const uint64_t *ledger, size_t ledger_len, uint8_t *out, size_t out_len);
+
+#ifdef __cplusplus
+}
+#endif
+
+#endif

@@ -1,0 +1,199 @@
+//! Bytes per second of receive, beside a plain copy of the same payload bytes to their places and beside the second
+//! receiver of the tests: `cargo run --release --example speed`.
+
+#[path = "../tests/compare/random.rs"]
+#[allow(dead_code)]
+mod random;
+#[path = "../tests/second/mod.rs"]
+#[allow(dead_code)]
+mod second;
+
+use cobnutter::Transfer;
+use random::Random;
+use second::block::{Header, LENGTH};
+use std::ops::Range;
+use std::time::{Duration, Instant};
+
+const CHANNELS: usize = 8;
+/// For the runs of one row, the copies included.
+const BUDGET: Duration = Duration::from_secs(1);
+const LEAST_RUNS: usize = 5;
+
+/// A payload's range in the file.
+type Payload = Range<usize>;
+
+/// What one channel sends; each payload with its place in these bytes.
+#[derive(Default)]
+struct Stream {
+    bytes: Vec<u8>,
+    payloads: Vec<(usize, Payload)>,
+}
+
+impl Stream {
+    fn push(&mut self, descriptor: u8, payload: Payload, file: &[u8]) {
+        let (length, place) = (payload.len() as u64, payload.start as u64);
+        let header = Header {
+            descriptor,
+            length,
+            place,
+        };
+        self.bytes.extend(header.to_bytes());
+        self.payloads.push((self.bytes.len(), payload.clone()));
+        self.bytes.extend(&file[payload]);
+    }
+}
+
+/// Pieces in the order of arrival, their bytes one behind the other in memory.
+struct Arrival {
+    file: Vec<u8>,
+    wire: Vec<u8>,
+    pieces: Vec<(u64, Range<usize>)>,
+    /// The payload parts of the pieces, each with its place in the file.
+    copies: Vec<(Range<usize>, usize)>,
+}
+
+impl Arrival {
+    /// Payloads dealt out to the channels, each channel cut into pieces of `size` bytes, channels taking turns.
+    fn new(len: usize, payloads: &[Payload], size: usize) -> Arrival {
+        let mut file = vec![0; len];
+        for payload in payloads {
+            for place in payload.clone() {
+                file[place] = (place ^ place >> 9) as u8;
+            }
+        }
+        let streams = deal(payloads, &file);
+        let mut arrival = Arrival {
+            file,
+            wire: Vec::new(),
+            pieces: Vec::new(),
+            copies: Vec::new(),
+        };
+        let longest = streams.iter().map(|stream| stream.bytes.len()).max();
+        for from in (0..longest.unwrap_or(0)).step_by(size) {
+            for (channel, stream) in streams.iter().enumerate() {
+                let to = stream.bytes.len().min(from + size);
+                if from < to {
+                    arrival.push(channel as u64, stream, from..to);
+                }
+            }
+        }
+        arrival
+    }
+
+    fn push(&mut self, channel: u64, stream: &Stream, part: Range<usize>) {
+        let here = self.wire.len();
+        let first = stream
+            .payloads
+            .partition_point(|(at, payload)| at + payload.len() <= part.start);
+        for (at, payload) in &stream.payloads[first..] {
+            let (from, to) = (part.start.max(*at), part.end.min(at + payload.len()));
+            if from >= to {
+                break;
+            }
+            let source = here + from - part.start..here + to - part.start;
+            self.copies.push((source, payload.start + from - at));
+        }
+        self.wire.extend(&stream.bytes[part]);
+        self.pieces.push((channel, here..self.wire.len()));
+    }
+
+    fn each(&self, mut take: impl FnMut(u64, &[u8])) {
+        for (channel, piece) in &self.pieces {
+            take(*channel, &self.wire[piece.clone()]);
+        }
+    }
+
+    fn payload_bytes(&self) -> usize {
+        self.copies.iter().map(|(source, _)| source.len()).sum()
+    }
+}
+
+/// A well-formed sending over all channels.
+fn deal(payloads: &[Payload], file: &[u8]) -> [Stream; CHANNELS] {
+    let mut streams: [Stream; CHANNELS] = Default::default();
+    for (index, payload) in payloads.iter().enumerate() {
+        streams[index % CHANNELS].push(0, payload.clone(), file);
+    }
+    let (first, others) = streams.split_first_mut().unwrap();
+    // EODC: the third field is the number of channels, and no payload follows.
+    first.push(72, CHANNELS..CHANNELS, file);
+    for stream in others {
+        stream.push(8, 0..0, file);
+    }
+    streams
+}
+
+fn copy(arrival: &Arrival, file: &mut [u8], _ledger: &mut [u64]) {
+    for (source, place) in &arrival.copies {
+        file[*place..][..source.len()].copy_from_slice(&arrival.wire[source.clone()]);
+    }
+}
+
+fn library(arrival: &Arrival, file: &mut [u8], ledger: &mut [u64]) {
+    let mut transfer = Transfer::start(file.len() as u64, ledger).unwrap();
+    arrival.each(|channel, piece| {
+        transfer.receive(channel, piece, file, ledger).unwrap();
+    });
+    assert_eq!(transfer.verdict(), cobnutter::Verdict::Result);
+}
+
+fn second_receiver(arrival: &Arrival, file: &mut [u8], ledger: &mut [u64]) {
+    let mut transfer = second::receiver::Transfer::start(file.len() as u64, ledger).unwrap();
+    arrival.each(|channel, piece| {
+        transfer.receive(channel, piece, file, ledger).unwrap();
+    });
+    assert_eq!(transfer.verdict(), second::receiver::Verdict::Result);
+}
+
+/// Brings the pieces into the file, with a ledger.
+type Work = fn(&Arrival, &mut [u8], &mut [u64]);
+
+/// The best time of each, the three taking turns so that a busy machine disturbs them alike.
+fn measure(arrival: &Arrival, pairs: usize) -> [Duration; 3] {
+    let works: [Work; 3] = [copy, library, second_receiver];
+    let mut file = vec![0; arrival.file.len()];
+    let mut ledger = vec![0; 2 * pairs];
+    let mut best = [Duration::MAX; 3];
+    let begin = Instant::now();
+    let mut runs = 0;
+    while runs < LEAST_RUNS || begin.elapsed() < BUDGET {
+        for (work, best) in works.iter().zip(&mut best) {
+            file.fill(0);
+            let start = Instant::now();
+            work(arrival, &mut file, &mut ledger);
+            *best = start.elapsed().min(*best);
+            assert!(runs > 0 || file == arrival.file);
+        }
+        runs += 1;
+    }
+    best
+}
+
+fn row(name: &str, arrival: &Arrival, pairs: usize) {
+    let [copy, library, second] = measure(arrival, pairs)
+        .map(|time| arrival.payload_bytes() as f64 / 1e6 / time.as_secs_f64());
+    println!(
+        "{name:28} {pairs:5} {copy:9.0} {library:9.0} {second:9.0} {:9.3} {:9.3}",
+        library / copy,
+        library / second
+    );
+}
+
+fn main() {
+    println!(
+        "{:28} {:>5} {:>9} {:>9} {:>9} {:>9} {:>9}",
+        "MB/s", "R", "copy", "library", "second", "lib/copy", "lib/2nd"
+    );
+    let (len, block) = (64 << 20, 64 << 10);
+    let blocks: Vec<Payload> = (0..len).step_by(block).map(|at| at..at + block).collect();
+    for size in [64 << 10, 16 << 10, 4 << 10, 512] {
+        let arrival = Arrival::new(len, &blocks, size);
+        for pairs in [64, 4_096] {
+            row(&format!("64 MiB, pieces of {size}"), &arrival, pairs);
+        }
+    }
+    let mut scattered: Vec<Payload> = (0..4_000).map(|at| 1_024 * at..1_024 * at + 512).collect();
+    Random::new(1).shuffle(&mut scattered);
+    let arrival = Arrival::new(4_000 * 1_024, &scattered, LENGTH + 512);
+    row("4,000 ranges of 512", &arrival, 4_096);
+}

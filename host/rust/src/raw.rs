@@ -1,0 +1,192 @@
+//! The proved functions as they are linked, and the structs that they take and answer.
+//!
+//! In every answer `refused` is the number of the refusal, 0 where there is none, and a field that means nothing in a case
+//! is 0. A slice is a pointer and a length. No two slices of one call may overlap, and a pointer is never null, not even
+//! with the length 0; [`slice::as_ptr`] of a Rust slice always serves.
+
+/// One of a transfer's 64 channels.
+#[repr(C)]
+#[derive(Clone, Copy, Debug, Default, PartialEq, Eq)]
+pub struct Channel {
+    /// 0 unused, 1 in a header, 2 in a payload, 3 in a payload after which the channel ends, 4 ended.
+    pub state: u8,
+    /// How many bytes of a header are held; 0 unless in a header.
+    pub held: u8,
+    /// The next place of the payload; 0 unless in one.
+    pub next: u64,
+    /// The payload's bytes that are still to come; 0 unless in one.
+    pub left: u64,
+}
+
+/// What a receiver remembers between calls.
+#[repr(C)]
+#[derive(Clone, Copy, Debug, PartialEq, Eq)]
+pub struct Transfer {
+    /// The file's length, F.
+    pub len: u64,
+    /// The ledger's pairs, R.
+    pub pairs: u64,
+    /// The number of end markers that the sender announced; 0 while it is unknown.
+    pub count: u64,
+    /// The fault's number; 0 where there is none.
+    pub fault: u64,
+    /// The fault's channel; 0 where there is none.
+    pub on: u64,
+    /// The held header bytes, 16 for each channel.
+    pub heads: [u8; 1024],
+    pub channels: [Channel; 64],
+}
+
+#[repr(C)]
+#[derive(Clone, Copy, Debug, PartialEq, Eq)]
+pub struct Started {
+    pub transfer: Transfer,
+    pub refused: u8,
+}
+
+#[repr(C)]
+#[derive(Clone, Copy, Debug, PartialEq, Eq)]
+pub struct Received {
+    pub transfer: Transfer,
+    /// The bytes of the piece that were taken.
+    pub taken: usize,
+    /// 0 GUESS, 1 RESULT, 2 BROKEN.
+    pub verdict: u8,
+    pub refused: u8,
+}
+
+/// What every writer answers.
+#[repr(C)]
+#[derive(Clone, Copy, Debug, PartialEq, Eq)]
+pub struct Written {
+    /// The bytes written at the front of those lent.
+    pub length: usize,
+    pub refused: u8,
+}
+
+#[repr(C)]
+#[derive(Clone, Copy, Debug, PartialEq, Eq)]
+pub struct Fields {
+    /// The payload's length; 0 with EODC.
+    pub length: u64,
+    /// The offset, or the number of end markers with EODC.
+    pub third: u64,
+    pub descriptor: u8,
+    /// 1 with EODC, else 0.
+    pub is_eodc: u8,
+    pub refused: u8,
+}
+
+#[repr(C)]
+#[derive(Clone, Copy, Debug, PartialEq, Eq)]
+pub struct Command {
+    /// The argument is `line[from..to]`.
+    pub from: usize,
+    pub to: usize,
+    /// 1 to 12: MODE, PASV, PORT, REST, RETR, STOR, SPAS, SPOR, ERET, ESTO, SBUF, OPTS.
+    pub verb: u8,
+    pub refused: u8,
+}
+
+#[repr(C)]
+#[derive(Clone, Copy, Debug, PartialEq, Eq)]
+pub struct Reply {
+    /// 1 preliminary, 2 completion, 3 intermediate, 4 transient, 5 permanent.
+    pub digit: u8,
+    pub refused: u8,
+}
+
+#[repr(C)]
+#[derive(Clone, Copy, Debug, PartialEq, Eq)]
+pub struct List {
+    /// How many host-ports the text has.
+    pub count: usize,
+    pub refused: u8,
+}
+
+#[repr(C)]
+#[derive(Clone, Copy, Debug, PartialEq, Eq)]
+pub struct Found {
+    /// address * 65,536 + port.
+    pub value: u64,
+    /// The place behind it.
+    pub next: usize,
+    /// 1 where a host-port stands at the place, else 0.
+    pub found: u8,
+}
+
+extern "C" {
+    /// A fresh transfer for a file of `len` bytes; zeroes the ledger.
+    pub fn cob_start(len: u64, ledger: *mut u64, ledger_len: usize) -> Started;
+    /// Takes a piece that arrived on a channel.
+    pub fn cob_receive(
+        transfer: Transfer,
+        channel: u64,
+        piece: *const u8,
+        piece_len: usize,
+        file: *mut u8,
+        file_len: usize,
+        ledger: *mut u64,
+        ledger_len: usize,
+    ) -> Received;
+    /// 0 GUESS, 1 RESULT, 2 BROKEN.
+    pub fn cob_verdict(transfer: Transfer) -> u8;
+    /// The payload bytes stored since start.
+    pub fn cob_stored(transfer: Transfer, ledger: *const u64, ledger_len: usize) -> u64;
+    pub fn cob_screen_line(
+        transfer: Transfer,
+        ledger: *const u64,
+        ledger_len: usize,
+        out: *mut u8,
+        out_len: usize,
+    ) -> Written;
+
+    pub fn cob_header_read(bytes: *const u8, bytes_len: usize) -> Fields;
+    /// `third` is the offset, or the number of end markers with EODC.
+    pub fn cob_header_write(
+        descriptor: u8,
+        length: u64,
+        third: u64,
+        out: *mut u8,
+        out_len: usize,
+    ) -> Written;
+
+    pub fn cob_line_read(line: *const u8, line_len: usize) -> Command;
+    pub fn cob_reply_class(code: u16) -> Reply;
+    /// Fills a list of at least 64 entries with the host-ports of a text.
+    pub fn cob_hosts_read(
+        text: *const u8,
+        text_len: usize,
+        list: *mut u64,
+        list_len: usize,
+    ) -> List;
+    /// The host-port at a place of a text.
+    pub fn cob_host_at(text: *const u8, text_len: usize, at: usize) -> Found;
+
+    /// Answers the number of the refusal, 0 where there is none.
+    pub fn cob_ranges_read(
+        text: *const u8,
+        text_len: usize,
+        ledger: *mut u64,
+        ledger_len: usize,
+    ) -> u8;
+    pub fn cob_ranges_write(
+        ledger: *const u64,
+        ledger_len: usize,
+        out: *mut u8,
+        out_len: usize,
+    ) -> Written;
+    /// Answers the number of the refusal, 0 where there is none.
+    pub fn cob_saved_read(
+        bytes: *const u8,
+        bytes_len: usize,
+        ledger: *mut u64,
+        ledger_len: usize,
+    ) -> u8;
+    pub fn cob_saved_write(
+        ledger: *const u64,
+        ledger_len: usize,
+        out: *mut u8,
+        out_len: usize,
+    ) -> Written;
+}

@@ -1,0 +1,196 @@
+//! The examples of document 01, held by the second reading alone.
+
+use super::second::block::{self, Header};
+use super::second::receiver::{Transfer, Verdict};
+use super::second::{control, ranges, saved, screen, Answer};
+
+/// A transfer with what is lent to it.
+struct World {
+    transfer: Transfer,
+    file: Vec<u8>,
+    ledger: Vec<u64>,
+}
+
+impl World {
+    fn start(len: usize) -> World {
+        let mut ledger = vec![7; 8];
+        World {
+            transfer: Transfer::start(len as u64, &mut ledger).unwrap(),
+            file: vec![0; len],
+            ledger,
+        }
+    }
+
+    /// A block's header and what follows it, as one piece.
+    fn send(&mut self, channel: u64, header: [u64; 3], payload: &str) -> Answer<(Verdict, usize)> {
+        let [descriptor, length, place] = header;
+        let header = Header {
+            descriptor: descriptor as u8,
+            length,
+            place,
+        };
+        let piece = [&header.to_bytes(), payload.as_bytes()].concat();
+        self.transfer
+            .receive(channel, &piece, &mut self.file, &mut self.ledger)
+    }
+
+    fn screen_line(&self) -> String {
+        screen::line(&self.transfer, &self.ledger).unwrap()
+    }
+}
+
+/// The fault of a transfer of F = 8 after one header.
+fn fault_of(header: [u64; 3]) -> u64 {
+    let mut world = World::start(8);
+    assert_eq!(world.send(0, header, "").unwrap().1, 17);
+    world.transfer.fault
+}
+
+#[test]
+fn headers() {
+    let data = Header {
+        descriptor: 8,
+        length: 5,
+        place: 256,
+    };
+    assert_eq!(
+        data.to_bytes(),
+        [8, 0, 0, 0, 0, 0, 0, 0, 5, 0, 0, 0, 0, 0, 0, 1, 0]
+    );
+    assert_eq!(block::read(&data.to_bytes()), Ok(data));
+    let eodc = Header {
+        descriptor: 72,
+        length: 9,
+        place: 3,
+    };
+    assert_eq!(
+        eodc.to_bytes(),
+        [72, 0, 0, 0, 0, 0, 0, 0, 0, 0, 0, 0, 0, 0, 0, 0, 3]
+    );
+    for (descriptor, fault) in [(17, 11), (144, 12), (4, 13), (96, 13), (76, 0)] {
+        assert_eq!(fault_of([descriptor, 0, 1]), fault);
+        let header = Header {
+            descriptor: descriptor as u8,
+            length: 0,
+            place: 1,
+        };
+        assert_eq!(block::read(&header.to_bytes()).err().unwrap_or(0), fault);
+        assert_eq!(block::write(header, &mut [0; 17]).err().unwrap_or(0), fault);
+    }
+}
+
+#[test]
+fn accepted_descriptors() {
+    let accepts = |descriptor: &u8| {
+        Header {
+            descriptor: *descriptor,
+            length: 0,
+            place: 1,
+        }
+        .judge_descriptor()
+    };
+    let accepted: Vec<u8> = (0..=255)
+        .filter(|descriptor| accepts(descriptor).is_ok())
+        .collect();
+    assert_eq!(accepted, [0, 8, 12, 32, 40, 44, 64, 72, 76]);
+    let combined: Vec<u8> = (0..=255)
+        .filter(|descriptor| accepts(descriptor) == Err(13))
+        .collect();
+    assert_eq!(combined, [4, 36, 68, 96, 100, 104, 108]);
+}
+
+#[test]
+fn places() {
+    assert_eq!(fault_of([0, 4, 4]), 0);
+    assert_eq!(fault_of([0, 4, 5]), 16);
+    assert_eq!(fault_of([0, u64::MAX, 5]), 16);
+    assert_eq!(fault_of([0, 0, 100]), 0);
+}
+
+#[test]
+fn claims() {
+    let mut world = World::start(8);
+    world.send(0, [0, 4, 0], "").unwrap();
+    world.send(1, [0, 2, 3], "").unwrap();
+    assert_eq!(world.transfer.fault, 17);
+    let mut world = World::start(8);
+    world.send(0, [0, 4, 0], "").unwrap();
+    world.send(1, [0, 2, 4], "").unwrap();
+    assert_eq!(world.ledger, [0, 6, 0, 0, 0, 0, 0, 0]);
+}
+
+#[test]
+fn counts() {
+    assert_eq!(fault_of([64, 0, 0]), 15);
+    assert_eq!(fault_of([64, 0, 65]), 15);
+    assert_eq!(fault_of([64, 0, 64]), 0);
+    let mut world = World::start(8);
+    world.send(0, [0, 0, 0], "").unwrap();
+    world.send(1, [64, 0, 1], "").unwrap();
+    assert_eq!(world.transfer.fault, 15);
+    let mut world = World::start(8);
+    world.send(0, [0, 0, 0], "").unwrap();
+    world.send(1, [64, 0, 2], "").unwrap();
+    assert_eq!(world.send(2, [0, 0, 0], ""), Ok((Verdict::Broken, 0)));
+    assert_eq!((world.transfer.fault, world.transfer.on), (19, 2));
+}
+
+#[test]
+fn range_lists() {
+    for text in ["0-29,30-89", "60-89,0-59,5-5"] {
+        let mut ledger = [7; 6];
+        assert_eq!(ranges::read(text.as_bytes(), &mut ledger), Ok(()));
+        assert_eq!(ledger, [0, 90, 0, 0, 0, 0]);
+    }
+    for text in ["9-8", ""] {
+        let mut ledger = [7; 6];
+        assert_eq!(ranges::read(text.as_bytes(), &mut ledger), Err(51));
+        assert_eq!(ledger, [0; 6]);
+    }
+}
+
+#[test]
+fn lines() {
+    assert_eq!(control::line(b"retr a b \r\n"), Ok((5, &b"a b "[..])));
+    assert_eq!(control::line(b"PASV \r\n"), Err(35));
+    assert_eq!(control::line(b"MODE1\r\n"), Err(34));
+    assert_eq!(control::line(b"MODE1"), Err(32));
+}
+
+#[test]
+fn saved_ledgers() {
+    let cases: [(&[u64], &[u8]); 2] = [
+        (&[0, 0], &[2, 0, 0, 0, 1, 0]),
+        (
+            &[0, 90],
+            &[
+                18, 0, 0, 0, 1, 0, 0, 0, 0, 0, 0, 0, 0, 0, 90, 0, 0, 0, 0, 0, 0, 0,
+            ],
+        ),
+    ];
+    for (ledger, record) in cases {
+        let mut out = vec![0; record.len()];
+        assert_eq!(saved::write(ledger, &mut out), Ok(record.len()));
+        assert_eq!(out, record);
+        let mut loaded = [7; 2];
+        assert_eq!(saved::read(record, &mut loaded), Ok(()));
+        assert_eq!(loaded, ledger);
+    }
+}
+
+#[test]
+fn screen_lines() {
+    let mut world = World::start(8);
+    world.send(0, [0, 4, 0], "plai").unwrap();
+    assert_eq!(world.screen_line(), "GUESS ended 0 of ? bytes 4\n");
+    world.send(1, [8, 4, 4], "d123").unwrap();
+    assert_eq!(world.screen_line(), "GUESS ended 1 of ? bytes 8\n");
+    world.send(0, [72, 0, 2], "").unwrap();
+    assert_eq!(world.screen_line(), "RESULT ended 2 of 2 bytes 8\n");
+    assert_eq!(world.file, b"plaid123");
+
+    let mut broken = World::start(8);
+    broken.send(0, [0, 4, 0], "plai").unwrap();
+    broken.send(1, [8, 4, 3], "d123").unwrap();
+    assert_eq!(broken.screen_line(), "BROKEN 17 on 1 bytes 4\n");
+}

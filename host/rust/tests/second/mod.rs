@@ -1,0 +1,21 @@
+//! A second reading of document 01 in plain Rust, written apart from the proved library. An `Err` is a number of its
+//! table "Numbers the host sees".
+
+pub mod block;
+pub mod control;
+mod fit;
+pub mod ledger;
+pub mod ranges;
+pub mod receiver;
+pub mod saved;
+pub mod screen;
+
+pub type Answer<T> = Result<T, u64>;
+
+/// Writes all of `bytes` to the front of `out`, or nothing.
+fn put(bytes: &[u8], out: &mut [u8]) -> Answer<usize> {
+    out.get_mut(..bytes.len())
+        .ok_or(55u64)?
+        .copy_from_slice(bytes);
+    Ok(bytes.len())
+}

@@ -1,0 +1,198 @@
+//! Examples of what is read and written beside a transfer.
+
+use cobnutter::header::{self, Header};
+use cobnutter::line::{self, Verb};
+use cobnutter::reply::{self, Class};
+use cobnutter::{hosts, ranges, saved};
+use cobnutter::{meaning, Refusal, Transfer, Verdict, CHANNELS, LEDGER_LIMIT};
+use std::net::{Ipv4Addr, SocketAddrV4};
+
+fn number<T>(answer: Result<T, Refusal>) -> u8 {
+    answer.err().map_or(0, Refusal::number)
+}
+
+#[test]
+fn headers() {
+    let data = Header::Data {
+        descriptor: 8,
+        length: 5,
+        offset: 256,
+    };
+    let bytes = *b"\x08\0\0\0\0\0\0\0\x05\0\0\0\0\0\0\x01\0";
+    assert_eq!(header::write(data), Ok(bytes));
+    assert_eq!(header::read(&bytes), Ok(data));
+
+    let eodc = Header::Eodc {
+        descriptor: 72,
+        count: 3,
+    };
+    let bytes = *b"\x48\0\0\0\0\0\0\0\0\0\0\0\0\0\0\0\x03";
+    assert_eq!(header::write(eodc), Ok(bytes));
+    assert_eq!(header::read(&bytes), Ok(eodc));
+
+    assert_eq!(number(header::read(&bytes[1..])), 21);
+    for (descriptor, refused) in [(17, 11), (144, 12), (4, 13), (96, 13), (76, 0), (64, 0)] {
+        let count = 64;
+        assert_eq!(
+            number(header::write(Header::Eodc { descriptor, count })),
+            refused
+        );
+    }
+    let none = Header::Eodc {
+        descriptor: 64,
+        count: 0,
+    };
+    assert_eq!(number(header::write(none)), 15);
+}
+
+#[test]
+fn lines() {
+    let words = [
+        "MODE", "PASV", "PORT", "REST", "RETR", "STOR", "SPAS", "SPOR", "ERET", "ESTO", "SBUF",
+        "OPTS",
+    ];
+    for (verb, word) in Verb::ALL.into_iter().zip(words) {
+        let bare = verb == Verb::Pasv || verb == Verb::Spas;
+        let line = format!("{word}{}\r\n", if bare { "" } else { "  a b " });
+        let read = line::read(line.as_bytes()).unwrap();
+        assert_eq!(read.verb, verb);
+        assert_eq!(read.argument, if bare { &b""[..] } else { b"a b " });
+        assert_eq!(format!("{verb:?}").to_uppercase(), word);
+    }
+    assert_eq!(line::read(b"retr a b \r\n").unwrap().verb.number(), 5);
+    assert_eq!(number(line::read(&[b'A'; 2049])), 31);
+    assert_eq!(number(line::read(b"MODE1")), 32);
+    assert_eq!(number(line::read(b"MODE\tE\r\n")), 33);
+    assert_eq!(number(line::read(b"MODE1\r\n")), 34);
+    assert_eq!(number(line::read(b"PASV \r\n")), 35);
+}
+
+#[test]
+fn replies() {
+    let classes = [
+        (100, Class::Preliminary),
+        (299, Class::Completion),
+        (350, Class::Intermediate),
+        (400, Class::Transient),
+        (599, Class::Permanent),
+    ];
+    for (code, class) in classes {
+        assert_eq!(reply::class(code), Ok(class));
+    }
+    assert_eq!(number(reply::class(99)), 36);
+    assert_eq!(number(reply::class(600)), 36);
+}
+
+#[test]
+fn host_ports() {
+    let first = SocketAddrV4::new(Ipv4Addr::new(192, 0, 2, 1), 19 * 256 + 137);
+    let second = SocketAddrV4::new(Ipv4Addr::new(10, 0, 0, 255), 2811);
+    let text = "192,0,2,1,19,137 10,0,0,255,10,251";
+    assert_eq!(hosts::read(text), Ok(vec![first, second]));
+    assert_eq!(hosts::at(text, 0), Some((first, 16)));
+    assert_eq!(hosts::at(text, 17), Some((second, text.len())));
+    assert_eq!(hosts::at(text, 16), None);
+    assert_eq!(number(hosts::read("192,0,2,256,19,137")), 41);
+    let many = vec!["1,2,3,4,5,6"; 65].join(" ");
+    assert_eq!(number(hosts::read(&many)), 42);
+    let most = &many[..many.len() - 12];
+    assert_eq!(hosts::read(most).unwrap().len(), hosts::LIMIT);
+}
+
+#[test]
+fn ledgers() {
+    let mut ledger = [7; 4];
+    for text in ["0-29,30-89", "60-89,0-59,5-5"] {
+        ranges::read(text, &mut ledger).unwrap();
+        assert_eq!(ledger, [0, 90, 0, 0]);
+    }
+    assert_eq!(ranges::write(&ledger).unwrap(), "0-89");
+    let bytes = saved::write(&ledger).unwrap();
+    assert_eq!(bytes, b"\x12\0\0\0\x01\0\0\0\0\0\0\0\0\0\x5a\0\0\0\0\0\0\0");
+    assert_eq!(saved::write(&[]).unwrap(), b"\x02\0\0\0\x01\0");
+
+    let mut other = [7; 2];
+    saved::read(&bytes, &mut other).unwrap();
+    assert_eq!(other, [0, 90]);
+
+    assert_eq!(number(ranges::read("9-8", &mut other)), 51);
+    assert_eq!(other, [0; 2]);
+    assert_eq!(number(ranges::read("0-0,2-2", &mut other)), 52);
+    assert_eq!(number(ranges::read("0-0", &mut [0; 3])), 53);
+    assert_eq!(number(ranges::write(&[0; 2])), 54);
+    assert_eq!(number(ranges::write(&[5, 5])), 1);
+    assert_eq!(number(saved::read(&bytes[..5], &mut other)), 61);
+    assert_eq!(number(saved::read(b"\x02\0\0\0\x02\0", &mut other)), 62);
+    assert_eq!(number(saved::read(b"\x03\0\0\0\x01\0\0", &mut other)), 63);
+    assert_eq!(number(saved::read(&bytes, &mut [])), 64);
+}
+
+/// The longest text and the longest saved bytes that a ledger can have.
+#[test]
+fn full_ledgers() {
+    let entries = LEDGER_LIMIT as u64;
+    let ledger: Vec<u64> = (u64::MAX - entries..u64::MAX).collect();
+    let mut back = vec![0; LEDGER_LIMIT];
+    ranges::read(ranges::write(&ledger).unwrap(), &mut back).unwrap();
+    assert_eq!(back, ledger);
+    back.fill(0);
+    saved::read(&saved::write(&ledger).unwrap(), &mut back).unwrap();
+    assert_eq!(back, ledger);
+    assert_eq!(number(ranges::write(&[0; LEDGER_LIMIT + 2])), 53);
+    assert_eq!(number(saved::write(&[0; LEDGER_LIMIT + 2])), 53);
+}
+
+#[test]
+fn a_fault_and_refusals() {
+    let (mut file, mut ledger) = ([0; 8], [0; 2]);
+    assert_eq!(number(Transfer::start(8, &mut [0; 3])), 5);
+    let mut transfer = Transfer::start(8, &mut ledger).unwrap();
+    assert_eq!(transfer.fault(), None);
+    let block = |descriptor, length, offset| {
+        header::write(Header::Data {
+            descriptor,
+            length,
+            offset,
+        })
+        .unwrap()
+    };
+    let first = [&block(0, 4, 0)[..], b"plai"].concat();
+    let before = transfer.clone();
+    assert_eq!(
+        number(transfer.receive(0, &first, &mut file[1..], &mut ledger)),
+        1
+    );
+    assert_eq!(
+        number(transfer.receive(CHANNELS, &first, &mut file, &mut ledger)),
+        2
+    );
+    assert_eq!(transfer, before);
+
+    let received = transfer.receive(0, &first, &mut file, &mut ledger);
+    assert_eq!(received.unwrap().taken, 21);
+    assert_eq!(file, *b"plai\0\0\0\0");
+    let received = transfer.receive(1, &block(0, 2, 3), &mut file, &mut ledger);
+    assert_eq!(received.unwrap().verdict, Verdict::Broken);
+    assert_eq!(transfer.fault(), Some((17, 1)));
+    assert_eq!(transfer.stored(&ledger), 4);
+    assert_eq!(
+        transfer.screen_line(&ledger).unwrap(),
+        "BROKEN 17 on 1 bytes 4\n"
+    );
+    assert_eq!(number(transfer.receive(0, b"", &mut file, &mut ledger)), 3);
+    assert_eq!(number(transfer.screen_line(&[4, 4])), 1);
+}
+
+#[test]
+fn every_number_has_words() {
+    let known = [1..=5, 11..=21, 31..=36, 41..=43, 51..=55, 61..=64];
+    for number in 0..256 {
+        let listed = known.iter().any(|numbers| numbers.contains(&number));
+        assert_eq!(meaning(number) != "unknown", listed, "{number}");
+    }
+    let refusal = ranges::write(&[0; 2]).unwrap_err();
+    assert_eq!(
+        refusal.to_string(),
+        "refused with 54: an empty ledger has no text"
+    );
+}

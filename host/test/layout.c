@@ -1,0 +1,122 @@
+/* The layout of every struct, and every function called from C, document 01's screen lines printed. */
+#include "../cobnutter.h"
+
+#include <stdio.h>
+#include <string.h>
+
+#define SIZE(type, n) _Static_assert(sizeof(type) == (n), #type)
+#define AT(type, field, n) _Static_assert(offsetof(type, field) == (n), #type "." #field)
+
+SIZE(cob_channel, 24);
+AT(cob_channel, state, 0);
+AT(cob_channel, held, 1);
+AT(cob_channel, next, 8);
+AT(cob_channel, left, 16);
+
+SIZE(cob_transfer, 2600);
+AT(cob_transfer, len, 0);
+AT(cob_transfer, pairs, 8);
+AT(cob_transfer, count, 16);
+AT(cob_transfer, fault, 24);
+AT(cob_transfer, on, 32);
+AT(cob_transfer, heads, 40);
+AT(cob_transfer, channels, 1064);
+
+SIZE(cob_started, 2608);
+AT(cob_started, transfer, 0);
+AT(cob_started, refused, 2600);
+
+SIZE(cob_received, 2616);
+AT(cob_received, transfer, 0);
+AT(cob_received, taken, 2600);
+AT(cob_received, verdict, 2608);
+AT(cob_received, refused, 2609);
+
+SIZE(cob_written, 16);
+AT(cob_written, length, 0);
+AT(cob_written, refused, 8);
+
+SIZE(cob_fields, 24);
+AT(cob_fields, length, 0);
+AT(cob_fields, third, 8);
+AT(cob_fields, descriptor, 16);
+AT(cob_fields, is_eodc, 17);
+AT(cob_fields, refused, 18);
+
+SIZE(cob_command, 24);
+AT(cob_command, from, 0);
+AT(cob_command, to, 8);
+AT(cob_command, verb, 16);
+AT(cob_command, refused, 17);
+
+SIZE(cob_reply, 2);
+AT(cob_reply, digit, 0);
+AT(cob_reply, refused, 1);
+
+SIZE(cob_list, 16);
+AT(cob_list, count, 0);
+AT(cob_list, refused, 8);
+
+SIZE(cob_found, 24);
+AT(cob_found, value, 0);
+AT(cob_found, next, 8);
+AT(cob_found, found, 16);
+
+static cob_transfer transfer;
+static uint8_t file[8];
+static uint64_t ledger[2];
+
+/* A block on a channel, then the screen line. */
+static int block(uint64_t channel, uint8_t descriptor, uint64_t third, const char *payload)
+{
+    uint8_t piece[COB_HEADER_LENGTH + sizeof file];
+    uint8_t line[COB_SCREEN_LINE];
+    size_t length = strlen(payload);
+    cob_written header = cob_header_write(descriptor, length, third, piece, sizeof piece);
+    memcpy(piece + header.length, payload, length);
+    cob_received received = cob_receive(transfer, channel, piece, header.length + length, file, sizeof file, ledger, 2);
+    transfer = received.transfer;
+    cob_written screen = cob_screen_line(transfer, ledger, 2, line, sizeof line);
+    fwrite(line, 1, screen.length, stdout);
+    return header.refused == 0 && received.refused == 0 && received.taken == header.length + length &&
+           received.verdict == cob_verdict(transfer);
+}
+
+#define TEXT(s) (const uint8_t *)(s), sizeof(s) - 1
+
+static int control(void)
+{
+    static const char hosts[] = "10,0,0,1,0,20 192,0,2,1,19,137";
+    uint64_t list[COB_HOST_LIMIT];
+    uint64_t second = (uint64_t)0xc0000201 << 16 | 0x1389;
+    cob_command command = cob_line_read(TEXT("retr a b \r\n"));
+    cob_list read = cob_hosts_read(TEXT(hosts), list, COB_HOST_LIMIT);
+    cob_found found = cob_host_at(TEXT(hosts), 14);
+    return command.refused == 0 && command.verb == 5 && command.from == 5 && command.to == 9 &&
+           cob_line_read(TEXT("PASV \r\n")).refused == 35 && cob_reply_class(226).digit == 2 &&
+           cob_reply_class(600).refused == 36 && read.refused == 0 && read.count == 2 && list[1] == second &&
+           found.found == 1 && found.value == second && found.next == sizeof hosts - 1;
+}
+
+static int forms(void)
+{
+    uint64_t from[4], to[2];
+    uint8_t out[32];
+    cob_fields fields = cob_header_read(TEXT("\x08\0\0\0\0\0\0\0\x05\0\0\0\0\0\0\x01\0"));
+    int read = cob_ranges_read(TEXT("60-89,0-59,5-5"), from, 4);
+    cob_written text = cob_ranges_write(from, 4, out, sizeof out);
+    int same = text.length == 4 && memcmp(out, "0-89", 4) == 0;
+    cob_written saved = cob_saved_write(from, 4, out, sizeof out);
+    return fields.refused == 0 && fields.descriptor == 8 && fields.is_eodc == 0 && fields.length == 5 &&
+           fields.third == 256 && read == 0 && same && saved.length == 22 &&
+           cob_saved_read(out, saved.length, to, 2) == 0 && to[0] == 0 && to[1] == 90;
+}
+
+int main(void)
+{
+    cob_started started = cob_start(sizeof file, ledger, 2);
+    transfer = started.transfer;
+    int good = started.refused == 0 && block(0, 0, 0, "plai") && block(1, 8, 4, "d123") && block(0, 72, 2, "") &&
+               memcmp(file, "plaid123", sizeof file) == 0 && cob_stored(transfer, ledger, 2) == sizeof file;
+    return good && control() && forms() ? 0 : 1;
+}
