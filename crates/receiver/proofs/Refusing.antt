@@ -1,44 +1,34 @@
 -- The number by which a call is refused, test by test, and what a call answers by it.
 use Prim.Native.Nat.{ℕ, suc, _≤_, _<_}
-use mathlib.Core.Path.{_≡_, refl, sym}
-use mathlib.Core.Bool.{Bool, true, false, cond, not, _&&_, _||_, true≢false}
+use mathlib.Core.Path.{_≡_, refl, sym, ap, _∙_}
+use mathlib.Core.Bool.{Bool, true, false, cond, not, _&&_, _||_}
 use mathlib.Core.List.{List, [], _∷_}
 use native.Mathlib.Omega.{arith}
 use native.Mathlib.Decide.{decLt}
 use borrow.Author.Tests.{lt-ltb, le-leb, lt-leb}
 use lib.Dec.{ltb, eqb}
 use lib.ListN.{length}
-use Rattle.checks.specs.Survey.{unfit, surveyOf, surveyIn}
+use Rattle.checks.specs.Survey.{surveyWhere, surveyIn}
+use Rattle.checks.proofs.Surveys.{survey-in, fits-where, used-where, ended-where}
 use Rattle.transfer.specs.declared.state.Transfer.{Transfer}
 use Rattle.transfer.specs.Channel.{channelCount, channelAt}
 use Rattle.transfer.specs.Transfer.{usedOf, endedOf, World, world, guess, result, broken, isFinal, verdictOf}
 use Rattle.transfer.specs.Receive.{refused, isGuess, isSome, refusalOf, receiveOf}
-use Rattle.transfer.specs.Fit.{fitsLedger, fits}
+use Rattle.transfer.specs.Fit.{fits}
 use Rattle.receiver.specs.Runs.{bytesOn}
 use Rattle.receiver.proofs.StateNumbers.{is-ended, not-ended}
 
 -- ---- what the pass over the channels found
 
 module _ (t : Transfer) (f ledger : List ℕ) where
+  whole-is : surveyIn (length f) t ledger ≡ surveyWhere (fits (world t f ledger)) t
+  whole-is = survey-in (length f) t ledger ∙ (unfold fits in refl)
+
   pub found-fits : surveyIn (length f) t ledger .fits ≡ fits (world t f ledger)
-  unfolding surveyIn surveyOf fits
-  found-fits = go (eqb (length f) (t .len)) (fitsLedger t ledger)
-    where
-      go : (a b : Bool) → cond a (cond b (record { fits = true; used = usedOf t; ended = endedOf t }) unfit) unfit .fits ≡ (a && b)
-      go true true = refl
-      go true false = refl
-      go false b = refl
+  found-fits = ap (λ s. s .fits) whole-is ∙ fits-where (fits (world t f ledger)) t
 
   pub found-counts : fits (world t f ledger) ≡ true → (surveyIn (length f) t ledger .used ≡ usedOf t) × (surveyIn (length f) t ledger .ended ≡ endedOf t)
-  unfolding surveyIn surveyOf fits
-  found-counts = go (eqb (length f) (t .len)) (fitsLedger t ledger)
-    where
-      go : (a b : Bool) → (a && b) ≡ true
-          → (cond a (cond b (record { fits = true; used = usedOf t; ended = endedOf t }) unfit) unfit .used ≡ usedOf t)
-          × (cond a (cond b (record { fits = true; used = usedOf t; ended = endedOf t }) unfit) unfit .ended ≡ endedOf t)
-      go true true e = (refl, refl)
-      go true false e = absurd (true≢false (sym e))
-      go false b e = absurd (true≢false (sym e))
+  found-counts e = (ap (λ s. s .used) whole-is ∙ used-where (fits (world t f ledger)) t e, ap (λ s. s .ended) whole-is ∙ ended-where (fits (world t f ledger)) t e)
 
 -- the verdict by the numbers that the code has
 pub guess-is : (w : World) (ended : ℕ) → ended ≡ endedOf (w .t) → isGuess (verdictOf w) ≡ not (ltb 0 (w .t .fault) || (ltb 0 (w .t .count) && eqb ended (w .t .count)))
