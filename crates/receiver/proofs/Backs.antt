@@ -2,7 +2,7 @@
 use Prim.Native.Nat.{ℕ, _+_, _*_, _-_, _≤_, _<_}
 use mathlib.Core.Path.{_≡_, refl, sym, ap, _∙_}
 use mathlib.Core.Logic.{inl, inr}
-use mathlib.Core.Bool.{true, false, _&&_}
+use mathlib.Core.Bool.{true, false, cond, _&&_}
 use mathlib.Core.List.{List, [], _++_, append-assoc}
 use native.Mathlib.Omega.{arith}
 use borrow.Author.Tests.{ne-eqb, lt-ltb}
@@ -12,13 +12,13 @@ use lib.Seq.{getD-set-same, set-set, set-getD, take-at, drop-at, take-append-add
 use Rattle.transfer.specs.declared.state.Channel.{Channel}
 use Rattle.transfer.specs.declared.state.Transfer.{Transfer}
 use Rattle.transfer.specs.Channel.{channelCount, heldLimit, State, header, payload, ended, stateNumber, heldNumber, nextNumber, leftNumber, heldBytes, numbersOf, blank, channelAt, putState, putFault}
-use Rattle.transfer.specs.Transfer.{oneIfEnded, oneIfAlive, endedOf, usedOf, isFinal}
+use Rattle.transfer.specs.Transfer.{oneIfEnded, oneIfAlive, endedOf, usedOf, world, guess, result, broken, isFinal, verdictOf}
 use Rattle.transfer.specs.Header.{askedOf}
 use Rattle.receiver.specs.declared.live.Live.{Live}
 use Rattle.receiver.specs.declared.live.Others.{Others}
 use Rattle.receiver.specs.Leaves.{filledBy, held16}
 use Rattle.receiver.specs.Runs.{isLocked, Takes}
-use Rattle.receiver.specs.Live.{numbers, liveOf, back, bare, faulted, filled, Around, isBarred, TakesHeader}
+use Rattle.receiver.specs.Live.{numbers, back, bare, faulted, filled, Around, isBarred, TakesHeader}
 
 -- ---- 16 bytes between those before and those behind
 
@@ -124,6 +124,12 @@ module _ (t : Transfer) (c : ℕ) (o : Others) (a : Around t c o) where
       let z : oneIfEnded (numbers x) ≡ 0 = rw (ne-eqb (x .state) 4 (λ e. omega arith)) in
       let e : endedOf (back t c x) ≡ o .ended = omega (arith, a .ended x, z) in
       rw e (unfold back in refl)
+
+  -- the verdict by the count of the others that have ended
+  pub back-verdict : (x : Live) (file ledger : List ℕ)
+      → verdictOf (world (back t c x) file ledger) ≡ cond (ltb 0 (x .fault)) broken (cond (ltb 0 (x .count) && eqb (o .ended + oneIfEnded (numbers x)) (x .count)) result guess)
+  unfolding verdictOf isFinal
+  back-verdict x file ledger = rw (a .ended x) (unfold back in refl)
 
   pub back-used : (x : Live) → x .state ≡ 1 → usedOf (back t c x) ≡ o .used + 1
   back-used x s = let z : oneIfEnded (numbers x) + oneIfAlive (numbers x) ≡ 1 = rw s in omega (arith, a .used x, z)

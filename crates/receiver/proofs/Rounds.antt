@@ -19,16 +19,22 @@ use Rattle.transfer.proofs.Stages.{Stage, resting, collecting, storing}
 use Rattle.transfer.proofs.Sums.{sum-set, one-of}
 use Rattle.transfer.proofs.Together.{Together}
 use Rattle.receiver.specs.declared.live.Live.{Live}
-use Rattle.receiver.specs.Live.{numbers, liveOf, back, othersOf, Around}
+use Rattle.receiver.specs.Live.{numbers, liveFrom, back, othersOf, Around}
 
-pub back-live : (t : Transfer) (c : ℕ) → back t c (liveOf t c) ≡ t
-unfolding back liveOf
+pub back-live : (t : Transfer) (c : ℕ) → back t c (liveFrom (t .count) (t .fault) (t .on) (channelAt t c) (t .heads) c) ≡ t
+unfolding back liveFrom
 back-live t c =
     let h = t .heads in
     let e : take (heldLimit * c) h ++ (take heldLimit (drop (heldLimit * c) h) ++ drop (heldLimit * c + heldLimit) h) ≡ h =
     ap (λ x. take (heldLimit * c) h ++ (take heldLimit (drop (heldLimit * c) h) ++ x)) (sym (drop-drop heldLimit (heldLimit * c) h))
     ∙ ap (λ x. take (heldLimit * c) h ++ x) (take-append-drop heldLimit (drop (heldLimit * c) h)) ∙ take-append-drop (heldLimit * c) h in
     rw (e, set-getD (t .channels) c blank)
+
+-- written back number by number
+pub written-back : (t : Transfer) (c : ℕ) (x : Live) (h : List ℕ) → h ≡ take (heldLimit * c) (t .heads) ++ (x .bytes ++ drop (heldLimit * c + heldLimit) (t .heads))
+    → _≡_ {A = Transfer} (record { len = t .len; pairs = t .pairs; count = x .count; fault = x .fault; on = x .on; heads = h; channels = set (t .channels) c (numbers x) }) (back t c x)
+unfolding back
+written-back t c x h e = rw e
 
 -- a channel that is not unused counts for one
 counted : (k : Channel) → Stage k → oneIfEnded k + oneIfAlive k ≡ cond (eqb (k .state) 0) 0 1

@@ -9,7 +9,7 @@ use lib.ListN.{length, take, drop, set, replicate}
 use Rattle.checks.specs.declared.fit.Survey.{Survey}
 use Rattle.transfer.specs.declared.state.Channel.{Channel}
 use Rattle.transfer.specs.declared.state.Transfer.{Transfer}
-use Rattle.transfer.specs.Channel.{channelCount, heldLimit, channelAt}
+use Rattle.transfer.specs.Channel.{channelCount, heldLimit}
 use Rattle.transfer.specs.Transfer.{oneIfEnded, oneIfAlive, endedOf, usedOf}
 use Rattle.receiver.specs.declared.live.Live.{Live}
 use Rattle.receiver.specs.declared.live.Others.{Others}
@@ -17,18 +17,18 @@ use Rattle.receiver.specs.declared.live.Others.{Others}
 abbrev pub numbers : Live → Channel
 numbers x = record { state = x .state; held = x .held; next = x .next; left = x .left }
 
-unfoldable pub liveOf : Transfer → ℕ → Live
-liveOf t c =
-    let k = channelAt t c in
+-- channel c, with its numbers k, of a transfer with that count, fault and held bytes
+unfoldable pub liveFrom : ℕ → ℕ → ℕ → Channel → List ℕ → ℕ → Live
+liveFrom count fault on k heads c =
     record {
-      count = t .count;
-      fault = t .fault;
-      on = t .on;
+      count = count;
+      fault = fault;
+      on = on;
       state = k .state;
       held = k .held;
       next = k .next;
       left = k .left;
-      bytes = take heldLimit (drop (heldLimit * c) (t .heads));
+      bytes = take heldLimit (drop (heldLimit * c) heads);
     }
 
 unfoldable pub back : Transfer → ℕ → Live → Transfer

@@ -4,13 +4,13 @@ use crate::body;
 use checks::fit;
 use checks::fit::Survey;
 use transfer::state::Channel;
-use transfer::state::Transfer;
 ghost use mathlib.Core.Path.{_≡_};
 ghost use mathlib.Core.Bool.{cond};
+ghost use mathlib.Core.List.{_++_};
 ghost use Prim.Native.Nat.{_+_, _*_, _-_, _≤_, _<_};
 ghost use lib.Dec.{eqb};
 ghost use lib.ListN.{length, take, drop};
-ghost use Rattle.receiver.specs.Live.{liveOf, back, othersOf};
+ghost use Rattle.receiver.specs.Live.{liveFrom, othersOf};
 
 // What a call can change of its transfer: the channel's numbers and held bytes, count and fault.
 pub struct Live {
@@ -81,41 +81,28 @@ fn bytes_at(heads: &[u8], c: usize) -> [u8; 16]
     bytes
 }
 
-// Channel c of a transfer.
-pub fn of(t: Transfer, c: usize) -> Live
-    requires { ⌜ c < 64 ⌝ }
-    ensures { λ r. ⌜ r ≡ liveOf t c ⌝ }
+// Channel c, with its numbers k, of a transfer with that count and fault, whose held bytes are lent: a transfer passed whole would be copied.
+pub fn of(count: u64, fault: u64, on: u64, k: Channel, heads: &[u8], c: usize) -> Live
+    requires { ⌜ (c < 64) × (length (now heads) ≡ 1024) ⌝ }
+    ensures { λ r. ⌜ r ≡ liveFrom count fault on k (now (heads .entry)) c ⌝ }
 {
-    let k = t.channels[c];
     Live {
-        count: t.count,
-        fault: t.fault,
-        on: t.on,
+        count: count,
+        fault: fault,
+        on: on,
         state: k.state,
         held: k.held,
         next: k.next,
         left: k.left,
-        bytes: bytes_at(&t.heads, c),
+        bytes: bytes_at(heads, c),
     }
 }
 
-// Written back into its transfer.
-pub fn back(mut t: Transfer, c: usize, x: Live) -> Transfer
+// The bytes that channel c holds, written over those that it held.
+pub fn put_bytes(heads: &mut [u8; 1024], c: usize, x: Live)
     requires { ⌜ c < 64 ⌝ }
-    ensures { λ r. ⌜ r ≡ back t c x ⌝ }
+    ensures { λ _. ⌜ now (heads .exit) ≡ take (16 * c) (now (heads .entry)) ++ (x .bytes ++ drop (16 * c + 16) (now (heads .entry))) ⌝ }
 {
     let bytes = x.bytes;
-    let mut heads = t.heads;
-    body::store(&mut heads, fit::HELD_LIMIT * c, &bytes, fit::HELD_LIMIT);
-    t.heads = heads;
-    t.channels[c] = Channel {
-        state: x.state,
-        held: x.held,
-        next: x.next,
-        left: x.left,
-    };
-    t.count = x.count;
-    t.fault = x.fault;
-    t.on = x.on;
-    t
+    body::store(heads, fit::HELD_LIMIT * c, &bytes, fit::HELD_LIMIT);
 }

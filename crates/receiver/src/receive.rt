@@ -5,6 +5,7 @@ use crate::verdict;
 use checks::count;
 use checks::fit;
 use checks::fit::Survey;
+use transfer::state::Channel;
 use transfer::state::Transfer;
 ghost use mathlib.Core.Path.{_≡_};
 ghost use mathlib.Core.List.{List};
@@ -17,6 +18,7 @@ ghost use Rattle.transfer.specs.Transfer.{world, verdictOf};
 ghost use Rattle.transfer.specs.Receive.{isSome, refusalOf, receiveOf};
 ghost use Rattle.receiver.specs.Answers.{verdictIs, answerOf};
 
+#[repr(C)]
 pub struct Receiver {
     pub transfer: Transfer,
 }
@@ -99,10 +101,21 @@ impl Receiver {
             };
         }
         let o = live::around(t.len, found, k.state);
-        let r = step::take(live::of(t, c), c, o, piece, file, ledger);
+        let x = live::of(t.count, t.fault, t.on, k, &t.heads, c);
+        let r = step::take(x, c, o, piece, file, ledger);
         let y = r.live;
-        let after = live::back(t, c, y);
-        let shown = verdict::shown(after);
+        let shown = verdict::of(y.fault, y.count, o.ended, y.state);
+        let mut after = t;
+        live::put_bytes(&mut after.heads, c, y);
+        after.channels[c] = Channel {
+            state: y.state,
+            held: y.held,
+            next: y.next,
+            left: y.left,
+        };
+        after.count = y.count;
+        after.fault = y.fault;
+        after.on = y.on;
         Received {
             receiver: Receiver { transfer: after },
             verdict: shown,

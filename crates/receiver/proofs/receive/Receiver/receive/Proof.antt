@@ -4,15 +4,17 @@ use mathlib.Core.Path.{_≡_, refl, sym, ap, _∙_, subst}
 use mathlib.Core.Bool.{true}
 use native.Mathlib.Omega.{arith}
 use borrow.Author.Needs.{needs}
+use lib.ListN.{length}
 use Rattle.transfer.specs.declared.state.Transfer.{Transfer}
 use Rattle.transfer.specs.Channel.{channelAt}
-use Rattle.transfer.specs.Transfer.{World, world}
+use Rattle.transfer.specs.Transfer.{World, world, verdictOf}
 use Rattle.transfer.specs.Receive.{took, refusalOf}
 use Rattle.transfer.specs.Fit.{fits}
 use Rattle.transfer.proofs.FitTests.{fits-together}
 use Rattle.receiver.specs.Live.{back, Around}
 use Rattle.receiver.specs.Runs.{bytesOn}
-use Rattle.receiver.proofs.Rounds.{back-live, around-is}
+use Rattle.receiver.proofs.Backs.{back-verdict}
+use Rattle.receiver.proofs.Rounds.{back-live, written-back, around-is}
 use Rattle.receiver.proofs.Refusing.{found-counts, is-refused, is-taken, not-refused, some-is}
 use Rattle.receiver.proofs.receive.Receiver.receive.Statement.{statement}
 use Rattle.receiver.proofs.receive.Receiver.receive.Tie as tie
@@ -56,16 +58,25 @@ stands-round a =
     subst (Around t (p .place .result)) (sym (a .around .ensures))
     (around-is (given r) (fits-together (given r) (may (a .before) .0)) (p .place .result) (p .place .ensures .0) (w .whole .result) (ap (λ s. s .used) (w .whole .ensures) ∙ n .0) (ap (λ s. s .ended) (w .whole .ensures) ∙ n .1))
 
-as-given : (o : tie.After-of) → back (given (o .before .before .before) .t) (chosen (o .before .before)) (o .of .result) ≡ given (o .before .before .before) .t
+abbrev out : tie.After-of → tie.After-around
+out o = o .before .before .before .before
+
+as-given : (o : tie.After-of) → back (given (out o .before .before) .t) (chosen (out o .before)) (o .of .result) ≡ given (out o .before .before) .t
 as-given o =
-    let e = o .before .before in
+    let e = out o .before in
     ap (back (given (e .before) .t) (chosen e)) (o .of .ensures) ∙ back-live (given (e .before) .t) (chosen e)
 
-fits-out : (o : tie.After-of) → let e = o .before .before in let x = begun (e .before) .args in fits (world (back (x .self .transfer) (chosen e) (o .of .result)) (x .file .now) (x .ledger .now)) ≡ true
+fits-out : (o : tie.After-of) → let e = out o .before in let x = begun (e .before) .args in fits (world (back (x .self .transfer) (chosen e) (o .of .result)) (x .file .now) (x .ledger .now)) ≡ true
 fits-out o =
-    let e = o .before .before in
+    let e = out o .before in
     let x = begun (e .before) .args in
     ap (λ t. fits (world t (x .file .now) (x .ledger .now))) (as-given o) ∙ may e .0
+
+chosen-few : (k : tie.After-take) → chosen (out (k .before .before .before) .before) < 64
+chosen-few k = out (k .before .before .before) .before .before .before .before .place .ensures .0
+
+abbrev taken : tie.After-put-bytes-arg → tie.After-take
+taken c = c .before .before .before .before .before .before .before
 
 whole-requires : tie.Need-whole-requires
 whole-requires c κs = search needs
@@ -101,13 +112,19 @@ of-requires : tie.Need-of-requires
 of-requires c κs = search needs
 
 take-requires : tie.Need-take-requires
-take-requires c κs = let o = c .before .before in (given (o .before .before .before) .t, stands-round (o .before), fits-out o)
+take-requires c κs = let o = c .before .before in (given (out o .before .before) .t, stands-round (out o), fits-out o)
 
-back-requires : tie.Need-back-requires
-back-requires c κs = search needs
+of-requires-2 : tie.Need-of-requires-2
+of-requires-2 c κs = search needs
 
-shown-requires-2 : tie.Need-shown-requires-2
-shown-requires-2 c κs = search needs
+put-bytes-requires : tie.Need-put-bytes-requires
+put-bytes-requires c κs = chosen-few (taken c)
+
+mul-t19 : tie.Need-mul-t19
+mul-t19 c = omega (arith, chosen-few (taken (c .before)))
+
+element-set-from-after : tie.Need-element-set-from-after
+element-set-from-after c = chosen-few (taken (c .before))
 
 same-length-2 : tie.Need-same-length-2
 same-length-2 c = search needs
@@ -117,18 +134,19 @@ same-length-3 c = search needs
 
 returns-2 : tie.Need-returns-2
 returns-2 c =
-    let b = c .before in
-    let k = b .before .before .before .before .before .before in
+    let k = taken (c .before) in
     let o = k .before .before .before in
-    let e = o .before .before in
+    let a = out o in
+    let e = a .before in
     let x = begun (e .before) .args in
-    let t = x .self .transfer in (
-      ap (λ (u : Transfer). (took (k .take .result .taken), world u (k .take .last .1 .1 .1 .1 .0) (k .take .last .1 .1 .1 .1 .1 .0))) (b .back .ensures)
-          ∙ k .take .ensures t (stands-round (o .before)) (fits-out o)
+    let t = x .self .transfer in
+    let y = k .take .result .live in (
+      ap (λ (u : Transfer). (took (k .take .result .taken), world u (k .take .last .1 .1 .1 .1 .0) (k .take .last .1 .1 .1 .1 .1 .0))) (written-back t (chosen e) y (c .put-bytes .last .0) (c .put-bytes .ensures))
+          ∙ k .take .ensures t (stands-round a) (fits-out o)
           ∙ ap (λ u. bytesOn (chosen e) (world u (x .file .now) (x .ledger .now)) (x .piece .now) 0) (as-given o)
           ∙ ap (λ i. bytesOn i (given (e .before)) (x .piece .now) 0) (e .before .before .before .place .ensures .1 (may e .1))
           ∙ is-taken (given (e .before)) (x .channel) (x .piece .now) (not-refused-is e),
-      c .shown2 .ensures _ _,
+      c .before .before .of2 .ensures ∙ sym (ap (λ u. verdictOf (world u (k .take .last .1 .1 .1 .1 .0) (k .take .last .1 .1 .1 .1 .1 .0))) (written-back t (chosen e) y (c .put-bytes .last .0) (c .put-bytes .ensures)) ∙ back-verdict t (chosen e) (a .around .result) (stands-round a) y (k .take .last .1 .1 .1 .1 .0) (k .take .last .1 .1 .1 .1 .1 .0)),
     )
 
 pub receive-spec : {M : Type 1} → statement M
@@ -146,8 +164,10 @@ receive-spec =
     around-requires
     of-requires
     take-requires
-    back-requires
-    shown-requires-2
+    of-requires-2
+    put-bytes-requires
+    mul-t19
+    element-set-from-after
     same-length-2
     same-length-3
     returns-2)
