@@ -38,6 +38,7 @@ pub fn put(x: Live, state: u8, next: u64, left: u64) -> Live
 pub fn fault(x: Live, c: usize, k: u64) -> Live
     ensures { λ r. ⌜ r ≡ faulted x c k ⌝ }
 {
+    let none = [0u8; 16];
     Live {
         count: x.count,
         fault: k,
@@ -46,7 +47,7 @@ pub fn fault(x: Live, c: usize, k: u64) -> Live
         held: 0,
         next: 0,
         left: 0,
-        bytes: [0; 16],
+        bytes: none,
     }
 }
 
