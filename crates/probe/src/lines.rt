@@ -3,12 +3,12 @@ use crate::fill;
 use crate::frame;
 use crate::part;
 use crate::print;
-use control::hosts;
-use control::hosts::Hosts;
-use control::line;
-use control::line::Line;
-use control::reply;
-use control::reply::Class;
+use commands::line;
+use commands::line::Line;
+use hostports::hosts;
+use hostports::hosts::Hosts;
+use replies::reply;
+use replies::reply::Class;
 
 pub fn command(text: &[u8]) {
     let answer = line::read(text);

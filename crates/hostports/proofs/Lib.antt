@@ -1,0 +1,4 @@
+mod Held
+pub mod HostPorts
+mod Lists
+pub mod Written
