@@ -1,10 +1,10 @@
 // Examples of document 01 that are run: a line for each, held against the file `stdout`. Bytes are printed in hexadecimal, none as '-'.
-use control::line;
-use control::line::Line;
-use forms::answer::Loaded;
-use forms::answer::Written;
-use forms::saved;
+use commands::line;
+use commands::line::Line;
+use ledger::answer::Loaded;
+use ledger::answer::Written;
 use libc::STDOUT_FILENO;
+use savedledgers::saved;
 
 fn print_bytes(bytes: &[u8]) {
     if bytes.len() == 0 {

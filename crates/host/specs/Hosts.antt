@@ -1,8 +1,8 @@
 -- What host-ports are found, as a host has it.
-use Rattle.control.specs.declared.hosts.Hosts.{Hosts}
-use Rattle.control.specs.declared.hosts.Hosts.the-variants.{Count, Refused}
-use Rattle.control.specs.declared.hosts.Step.{Step}
-use Rattle.control.specs.declared.hosts.Step.the-variants.{Host, Malformed}
+use Rattle.hostlists.specs.declared.list.Hosts.{Hosts}
+use Rattle.hostlists.specs.declared.list.Hosts.the-variants.{Count, Refused}
+use Rattle.hostports.specs.declared.hosts.Step.{Step}
+use Rattle.hostports.specs.declared.hosts.Step.the-variants.{Host, Malformed}
 use Rattle.host.specs.declared.hosts.List.{List}
 use Rattle.host.specs.declared.hosts.Found.{Found}
 

@@ -1,6 +1,6 @@
 -- What a command line says, as a host has it: the places of the argument in the line.
-use Rattle.control.specs.declared.line.Line.{Line}
-use Rattle.control.specs.declared.line.Line.the-variants.{Command as Says, Refused}
+use Rattle.commands.specs.declared.line.Line.{Line}
+use Rattle.commands.specs.declared.line.Line.the-variants.{Command as Says, Refused}
 use Rattle.host.specs.declared.line.Command.{Command}
 
 abbrev pub commandOf : Line → Command

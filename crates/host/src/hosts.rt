@@ -1,9 +1,11 @@
 // Host-ports.
-use control::hosts;
-use control::hosts::Hosts;
-use control::hosts::Step;
+use hostlists::list;
+use hostlists::list::Hosts;
+use hostports::hosts;
+use hostports::hosts::Step;
 ghost use mathlib.Core.Path.{_≡_};
-ghost use Rattle.control.specs.HostPort.{hostPortAt, fillOf, leftBy};
+ghost use Rattle.hostlists.specs.HostList.{fillOf, leftBy};
+ghost use Rattle.hostports.specs.HostPort.{hostPortAt};
 ghost use Rattle.host.specs.Hosts.{listOf, foundOf};
 
 #[repr(C)]
@@ -27,7 +29,7 @@ pub struct Found {
 pub extern "C" fn cob_hosts_read(text: &[u8], list: &mut [u64]) -> List
     ensures { λ r. ⌜ (r ≡ listOf (fillOf (now (text .entry)) (now (list .entry)))) × (now (list .exit) ≡ leftBy (now (text .entry)) (now (list .entry))) ⌝ }
 {
-    let answer = hosts::fill(text, list);
+    let answer = list::fill(text, list);
     match answer {
         Hosts::Count(n) => List {
             count: n,

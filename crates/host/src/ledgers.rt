@@ -1,13 +1,13 @@
 // A ledger as range list and as saved bytes, read and written.
 use crate::written::Written;
-use forms::answer;
-use forms::answer::Loaded;
-use forms::ranges;
-use forms::saved;
+use ledger::answer;
+use ledger::answer::Loaded;
+use rangelists::ranges;
+use savedledgers::saved;
 ghost use mathlib.Core.Path.{_≡_};
-ghost use Rattle.forms.specs.Answer.{loadedNumber, writtenNumber, writtenBytes};
-ghost use Rattle.forms.specs.RangeText.{readRanges, rangesLeft, writeRanges, rangesWritten};
-ghost use Rattle.forms.specs.Saved.{readSaved, savedLeft, writeSaved, savedWritten};
+ghost use Rattle.ledger.specs.Answer.{loadedNumber, writtenNumber, writtenBytes};
+ghost use Rattle.rangelists.specs.RangeText.{readRanges, rangesLeft, writeRanges, rangesWritten};
+ghost use Rattle.savedledgers.specs.Saved.{readSaved, savedLeft, writeSaved, savedWritten};
 
 fn number_of(l: Loaded) -> u8
     ensures { λ r. ⌜ r ≡ loadedNumber l ⌝ }

@@ -1,8 +1,8 @@
 // Command lines.
-use control::line;
-use control::line::Line;
+use commands::line;
+use commands::line::Line;
 ghost use mathlib.Core.Path.{_≡_};
-ghost use Rattle.control.specs.Line.{readOf};
+ghost use Rattle.commands.specs.Line.{readOf};
 ghost use Rattle.host.specs.Line.{commandOf};
 
 #[repr(C)]

@@ -1,8 +1,8 @@
 // Reply codes.
-use control::reply;
-use control::reply::Class;
+use replies::reply;
+use replies::reply::Class;
 ghost use mathlib.Core.Path.{_≡_};
-ghost use Rattle.control.specs.Reply.{classOf, number, digit};
+ghost use Rattle.replies.specs.Reply.{classOf, number, digit};
 
 #[repr(C)]
 pub struct Reply {

@@ -3,11 +3,11 @@ use crate::fill;
 use crate::frame;
 use crate::part;
 use crate::print;
-use forms::answer::Loaded;
-use forms::answer::Written;
-use forms::ranges;
-use forms::saved;
+use ledger::answer::Loaded;
+use ledger::answer::Written;
 use octets::little;
+use rangelists::ranges;
+use savedledgers::saved;
 ghost use mathlib.Core.Path.{_≡_};
 ghost use lib.ListN.{length};
 

@@ -3,12 +3,12 @@ use crate::fill;
 use crate::frame;
 use crate::part;
 use crate::print;
-use control::hosts;
-use control::hosts::Hosts;
-use control::line;
-use control::line::Line;
-use control::reply;
-use control::reply::Class;
+use commands::line;
+use commands::line::Line;
+use hostlists::list;
+use hostlists::list::Hosts;
+use replies::reply;
+use replies::reply::Class;
 
 pub fn command(text: &[u8]) {
     let answer = line::read(text);
@@ -46,7 +46,7 @@ pub fn reply(body: &[u8]) -> bool {
 }
 
 fn hosts_into(text: &[u8], list: &mut [u64]) {
-    let answer = hosts::fill(text, list);
+    let answer = list::fill(text, list);
     match answer {
         Hosts::Count(n) => print::counted(b"HOSTS ", n),
         Hosts::Refused(k) => print::refused(k),

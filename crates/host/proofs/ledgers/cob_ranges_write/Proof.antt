@@ -1,6 +1,6 @@
 -- `ledgers::cob_ranges_write`.
 use mathlib.Core.Path.{ap, _∙_}
-use Rattle.forms.specs.Answer.{writtenBytes, writtenNumber}
+use Rattle.ledger.specs.Answer.{writtenBytes, writtenNumber}
 use borrow.Author.Needs.{needs}
 use Rattle.host.proofs.ledgers.cob_ranges_write.Statement.{statement}
 use Rattle.host.proofs.ledgers.cob_ranges_write.Tie as tie

@@ -1,6 +1,6 @@
 -- `ledgers::cob_saved_write`.
 use mathlib.Core.Path.{ap, _∙_}
-use Rattle.forms.specs.Answer.{writtenBytes, writtenNumber}
+use Rattle.ledger.specs.Answer.{writtenBytes, writtenNumber}
 use borrow.Author.Needs.{needs}
 use Rattle.host.proofs.ledgers.cob_saved_write.Statement.{statement}
 use Rattle.host.proofs.ledgers.cob_saved_write.Tie as tie

@@ -1,6 +1,6 @@
 -- `ledgers::written`.
 use mathlib.Core.Path.{sym, ap}
-use Rattle.forms.specs.Answer.{writtenBytes, writtenNumber}
+use Rattle.ledger.specs.Answer.{writtenBytes, writtenNumber}
 use borrow.Author.Needs.{needs}
 use Rattle.host.proofs.ledgers.written.Statement.{statement}
 use Rattle.host.proofs.ledgers.written.Tie as tie

@@ -1,8 +1,8 @@
 -- `reply::cob_reply_class`.
 use Prim.Native.Nat.{ℕ}
 use mathlib.Core.Path.{_≡_, refl, sym, ap, _∙_}
-use Rattle.control.specs.Reply.{number, digit}
-use Rattle.control.specs.declared.reply.Class.{Class}
+use Rattle.replies.specs.Reply.{number, digit}
+use Rattle.replies.specs.declared.reply.Class.{Class}
 use borrow.Author.Needs.{needs}
 use Rattle.host.proofs.reply.cob_reply_class.Statement.{statement}
 use Rattle.host.proofs.reply.cob_reply_class.Tie as tie

@@ -1,0 +1,5 @@
+mod Runs
+mod Verbs
+mod Parts
+pub mod Answers
+pub mod Looks

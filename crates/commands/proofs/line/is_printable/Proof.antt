@@ -1,0 +1,13 @@
+-- `line::is_printable`.
+use borrow.Author.Tests.{lt-leb, le-leb}
+use Rattle.commands.proofs.line.is_printable.Statement.{statement}
+use Rattle.commands.proofs.line.is_printable.Tie as tie
+
+returns : tie.Need-returns
+returns c = rw (lt-leb 32 (c .before .args .b) (c .if1 .taken))
+
+returns-2 : tie.Need-returns-2
+returns-2 c = rw (le-leb 32 (c .before .args .b) (c .if1 .left))
+
+pub is-printable-spec : {M : Type 1} → statement M
+is-printable-spec = tie.close (tie.spec returns returns-2)

@@ -1,5 +1,0 @@
-pub mod Reply
-pub mod Line
-pub mod Accepted
-pub mod HostPort
-pub mod HostPorts

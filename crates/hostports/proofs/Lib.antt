@@ -1,0 +1,3 @@
+mod Held
+pub mod HostPorts
+pub mod Written

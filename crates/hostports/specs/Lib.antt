@@ -1,0 +1,2 @@
+pub mod HostPort
+pub mod HostPorts

@@ -1,0 +1,2 @@
+// The control channel's host-ports, one by one (document 01, "Control lines").
+pub mod hosts;

@@ -1,0 +1,98 @@
+-- What the text between two commas says, by what it begins with.
+use Prim.Native.Nat.{ℕ, suc, _≤_, _<_}
+use mathlib.Core.Path.{_≡_, refl}
+use mathlib.Core.Bool.{Bool, true, false, cond, _&&_, and-true, and-false, and-eq-true-iff}
+use mathlib.Core.List.{List}
+use native.Mathlib.Omega.{arith}
+use borrow.Author.Tests.{le-leb, lt-leb, leb-true, eq-eqb, ne-eqb}
+use lib.Dec.{leb, eqb}
+use lib.ListN.{length, getD, take, drop, List·getD-eq-default}
+use Rattle.octets.specs.Decimal.{digitRun, digitsOnly, numberOf, readOf}
+use Rattle.octets.specs.declared.decimal.Number.the-variants.{Value, Nothing}
+use Rattle.rangelists.specs.RangeText.{endLimit, bound, boundOf, rangeOf}
+use Rattle.rangelists.specs.declared.ranges.Range.the-variants.{Places, Malformed}
+
+-- ---- a number
+
+pub bound-long : (text : List ℕ) → 20 < length text → boundOf text ≡ Nothing
+unfolding bound boundOf
+bound-long text h = rw (lt-leb (length text) 20 h, and-false (leb 1 (length text)))
+
+pub bound-read : (text : List ℕ) → length text ≤ 20 → boundOf text ≡ readOf text endLimit
+unfolding bound boundOf readOf
+bound-read text h = rw (le-leb (length text) 20 h, and-true (leb 1 (length text)))
+
+pub bound-nothing : (text : List ℕ) → boundOf text ≡ Nothing → bound text ≡ false
+unfolding boundOf
+bound-nothing text h = go (bound text) h
+  where
+    go : (t : Bool) → cond t (Value (numberOf text)) Nothing ≡ Nothing → t ≡ false
+    go true e = let z : _≡_ {A = ℕ} 0 1 = cc in absurd (omega arith)
+    go false e = refl
+
+pub bound-value : (text : List ℕ) (n : ℕ) → boundOf text ≡ Value n → (bound text ≡ true) × (numberOf text ≡ n)
+unfolding boundOf
+bound-value text n h = go (bound text) h
+  where
+    go : (t : Bool) → cond t (Value (numberOf text)) Nothing ≡ Value n → (t ≡ true) × (numberOf text ≡ n)
+    go true e = (refl, cc)
+    go false e = let z : _≡_ {A = ℕ} 0 1 = cc in absurd (omega arith)
+
+pub bound-le : (text : List ℕ) → bound text ≡ true → numberOf text ≤ endLimit
+unfolding bound
+bound-le text h =
+    let p = and-eq-true-iff (leb 1 (length text) && leb (length text) 20) (digitsOnly text && leb (numberOf text) endLimit) .0 h in
+    let q = and-eq-true-iff (digitsOnly text) (leb (numberOf text) endLimit) .0 (p .1) in
+    leb-true (numberOf text) endLimit (q .1)
+
+-- ---- a range
+
+module _ (text : List ℕ) where
+  pub range-no-hyphen : (getD text (digitRun text) 0 ≡ 45 → ⊥) → rangeOf text ≡ Malformed
+  unfolding rangeOf
+  range-no-hyphen n = rw (ne-eqb (getD text (digitRun text) 0) 45 n, and-false (bound (take (digitRun text) text)))
+
+  pub range-short : length text ≤ digitRun text → rangeOf text ≡ Malformed
+  range-short h = range-no-hyphen (λ e. omega (arith, e, List·getD-eq-default text 0 h))
+
+  pub range-no-start : bound (take (digitRun text) text) ≡ false → rangeOf text ≡ Malformed
+  unfolding rangeOf
+  range-no-start e = rw e
+
+  module _ (a : bound (take (digitRun text) text) ≡ true) (h : getD text (digitRun text) 0 ≡ 45) where
+    pub range-no-end : bound (drop (suc (digitRun text)) text) ≡ false → rangeOf text ≡ Malformed
+    unfolding rangeOf
+    range-no-end e = rw (a, eq-eqb (getD text (digitRun text) 0) 45 h, e)
+
+    module _ (b : bound (drop (suc (digitRun text)) text) ≡ true) where
+      pub range-falling : numberOf (drop (suc (digitRun text)) text) < numberOf (take (digitRun text) text) → rangeOf text ≡ Malformed
+      unfolding rangeOf
+      range-falling l =
+          rw (a, eq-eqb (getD text (digitRun text) 0) 45 h, b, lt-leb (numberOf (take (digitRun text) text)) (numberOf (drop (suc (digitRun text)) text)) l)
+
+      pub range-places : numberOf (take (digitRun text) text) ≤ numberOf (drop (suc (digitRun text)) text)
+          → rangeOf text ≡ Places (numberOf (take (digitRun text) text)) (suc (numberOf (drop (suc (digitRun text)) text)))
+      unfolding rangeOf
+      range-places l =
+          rw (a, eq-eqb (getD text (digitRun text) 0) 45 h, b, le-leb (numberOf (take (digitRun text) text)) (numberOf (drop (suc (digitRun text)) text)) l)
+
+-- a range holds a place
+pub range-some : (text : List ℕ) (s e : ℕ) → rangeOf text ≡ Places s e → s < e
+unfolding rangeOf
+range-some text s e h = go (bound a) (eqb (getD text (digitRun text) 0) 45) (bound b) (leb (numberOf a) (numberOf b)) refl h
+  where
+    a : List ℕ
+    a = take (digitRun text) text
+
+    b : List ℕ
+    b = drop (suc (digitRun text)) text
+
+    go : (p q r t : Bool) → leb (numberOf a) (numberOf b) ≡ t → cond (p && (q && (r && t))) (Places (numberOf a) (suc (numberOf b))) Malformed ≡ Places s e → s < e
+    go true true true true l k =
+        let x : numberOf a ≡ s = cc in
+        let y : suc (numberOf b) ≡ e = cc in
+        omega (arith, leb-true (numberOf a) (numberOf b) l)
+    go true true true false l k = let z : _≡_ {A = ℕ} 0 1 = cc in absurd (omega arith)
+    go true true false t l k = let z : _≡_ {A = ℕ} 0 1 = cc in absurd (omega arith)
+    go true false r t l k = let z : _≡_ {A = ℕ} 0 1 = cc in absurd (omega arith)
+    go false q r t l k = let z : _≡_ {A = ℕ} 0 1 = cc in absurd (omega arith)

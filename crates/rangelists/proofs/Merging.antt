@@ -1,0 +1,128 @@
+-- Merging the ranges of a list, one by one.
+use Prim.Native.Nat.{ℕ, zero, suc, _*_, _/_, _%_, _<_}
+use mathlib.Core.Path.{_≡_, refl, sym, ap, _∙_}
+use mathlib.Core.Bool.{Bool, true, false, cond, not}
+use mathlib.Core.List.{List, [], _∷_}
+use native.Mathlib.Omega.{arith}
+use borrow.Author.Tests.{ltb-false, not-true, not-false}
+use lib.Dec.{ltb}
+use lib.ListN.{length, take, drop, replicate, length-replicate}
+use lib.Seq.{take-all}
+use Rattle.ledger.specs.Pairs.{Pairs, none, size, join, endsBy}
+use Rattle.ledger.specs.Ledger.{obeys, pairsOf, lent, roomOf}
+use Rattle.ledger.specs.Claim.{largest, joinsIn, joinedIn}
+use Rattle.ledger.proofs.Joined.{join-ruled}
+use Rattle.ledger.proofs.Lents.{pairsOf-lent, rule-lent, rule-ruled, lent-pairsOf}
+use Rattle.ledger.proofs.Claims.{joins-is, joined-is}
+use Rattle.rangelists.specs.RangeText.{commaRun, parts, rangesOf, rangeOf, Merged, merged, trouble, added, mergedFrom, Says}
+use Rattle.rangelists.specs.declared.ranges.Range.{Range}
+use Rattle.rangelists.specs.declared.ranges.Range.the-variants.{Places, Malformed}
+use Rattle.rangelists.proofs.Commas.{parts-first, parts-last, parts-next}
+use Rattle.rangelists.proofs.Bounds.{range-some}
+
+-- ---- one range more, and then the others
+
+added-on : (r : ℕ) (ps qs : Pairs) (x : Range) (on : Pairs → Merged) → added r ps x merged ≡ merged qs → added r ps x on ≡ on qs
+unfolding added
+added-on r ps qs Malformed on h = let z : _≡_ {A = ℕ} 0 1 = cc in absurd (omega arith)
+added-on r ps qs (Places s e) on h = go (ltb r (size (join s e ps))) h
+  where
+    go : (t : Bool) → cond t (trouble 52) (merged (join s e ps)) ≡ merged qs → cond t (trouble 52) (on (join s e ps)) ≡ on qs
+    go true k = let z : _≡_ {A = ℕ} 0 1 = cc in absurd (omega arith)
+    go false k = let q : join s e ps ≡ qs = cc in ap on q
+
+added-stop : (r k : ℕ) (ps : Pairs) (x : Range) (on : Pairs → Merged) → added r ps x merged ≡ trouble k → added r ps x on ≡ trouble k
+unfolding added
+added-stop r k ps Malformed on h = h
+added-stop r k ps (Places s e) on h = go (ltb r (size (join s e ps))) h
+  where
+    go : (t : Bool) → cond t (trouble 52) (merged (join s e ps)) ≡ trouble k → cond t (trouble 52) (on (join s e ps)) ≡ trouble k
+    go true q = q
+    go false q = let z : _≡_ {A = ℕ} 0 1 = cc in absurd (omega arith)
+
+merged-on : (r : ℕ) (ps qs : Pairs) (t : List ℕ) (ts : List (List ℕ)) → added r ps (rangeOf t) merged ≡ merged qs → mergedFrom r ps (t ∷ ts) ≡ mergedFrom r qs ts
+unfolding mergedFrom
+merged-on r ps qs t ts h = added-on r ps qs (rangeOf t) (λ qs. mergedFrom r qs ts) h
+
+merged-stop : (r k : ℕ) (ps : Pairs) (t : List ℕ) (ts : List (List ℕ)) → added r ps (rangeOf t) merged ≡ trouble k → mergedFrom r ps (t ∷ ts) ≡ trouble k
+unfolding mergedFrom
+merged-stop r k ps t ts h = added-stop r k ps (rangeOf t) (λ qs. mergedFrom r qs ts) h
+
+-- ---- one range, as the code joins it
+
+pub says-stopped : (m : Merged) (k : ℕ) (l : List ℕ) → 0 < k → m ≡ trouble k → Says m k l
+says-stopped m k l h e = record { done = λ z. absurd (omega arith); stopped = λ z. e }
+
+pub says-done : (m : Merged) (l : List ℕ) → obeys l ≡ true → m ≡ merged (pairsOf l) → Says m 0 l
+says-done m l o e = record { done = λ z. (o, e); stopped = λ z. absurd (omega arith) }
+
+module _ (r : ℕ) (ps : Pairs) (t l : List ℕ) where
+  pub says-51 : rangeOf t ≡ Malformed → Says (added r ps (rangeOf t) merged) 51 l
+  unfolding added
+  says-51 e = says-stopped _ 51 l (omega arith) (rw e)
+
+module _ (t l : List ℕ) (s e : ℕ) (h : rangeOf t ≡ Places s e) (n : length l % 2 ≡ 0) (o : obeys l ≡ true) where
+  joins : joinsIn s e l ≡ not (ltb (roomOf l) (size (join s e (pairsOf l))))
+  joins = joins-is (roomOf l) l o (omega arith) s e (range-some t s e h)
+
+  pub says-52 : (m : List ℕ) → joinsIn s e l ≡ false → Says (added (roomOf l) (pairsOf l) (rangeOf t) merged) 52 m
+  unfolding added
+  says-52 m f = says-stopped _ 52 m (omega arith) (rw (h, not-false (ltb (roomOf l) (size (join s e (pairsOf l)))) (sym joins ∙ f)))
+
+  pub says-joined : endsBy largest (pairsOf l) ≡ true → joinsIn s e l ≡ true → Says (added (roomOf l) (pairsOf l) (rangeOf t) merged) 0 (joinedIn s e l)
+  unfolding added obeys
+  says-joined b f =
+      let k = range-some t s e h in
+      let x = not-true (ltb (roomOf l) (size (join s e (pairsOf l)))) (sym joins ∙ f) in
+      let w = join-ruled s e 0 (pairsOf l) k (omega arith) (rule-ruled 0 l o) in
+      let z = ltb-false (roomOf l) (size (join s e (pairsOf l))) x in
+      rw (joined-is (roomOf l) l o (omega arith) s e k b f)
+      (says-done _ (lent (roomOf l) (join s e (pairsOf l))) (rule-lent (roomOf l) 0 (join s e (pairsOf l)) w)
+      (rw (h, x, pairsOf-lent (roomOf l) 0 (join s e (pairsOf l)) w z)))
+
+-- ---- the list, as the code walks it: the text up to the first comma is joined
+
+module _ (r k : ℕ) (ps : Pairs) (text l : List ℕ) (q : Says (added r ps (rangeOf (take (commaRun text) text)) merged) k l) where
+  pub walk-stop : 0 < k → mergedFrom r ps (parts text) ≡ trouble k
+  walk-stop h = go (parts-first text)
+    where
+      go : ((ts : List (List ℕ)) × (parts text ≡ take (commaRun text) text ∷ ts)) → mergedFrom r ps (parts text) ≡ trouble k
+      go (ts, e) = rw e (merged-stop r k ps (take (commaRun text) text) ts (q .stopped h))
+
+  pub walk-last : k ≡ 0 → commaRun text ≡ length text → mergedFrom r ps (parts text) ≡ merged (pairsOf l)
+  unfolding mergedFrom
+  walk-last z e =
+      let w : take (commaRun text) text ≡ text = take-all (commaRun text) text (omega arith) in
+      rw (parts-last text e) (merged-on r ps (pairsOf l) text [] (rw w at (q .done z .1)))
+
+  pub walk-next : k ≡ 0 → commaRun text < length text → mergedFrom r ps (parts text) ≡ mergedFrom r (pairsOf l) (parts (drop (suc (commaRun text)) text))
+  walk-next z h =
+      rw (parts-next text h) (merged-on r ps (pairsOf l) (take (commaRun text) text) (parts (drop (suc (commaRun text)) text)) (q .done z .1))
+
+-- ---- the ledger before the first range, and behind the last
+
+zero-lent : (r : ℕ) → replicate (2 * r) 0 ≡ lent r none
+unfolding lent
+zero-lent zero = refl
+zero-lent (suc r) = let e : 2 * suc r ≡ suc (suc (2 * r)) = omega arith in rw (e, zero-lent r)
+
+module _ (l cleared : List ℕ) (n : length l % 2 ≡ 0) (c : cleared ≡ replicate (length l) 0) where
+  cleared-lent : cleared ≡ lent (roomOf l) none
+  cleared-lent = let e : length l ≡ 2 * (length l / 2) = omega arith in c ∙ ap (λ (m : ℕ). replicate m 0) e ∙ zero-lent (roomOf l)
+
+  pub cleared-length : length cleared ≡ length l
+  cleared-length = ap length c ∙ length-replicate (length l) 0
+
+  pub cleared-obeys : obeys cleared ≡ true
+  unfolding obeys
+  cleared-obeys = rw cleared-lent (rule-lent (roomOf l) 0 none tt)
+
+  pub cleared-merged : (text : List ℕ) → mergedFrom (roomOf cleared) (pairsOf cleared) (parts text) ≡ rangesOf (roomOf l) text
+  unfolding rangesOf size
+  cleared-merged text =
+      let p : pairsOf cleared ≡ none = ap pairsOf cleared-lent ∙ pairsOf-lent (roomOf l) 0 none tt (omega arith) in
+      rw (p, cleared-length)
+
+pub obeyed-lent : (l m : List ℕ) → length l % 2 ≡ 0 → length m ≡ length l → obeys m ≡ true → m ≡ lent (roomOf l) (pairsOf m)
+unfolding obeys
+obeyed-lent l m n e o = lent-pairsOf (roomOf l) 0 m o (omega arith)

@@ -1,0 +1,231 @@
+// Restart range lists, as text.
+use ledger::answer::Loaded;
+use ledger::answer::Written;
+use ledger::claim;
+use ledger::rule;
+use octets::decimal;
+use octets::decimal::Number;
+use octets::entries;
+ghost use mathlib.Core.Path.{_≡_};
+ghost use mathlib.Core.Bool.{true};
+ghost use Prim.Native.Nat.{_+_, _%_, _≤_, _<_};
+ghost use lib.ListN.{length};
+ghost use Rattle.ledger.specs.Ledger.{entryLimit, obeys, pairsOf, roomOf};
+ghost use Rattle.ledger.specs.Claim.{largest};
+ghost use Rattle.rangelists.specs.RangeText.{boundOf, rangeOf, commaRun, added, mergedFrom, Says, merged, parts, readRanges, rangesLeft, comma, rangeText, rangesText, putAt, writeRanges, rangesWritten};
+
+// What the text between two commas says: the places from start up to end, end not counted, or nothing that is well formed.
+pub enum Range {
+    Places { start: u64, end: u64 },
+    Malformed,
+}
+
+// The largest number that a range may name, 2 ^ 64 - 2: the place behind it is a 64-bit number.
+const END_LIMIT: u64 = 18446744073709551614;
+// The most digits that a number may have, leading zeros counted.
+const DIGIT_LIMIT: usize = 20;
+// ---- the writer
+
+// The number of bytes of the range from a up to b.
+fn range_length(a: u64, b: u64) -> usize
+    requires { ⌜ 0 < b ⌝ }
+    ensures { λ r. ⌜ (r ≡ length (rangeText a b)) × (r ≤ 41) ⌝ }
+{
+    decimal::length(a) + 1 + decimal::length(b - 1)
+}
+
+// Writes the range from a up to b at a place, and answers the place behind it.
+fn put_range(out: &mut [u8], at: usize, a: u64, b: u64) -> usize
+    requires { ⌜ (0 < b) × (at + length (rangeText a b) ≤ length (now out)) ⌝ }
+    ensures { λ r. ⌜ (r ≡ at + length (rangeText a b)) × (now (out .exit) ≡ putAt at (rangeText a b) (now (out .entry))) ⌝ }
+{
+    let hyphen = at + decimal::length(a);
+    decimal::write(a, &mut out[at..hyphen]);
+    out[hyphen] = b'-';
+    let last = b - 1;
+    let from = hyphen + 1;
+    let end = from + decimal::length(last);
+    decimal::write(last, &mut out[from..end]);
+    end
+}
+
+// The number of bytes up to the next range where n stand before it: a comma more, unless it is the first.
+fn behind_comma(n: usize) -> usize
+    requires { ⌜ n < largest ⌝ }
+    ensures { λ r. ⌜ r ≡ n + length (comma n) ⌝ }
+{
+    if n == 0 {
+        return 0;
+    }
+    n + 1
+}
+
+// The number of bytes of a ledger's ranges.
+fn list_length(ledger: &[u64]) -> usize
+    requires { ⌜ length (now ledger) ≤ entryLimit ⌝ }
+    ensures { λ r. ⌜ r ≡ length (rangesText (pairsOf (now (ledger .entry)))) ⌝ }
+{
+    let mut n = 0;
+    let mut i = 0;
+    while i + 1 < ledger.len() {
+        let a = ledger[i];
+        let b = ledger[i + 1];
+        if b == 0 {
+            return n;
+        }
+        n = behind_comma(n) + range_length(a, b);
+        i += 2;
+    }
+    n
+}
+
+// Puts a comma behind n bytes, unless there are none, and answers the place behind it.
+fn put_comma(out: &mut [u8], n: usize) -> usize
+    requires { ⌜ n + length (comma n) ≤ length (now out) ⌝ }
+    ensures { λ r. ⌜ (r ≡ n + length (comma n)) × (now (out .exit) ≡ putAt n (comma n) (now (out .entry))) ⌝ }
+{
+    if n == 0 {
+        return 0;
+    }
+    out[n] = b',';
+    n + 1
+}
+
+// Writes a ledger's ranges.
+fn put_list(ledger: &[u64], out: &mut [u8])
+    requires { ⌜ length (rangesText (pairsOf (now ledger))) ≤ length (now out) ⌝ }
+    ensures { λ _. ⌜ now (out .exit) ≡ putAt 0 (rangesText (pairsOf (now (ledger .entry)))) (now (out .entry)) ⌝ }
+{
+    let mut n = 0;
+    let mut i = 0;
+    while i + 1 < ledger.len() {
+        let a = ledger[i];
+        let b = ledger[i + 1];
+        if b == 0 {
+            return;
+        }
+        let from = put_comma(out, n);
+        n = put_range(out, from, a, b);
+        i += 2;
+    }
+}
+
+pub fn write(ledger: &[u64], out: &mut [u8]) -> Written
+    ensures { λ r. ⌜ (r ≡ writeRanges (now (ledger .entry)) (now (out .entry))) × (now (out .exit) ≡ rangesWritten (now (ledger .entry)) (now (out .entry))) ⌝ }
+{
+    if rule::length_wrong(ledger) {
+        return Written::Refused(53);
+    }
+    if !rule::obeys(ledger, rule::LARGEST) {
+        return Written::Refused(1);
+    }
+    let n = list_length(ledger);
+    if n == 0 {
+        return Written::Refused(54);
+    }
+    if out.len() < n {
+        return Written::Refused(55);
+    }
+    put_list(ledger, out);
+    Written::Bytes(n)
+}
+
+// ---- the reader
+
+// A number of 1 to 20 digits, at most the largest that a range may name.
+fn one_number(text: &[u8]) -> Number
+    ensures { λ r. ⌜ r ≡ boundOf (now (text .entry)) ⌝ }
+{
+    if DIGIT_LIMIT < text.len() {
+        return Number::Nothing;
+    }
+    decimal::read(text, END_LIMIT)
+}
+
+// What all of the text between two commas says.
+fn one_range(text: &[u8]) -> Range
+    ensures { λ r. ⌜ r ≡ rangeOf (now (text .entry)) ⌝ }
+{
+    let k = decimal::run(text);
+    if text.len() <= k {
+        return Range::Malformed;
+    }
+    if text[k] != b'-' {
+        return Range::Malformed;
+    }
+    let Number::Value(a) = one_number(&text[..k]) else {
+        return Range::Malformed;
+    };
+    let Number::Value(b) = one_number(&text[k + 1..]) else {
+        return Range::Malformed;
+    };
+    if b < a {
+        return Range::Malformed;
+    }
+    Range::Places {
+        start: a,
+        end: b + 1,
+    }
+}
+
+// How many bytes stand before the first comma.
+fn until_comma(text: &[u8]) -> usize
+    ensures { λ r. ⌜ r ≡ commaRun (now (text .entry)) ⌝ }
+{
+    let mut i = 0;
+    while i < text.len() {
+        if text[i] == b',' {
+            return i;
+        }
+        i += 1;
+    }
+    i
+}
+
+// Joins the range that a text says to the ledger: 0, or the number of the trouble.
+fn join_text(text: &[u8], ledger: &mut [u64]) -> u8
+    requires { ⌜ (length (now ledger) % 2 ≡ 0) × (obeys (now ledger) ≡ true) ⌝ }
+    ensures { λ r. ⌜ Says (added (roomOf (now (ledger .entry))) (pairsOf (now (ledger .entry))) (rangeOf (now (text .entry))) merged) r (now (ledger .exit)) ⌝ }
+{
+    let Range::Places { start, end } = one_range(text) else {
+        return 51;
+    };
+    if claim::join(ledger, start, end) {
+        return 0;
+    }
+    52
+}
+
+// Joins the ranges of a list to the ledger, in reading order: 0, or the number of the first trouble.
+fn join_list(text: &[u8], ledger: &mut [u64]) -> u8
+    requires { ⌜ (length (now ledger) % 2 ≡ 0) × (obeys (now ledger) ≡ true) ⌝ }
+    ensures { λ r. ⌜ Says (mergedFrom (roomOf (now (ledger .entry))) (pairsOf (now (ledger .entry))) (parts (now (text .entry)))) r (now (ledger .exit)) ⌝ }
+{
+    let mut at = 0;
+    loop {
+        let end = at + until_comma(&text[at..]);
+        let k = join_text(&text[at..end], ledger);
+        if 0 < k {
+            return k;
+        }
+        if end == text.len() {
+            return 0;
+        }
+        at = end + 1;
+    }
+}
+
+pub fn read(text: &[u8], ledger: &mut [u64]) -> Loaded
+    ensures { λ r. ⌜ (r ≡ readRanges (now (text .entry)) (now (ledger .entry))) × (now (ledger .exit) ≡ rangesLeft (now (text .entry)) (now (ledger .entry))) ⌝ }
+{
+    if rule::length_wrong(ledger) {
+        return Loaded::Refused(53);
+    }
+    entries::clear(ledger);
+    let trouble = join_list(text, ledger);
+    if 0 < trouble {
+        entries::clear(ledger);
+        return Loaded::Refused(trouble);
+    }
+    Loaded::Done
+}

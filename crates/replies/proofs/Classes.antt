@@ -1,0 +1,87 @@
+-- The class of a code, range by range; `Classes` holds.
+use Prim.Native.Nat.{ℕ, _/_, _≤_, _<_}
+use mathlib.Core.Path.{_≡_, refl, ap, _∙_}
+use mathlib.Core.Bool.{true, false, and-false}
+use mathlib.Core.Logic.{_⊎_, inl, inr}
+use native.Mathlib.Omega.{arith}
+use native.Mathlib.Decide.{decLt}
+use borrow.Author.Tests.{le-leb, lt-leb}
+use lib.Dec.{leb}
+use Rattle.replies.specs.Reply.{among, classOf, number, digit, Classes}
+use Rattle.replies.specs.declared.reply.Class.{Class}
+use Rattle.replies.specs.declared.reply.Class.the-variants.{Preliminary, Completion, Intermediate, Transient, Permanent, Refused}
+
+inside : (first last code : ℕ) → first ≤ code → code ≤ last → among first last code ≡ true
+inside first last code h g = rw (le-leb first code h, le-leb code last g)
+
+under : (first last code : ℕ) → code < first → among first last code ≡ false
+under first last code h = rw (lt-leb first code h)
+
+past : (first last code : ℕ) → last < code → among first last code ≡ false
+past first last code h = rw (lt-leb code last h) (and-false (leb first code))
+
+pub preliminary : (code : ℕ) → 100 ≤ code → code < 200 → classOf code ≡ Preliminary
+unfolding classOf
+preliminary code h g = rw (inside 100 199 code h (omega arith))
+
+pub completion : (code : ℕ) → 200 ≤ code → code < 300 → classOf code ≡ Completion
+unfolding classOf
+completion code h g = rw (past 100 199 code (omega arith), inside 200 299 code h (omega arith))
+
+pub intermediate : (code : ℕ) → 300 ≤ code → code < 400 → classOf code ≡ Intermediate
+unfolding classOf
+intermediate code h g =
+    rw (past 100 199 code (omega arith), past 200 299 code (omega arith), inside 300 399 code h (omega arith))
+
+pub transient : (code : ℕ) → 400 ≤ code → code < 500 → classOf code ≡ Transient
+unfolding classOf
+transient code h g =
+    rw (past 100 199 code (omega arith), past 200 299 code (omega arith), past 300 399 code (omega arith), inside 400 499 code h (omega arith))
+
+pub permanent : (code : ℕ) → 500 ≤ code → code < 600 → classOf code ≡ Permanent
+unfolding classOf
+permanent code h g =
+    rw (
+      past 100 199 code (omega arith),
+      past 200 299 code (omega arith),
+      past 300 399 code (omega arith),
+      past 400 499 code (omega arith),
+      inside 500 599 code h (omega arith),
+    )
+
+pub others : (code : ℕ) → (code < 100) ⊎ (599 < code) → classOf code ≡ Refused 36
+unfolding classOf
+others code (inl h) =
+    rw (
+      under 100 199 code h,
+      under 200 299 code (omega arith),
+      under 300 399 code (omega arith),
+      under 400 499 code (omega arith),
+      under 500 599 code (omega arith),
+    )
+others code (inr h) =
+    rw (
+      past 100 199 code (omega arith),
+      past 200 299 code (omega arith),
+      past 300 399 code (omega arith),
+      past 400 499 code (omega arith),
+      past 500 599 code h,
+    )
+
+-- a class whose codes begin with this digit, and which refuses nothing
+hundreds : (code : ℕ) (k : Class) → classOf code ≡ k → number k ≡ 0 → digit k ≡ code / 100 → (digit (classOf code) ≡ code / 100) × (number (classOf code) ≡ 0)
+hundreds code k e n d = (ap digit e ∙ d, ap number e ∙ n)
+
+by-hundreds : (code : ℕ) → 100 ≤ code → code ≤ 599 → (digit (classOf code) ≡ code / 100) × (number (classOf code) ≡ 0)
+unfolding digit number
+by-hundreds code h g = go (decLt code 200) (decLt code 300) (decLt code 400) (decLt code 500)
+  where
+    go : Dec (code < 200) → Dec (code < 300) → Dec (code < 400) → Dec (code < 500) → (digit (classOf code) ≡ code / 100) × (number (classOf code) ≡ 0)
+    go (yes a) b c d = hundreds code Preliminary (preliminary code h a) refl (omega arith)
+    go (no a) (yes b) c d = hundreds code Completion (completion code (omega arith) b) refl (omega arith)
+    go (no a) (no b) (yes c) d = hundreds code Intermediate (intermediate code (omega arith) c) refl (omega arith)
+    go (no a) (no b) (no c) (yes d) = hundreds code Transient (transient code (omega arith) d) refl (omega arith)
+    go (no a) (no b) (no c) (no d) = hundreds code Permanent (permanent code (omega arith) (omega arith)) refl (omega arith)
+
+pub classes : Classes
+classes = record { class-is-hundreds = by-hundreds; others-refused = others }

@@ -1,0 +1,44 @@
+-- The class of a reply code (document 01, "Control lines"; RFC 959, 4.2.1).
+use Prim.Native.Nat.{ℕ, _/_, _≤_, _<_}
+use mathlib.Core.Path.{_≡_}
+use mathlib.Core.Bool.{Bool, cond, _&&_}
+use mathlib.Core.Logic.{_⊎_}
+use lib.Dec.{leb}
+use Rattle.replies.specs.declared.reply.Class.{Class}
+use Rattle.replies.specs.declared.reply.Class.the-variants.{Preliminary, Completion, Intermediate, Transient, Permanent, Refused}
+
+-- from first to last, both counted
+abbrev pub among : ℕ → ℕ → ℕ → Bool
+among first last code = leb first code && leb code last
+
+unfoldable pub classOf : ℕ → Class
+classOf code =
+    cond (among 100 199 code) Preliminary
+    (cond (among 200 299 code) Completion
+    (cond (among 300 399 code) Intermediate
+    (cond (among 400 499 code) Transient
+    (cond (among 500 599 code) Permanent (Refused 36)))))
+
+-- document 01's number for each case, 0 where nothing is refused
+unfoldable pub number : Class → ℕ
+number Preliminary = 0
+number Completion = 0
+number Intermediate = 0
+number Transient = 0
+number Permanent = 0
+number (Refused k) = k
+
+-- the first digit of the codes of a class
+unfoldable pub digit : Class → ℕ
+digit Preliminary = 1
+digit Completion = 2
+digit Intermediate = 3
+digit Transient = 4
+digit Permanent = 5
+digit (Refused k) = 0
+
+pub record Classes : Type 0 where
+  -- the class of a code is its hundreds
+  pub class-is-hundreds : (code : ℕ) → 100 ≤ code → code ≤ 599 → (digit (classOf code) ≡ code / 100) × (number (classOf code) ≡ 0)
+  -- every other code is refused
+  pub others-refused : (code : ℕ) → (code < 100) ⊎ (599 < code) → classOf code ≡ Refused 36

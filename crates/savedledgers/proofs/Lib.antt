@@ -1,0 +1,6 @@
+mod Eights
+pub mod Bodies
+pub mod Frames
+pub mod Loads
+pub mod Saves
+pub mod SavedTrips

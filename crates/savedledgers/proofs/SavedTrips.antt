@@ -1,0 +1,98 @@
+-- `SavedTrip` holds.
+use Prim.Native.Nat.{ℕ, _*_, _/_, _≤_}
+use mathlib.Core.Path.{_≡_, refl, sym, ap, _∙_}
+use mathlib.Core.Bool.{true, false}
+use mathlib.Core.List.{List}
+use native.Mathlib.Omega.{arith}
+use lib.ListN.{length}
+use Rattle.octets.specs.Digits.{Below, toLittle}
+use Rattle.octets.proofs.Digits.{below-drop}
+use Rattle.ledger.specs.Pairs.{Pairs, size, Ruled, endsBy}
+use Rattle.ledger.specs.Ledger.{lengthWrong, roomOf, obeys, pairsOf, lent}
+use Rattle.ledger.specs.Claim.{largest}
+use Rattle.ledger.proofs.Lents.{length-lent, pairsOf-lent, rule-lent, rule-ruled, lent-pairsOf, size-pairsOf}
+use Rattle.ledger.proofs.Sizes.{length-right, length-fits}
+use Rattle.savedledgers.specs.Saved.{kindOne, bytesOf, framed, bodyOf, frameNumber, savedPairs, savedNumber, savedLeft, savedOf, inOrder}
+use Rattle.savedledgers.specs.SavedTrip.{Savable, Reloads, Rewrites, SavedTrip}
+use Rattle.savedledgers.proofs.Bodies.{order-ruled, ruled-order, size-pairsIn, length-bytesOf, pairsIn-bytesOf, bytesOf-pairsIn}
+use Rattle.savedledgers.proofs.Frames.{body-back, frame-back, framed-same}
+use Rattle.savedledgers.proofs.Loads.{Sound, number-sound, number-none, reads-done}
+use Rattle.savedledgers.proofs.Saves.{save-none, length-savedOf, writes-done}
+
+-- ---- saved and read
+
+module _ (ps : Pairs) (ruled : Ruled 0 ps) (ends : endsBy largest ps ≡ true) where
+  saved-pairs : savedPairs (savedOf ps) ≡ ps
+  unfolding savedOf
+  saved-pairs =
+      let n : length (bytesOf ps) / 16 ≡ size ps = omega (arith, length-bytesOf ps) in
+      rw (body-back kindOne (bytesOf ps), n) (pairsIn-bytesOf 0 ps ruled ends)
+
+  reloads : (m : List ℕ) → lengthWrong m ≡ false → size ps ≤ 4096 → size ps ≤ roomOf m → Reloads ps m
+  unfolding savedOf
+  reloads m lengths few room =
+      let h = savedOf ps in
+      let l = length-bytesOf ps in
+      let frame : frameNumber kindOne h ≡ 0 = frame-back kindOne (bytesOf ps) (omega arith) (omega arith) in
+      let body : length (bodyOf h) ≡ 16 * size ps = ap length (body-back kindOne (bytesOf ps)) ∙ l in
+      let order : inOrder 0 (savedPairs h) ≡ true = rw saved-pairs (order-ruled 0 ps ruled) in
+      let r = reads-done h m (number-none h m lengths frame (omega arith) order (omega arith)) in
+      record { accepted = r .0; left = r .1 ∙ ap (lent (roomOf m)) saved-pairs }
+
+reads-saved : (l m : List ℕ) → Savable l → lengthWrong m ≡ false → size (pairsOf l) ≤ roomOf m → Reloads (pairsOf l) m
+unfolding obeys
+reads-saved l m s lengths room =
+    let few : size (pairsOf l) ≤ 4096 = omega (arith, size-pairsOf l, length-fits l (s .lengths)) in
+    reloads (pairsOf l) (rule-ruled 0 l (s .ruled)) (s .ends) m lengths few room
+
+reads-same : (l m : List ℕ) → Savable l → length m ≡ length l → savedLeft (savedOf (pairsOf l)) m ≡ l
+unfolding obeys
+reads-same l m s e =
+    let f = length-fits l (s .lengths) in
+    let lengths : lengthWrong m ≡ false = length-right m (omega (arith, f .0)) (omega (arith, f .1)) in
+    reads-saved l m s lengths (omega (arith, size-pairsOf l)) .left ∙ sym (lent-pairsOf (roomOf m) 0 l (s .ruled) (omega (arith, f .0)))
+
+-- ---- read and saved
+
+module _ (h m : List ℕ) (bytes : Below 256 h) (sound : Sound h m) where
+  read-ruled : Ruled 0 (savedPairs h)
+  read-ruled = ruled-order 0 (savedPairs h) (sound .order)
+
+  pairs-same : pairsOf (lent (roomOf m) (savedPairs h)) ≡ savedPairs h
+  pairs-same =
+      pairsOf-lent (roomOf m) 0 (savedPairs h) read-ruled (omega (arith, sound .room, size-pairsIn (length (bodyOf h) / 16) (bodyOf h)))
+
+  bytes-same : savedOf (savedPairs h) ≡ h
+  unfolding savedOf
+  bytes-same =
+      let n : length (bodyOf h) ≡ 16 * (length (bodyOf h) / 16) = omega (arith, sound .parts) in
+      rw (bytesOf-pairsIn (length (bodyOf h) / 16) (bodyOf h) (below-drop 256 6 h bytes) n) (framed-same kindOne h bytes (sound .frame))
+
+  rewrites : Rewrites h (lent (roomOf m) (savedPairs h))
+  unfolding obeys
+  rewrites =
+      let l = lent (roomOf m) (savedPairs h) in
+      let ruled : obeys l ≡ true = rule-lent (roomOf m) 0 (savedPairs h) read-ruled in
+      let same : savedOf (pairsOf l) ≡ h = rw pairs-same bytes-same in
+      let n = length-lent (roomOf m) (savedPairs h) in
+      let lengths : lengthWrong l ≡ false = length-right l (omega (arith, n)) (omega (arith, n, length-fits m (sound .lengths))) in
+      let size-is = sym (length-savedOf (pairsOf l)) ∙ ap length same in
+      record {
+        ruled = ruled;
+        same = same;
+        writes = λ out g. rw same at (writes-done l out (save-none l out lengths ruled (omega (arith, size-is, g))));
+      }
+
+writes-read : (h m : List ℕ) → Below 256 h → savedNumber h m ≡ 0 → Rewrites h (savedLeft h m)
+writes-read h m b z = rw (reads-done h m z .1) (rewrites h m b (number-sound h m z))
+
+pub saved-trip : SavedTrip
+unfolding savedOf framed bytesOf toLittle
+saved-trip =
+    record {
+      reads-what-was-saved = reads-saved;
+      reads-the-same = reads-same;
+      writes-what-was-read = writes-read;
+      empty = refl;
+      first-ninety = refl;
+    }

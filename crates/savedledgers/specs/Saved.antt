@@ -1,0 +1,105 @@
+-- The saved ledger (document 01, "Saved ledger, kind 1"): a record of a four-byte length, a two-byte kind and a body, all little-endian.
+--
+--     length of all that follows   kind      body
+--     4 bytes                      2 bytes   each used pair as two numbers of 8 bytes
+use Prim.Native.Nat.{ℕ, zero, suc, _+_, _-_, _/_, _%_}
+use mathlib.Core.Bool.{Bool, true, cond, _&&_, not}
+use mathlib.Core.List.{List, [], _++_}
+use lib.Dec.{leb, ltb, eqb}
+use lib.ListN.{length, take, drop}
+use Rattle.octets.specs.Digits.{fromLittle, toLittle}
+use Rattle.ledger.specs.Pairs.{Pairs, none, pair, size}
+use Rattle.ledger.specs.Ledger.{lengthWrong, obeys, pairsOf, lent, roomOf}
+use Rattle.ledger.specs.declared.answer.Loaded.{Loaded}
+use Rattle.ledger.specs.declared.answer.Loaded.the-variants.{Done, Refused}
+use Rattle.ledger.specs.declared.answer.Written.{Written}
+use Rattle.ledger.specs.declared.answer.Written.the-variants.{Bytes, Refused as NotWritten}
+
+-- ---- the frame, which every kind of record shares
+
+abbrev pub frameLength : ℕ
+frameLength = 6
+
+unfoldable pub kindOf : List ℕ → ℕ
+kindOf bytes = fromLittle 256 (take 2 (drop 4 bytes))
+
+abbrev pub bodyOf : List ℕ → List ℕ
+bodyOf bytes = drop frameLength bytes
+
+-- 61: fewer than 6 bytes, or a length field that is wrong; 62: another kind than the one expected; 0 where the frame is right
+unfoldable pub frameNumber : ℕ → List ℕ → ℕ
+frameNumber kind bytes =
+    cond (not (leb frameLength (length bytes) && eqb (fromLittle 256 (take 4 bytes)) (length bytes - 4))) 61
+    (cond (not (eqb (kindOf bytes) kind)) 62 0)
+
+-- the six bytes before a body of n bytes
+unfoldable pub frameOf : ℕ → ℕ → List ℕ
+frameOf kind n = toLittle 256 4 (2 + n) ++ toLittle 256 2 kind
+
+-- a record of this kind with this body
+unfoldable pub framed : ℕ → List ℕ → List ℕ
+framed kind body = toLittle 256 4 (2 + length body) ++ (toLittle 256 2 kind ++ body)
+
+-- ---- a body of pairs of numbers
+
+abbrev pub pairLength : ℕ
+pairLength = 16
+
+-- the first n pairs of numbers of a body
+unfoldable pub pairsIn : ℕ → List ℕ → Pairs
+pairsIn zero body = none
+pairsIn (suc n) body = pair (fromLittle 256 (take 8 body)) (fromLittle 256 (take 8 (drop 8 body))) (pairsIn n (drop pairLength body))
+
+unfoldable pub bytesOf : Pairs → List ℕ
+bytesOf none = []
+bytesOf (pair a b ps) = toLittle 256 8 a ++ (toLittle 256 8 b ++ bytesOf ps)
+
+-- the ledger rule for pairs that are all used, from the place lo on
+unfoldable pub inOrder : ℕ → Pairs → Bool
+inOrder lo none = true
+inOrder lo (pair a b ps) = leb lo a && (ltb a b && inOrder (suc b) ps)
+
+-- ---- kind 1: start and end of each used pair
+
+abbrev pub kindOne : ℕ
+kindOne = 1
+
+abbrev pub savedPairs : List ℕ → Pairs
+savedPairs bytes = pairsIn (length (bodyOf bytes) / pairLength) (bodyOf bytes)
+
+-- 63: a body that is not whole pairs, or pairs that break the ledger rule
+unfoldable pub bodyWrong : List ℕ → Bool
+bodyWrong bytes = not (eqb (length (bodyOf bytes) % pairLength) 0 && inOrder 0 (savedPairs bytes))
+
+-- the reader: 53, 61, 62, 63, and 64 where there are more pairs than the ledger has; 0 where it reads
+unfoldable pub savedNumber : List ℕ → List ℕ → ℕ
+savedNumber bytes ledger =
+    cond (lengthWrong ledger) 53
+    (cond (ltb 0 (frameNumber kindOne bytes)) (frameNumber kindOne bytes)
+    (cond (bodyWrong bytes) 63
+    (cond (ltb (roomOf ledger) (size (savedPairs bytes))) 64 0)))
+
+unfoldable pub readSaved : List ℕ → List ℕ → Loaded
+readSaved bytes ledger = cond (ltb 0 (savedNumber bytes ledger)) (Refused (savedNumber bytes ledger)) Done
+
+unfoldable pub savedLeft : List ℕ → List ℕ → List ℕ
+savedLeft bytes ledger = cond (ltb 0 (savedNumber bytes ledger)) ledger (lent (roomOf ledger) (savedPairs bytes))
+
+-- the writer: 53, 1, 55
+unfoldable pub savedOf : Pairs → List ℕ
+savedOf ps = framed kindOne (bytesOf ps)
+
+unfoldable pub saveNumber : List ℕ → List ℕ → ℕ
+saveNumber ledger out =
+    cond (lengthWrong ledger) 53
+    (cond (not (obeys ledger)) 1
+    (cond (ltb (length out) (length (savedOf (pairsOf ledger)))) 55 0))
+
+unfoldable pub writeSaved : List ℕ → List ℕ → Written
+writeSaved ledger out =
+    cond (ltb 0 (saveNumber ledger out)) (NotWritten (saveNumber ledger out)) (Bytes (length (savedOf (pairsOf ledger))))
+
+unfoldable pub savedWritten : List ℕ → List ℕ → List ℕ
+savedWritten ledger out =
+    let saved = savedOf (pairsOf ledger) in
+    cond (ltb 0 (saveNumber ledger out)) out (saved ++ drop (length saved) out)
