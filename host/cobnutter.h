@@ -27,7 +27,8 @@
  *
  *      1  transfer, file and ledger do not fit, or a ledger that is to be written breaks its rule
  *      2  channel 64 or above                       3  the verdict is RESULT or BROKEN already
- *      4  the channel has ended                     5  start: odd ledger length, or above COB_LEDGER_LIMIT
+ *      4  a piece that has bytes, but the channel   5  start: odd ledger length, or above COB_LEDGER_LIMIT
+ *         has ended
  *     21  a header does not have 17 bytes
  *     31  line above 2,048 bytes                   32  no CR LF at the end
  *     33  a byte outside 32 to 126                 34  verb
@@ -50,8 +51,8 @@
  *     18  no pair left in the ledger               19  a channel more than was counted
  *     20  an end of data more than was counted
  *
- * By 1 to 5, 21 to 36, 43 and 53 to 64 nothing that was lent changes. By 41 and 42 the whole list becomes 0, by 51 and 52
- * the whole ledger.
+ * By 1 to 5, 21 to 36, 43, 53 to 64, and the header writer's 11, 12, 13 and 15 nothing that was lent changes. By 41 and 42
+ * the whole list becomes 0, by 51 and 52 the whole ledger.
  */
 #ifndef COBNUTTER_H
 #define COBNUTTER_H

@@ -6,8 +6,12 @@ use cobnutter::recording::{requests, Request};
 use cobnutter::{Refusal, Transfer, Verdict};
 use std::error::Error;
 
-/// One transfer, into a file in memory.
-fn receive(len: u64, entries: u64, arriving: &[(u64, &[u8])]) -> Result<Vec<u8>, Refusal> {
+/// One transfer, into a file in memory, which is the sender's only where the word is RESULT.
+fn receive(
+    len: u64,
+    entries: u64,
+    arriving: &[(u64, &[u8])],
+) -> Result<(Verdict, Vec<u8>), Refusal> {
     let mut file = vec![0; len as usize];
     let mut ledger = vec![0; entries as usize];
     let mut transfer = Transfer::start(len, &mut ledger)?;
@@ -18,7 +22,7 @@ fn receive(len: u64, entries: u64, arriving: &[(u64, &[u8])]) -> Result<Vec<u8>,
             break;
         }
     }
-    Ok(file)
+    Ok((transfer.verdict(), file))
 }
 
 fn pieces<'a>(requests: &[Request<'a>]) -> Vec<(u64, &'a [u8])> {
@@ -36,8 +40,10 @@ fn main() -> Result<(), Box<dyn Error>> {
     let is_piece = |request: &Request| matches!(request, Request::Piece { .. });
     for transfer in requests.chunk_by(|_, next| is_piece(next)) {
         if let Request::Start { len, entries } = transfer[0] {
-            let file = receive(len, entries, &pieces(transfer))?;
-            println!("{} bytes", file.len());
+            match receive(len, entries, &pieces(transfer))? {
+                (Verdict::Result, file) => println!("received: a file of {} bytes", file.len()),
+                (word, _) => println!("not received: {word}"),
+            }
         }
     }
     Ok(())

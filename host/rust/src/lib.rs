@@ -27,6 +27,9 @@
 //! - A peer's fault is no [`Refusal`]: the call succeeds, and the verdict is [`Verdict::Broken`] from then on.
 //! - Every call tests that transfer, file and ledger belong together, and refuses with 1 where they do not.
 //! - A sender counts the connections of each listener apart, so a host keeps one transfer for each listener.
+//! - A cached connection that the sender closes (a first byte of 4) is not fed into the next transfer.
+//! - [`Verdict::Result`] says that all the sender counted is here. Whether that fills the file, the host sees by
+//!   [`Transfer::stored`].
 //!
 //! The other modules read and write what the control channel carries and what a host saves. [`raw`] has the linked
 //! functions themselves.

@@ -7,7 +7,7 @@ pub enum Verdict {
     Guess,
     /// Every channel that the sender counted has ended, with no fault.
     Result,
-    /// The peer broke the rules; see [`Transfer::fault`](crate::Transfer::fault).
+    /// A peer's fault, or 18 where the ledger was lent too small; see [`Transfer::fault`](crate::Transfer::fault).
     Broken,
 }
 
