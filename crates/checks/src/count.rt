@@ -3,7 +3,7 @@ use transfer::state::Channel;
 use transfer::state::Transfer;
 ghost use mathlib.Core.Path.{_≡_};
 ghost use Prim.Native.Nat.{_+_, min};
-ghost use Rattle.transfer.specs.Transfer.{oneIfEnded, endedOf, leftOf, isFinal};
+ghost use Rattle.transfer.specs.Transfer.{oneIfEnded, endedOf, leftOf};
 
 pub const CHANNELS: usize = 64;
 
@@ -29,16 +29,6 @@ pub fn ended(t: Transfer) -> u64
         c += 1;
     }
     n
-}
-
-// Whether a count is known and as many channels have ended.
-pub fn all_ended(t: Transfer) -> bool
-    ensures { λ r. ⌜ r ≡ isFinal t ⌝ }
-{
-    if t.count == 0 {
-        return false;
-    }
-    ended(t) == t.count
 }
 
 // a + b, or the largest number where that is more.

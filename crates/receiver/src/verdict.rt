@@ -54,11 +54,5 @@ pub fn of(fault: u64, count: u64, others: u64, state: u8) -> Verdict
 pub fn shown(t: Transfer) -> Verdict
     ensures { λ r. ⌜ ((file ledger : List ℕ) → verdictIs r ≡ verdictOf (world t file ledger)) ⌝ }
 {
-    if 0 < t.fault {
-        return Verdict::Broken;
-    }
-    if count::all_ended(t) {
-        return Verdict::Result;
-    }
-    Verdict::Guess
+    of(t.fault, t.count, count::ended(t), 0)
 }
