@@ -2,6 +2,7 @@
 use Prim.Native.Nat.{ℕ}
 use mathlib.Core.Path.{_≡_}
 use mathlib.Core.List.{List, [], _∷_}
+use Rattle.octets.specs.Cases.{AllHold}
 use Rattle.ledger.specs.Pairs.{Pairs, none, pair, join}
 use Rattle.claims.specs.Claim.{spotOf, judged}
 use Rattle.claims.specs.declared.claim.Room.the-variants.{Shares, At}
@@ -16,10 +17,6 @@ abbrev pub Holds : Case → Type 0
 Holds (shared ps s e) = judged 1 s e ps ≡ Shares
 Holds (claimed r ps s e qs) = (judged r s e ps ≡ At (spotOf s e ps)) × (join s e ps ≡ qs)
 
-abbrev pub AllHold : List Case → Type 0
-AllHold [] = Unit {0}
-AllHold (c ∷ cs) = Holds c × AllHold cs
-
 -- bytes 0 to 3 are claimed: 3 to 4 shares one, 4 to 5 joins them
 abbrev pub starred : List Case
 starred =
@@ -28,4 +25,4 @@ starred =
     ∷ []
 
 abbrev pub ProvedSet : Type 0
-ProvedSet = AllHold starred
+ProvedSet = AllHold Holds starred

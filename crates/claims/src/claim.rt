@@ -141,11 +141,13 @@ fn widen(ledger: &mut [u64], at: usize, past: usize, used: usize, start: u64, en
     requires { ⌜ (at < past) × (past ≤ used) × (used ≤ roomOf (now ledger)) ⌝ }
     ensures { λ _. ⌜ now (ledger .exit) ≡ closed (set (set (now (ledger .entry)) (2 * at) (min (getD (now (ledger .entry)) (2 * at) 0) start)) (2 * at + 1) (max (getD (now (ledger .entry)) (2 * past - 1) 0) end)) (2 * at + 2) (2 * past) (2 * used) ⌝ }
 {
-    let a = lesser(ledger[2 * at], start);
-    let b = greater(ledger[2 * past - 1], end);
-    ledger[2 * at] = a;
-    ledger[2 * at + 1] = b;
-    shift::close(ledger, 2 * at + 2, 2 * past, 2 * used);
+    let first = 2 * at;
+    let behind = 2 * past;
+    let a = lesser(ledger[first], start);
+    let b = greater(ledger[behind - 1], end);
+    ledger[first] = a;
+    ledger[first + 1] = b;
+    shift::close(ledger, first + 2, behind, 2 * used);
 }
 
 // Puts the range from start to end there.

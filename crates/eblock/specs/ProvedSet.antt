@@ -3,6 +3,7 @@ use Prim.Native.Nat.{ℕ}
 use mathlib.Core.Path.{_≡_}
 use mathlib.Core.List.{List, [], _∷_}
 use lib.ListN.{replicate}
+use Rattle.octets.specs.Cases.{AllHold}
 use Rattle.eblock.specs.Descriptor.{faultOf}
 use Rattle.eblock.specs.Header.{headerLength, meant, readOf, writeOf, leftBy}
 use Rattle.eblock.specs.declared.header.Written.the-variants.{Bytes}
@@ -21,10 +22,6 @@ Holds (header d second third bytes) =
     × (leftBy d second third (replicate 17 238) ≡ bytes)
 Holds (descriptor d fault) = faultOf d ≡ fault
 
-abbrev pub AllHold : List Case → Type 0
-AllHold [] = Unit {0}
-AllHold (c ∷ cs) = Holds c × AllHold cs
-
 abbrev pub starred : List Case
 starred =
     header 8 5 256 (0x08 ∷ 0 ∷ 0 ∷ 0 ∷ 0 ∷ 0 ∷ 0 ∷ 0 ∷ 0x05 ∷ 0 ∷ 0 ∷ 0 ∷ 0 ∷ 0 ∷ 0 ∷ 0x01 ∷ 0x00 ∷ [])
@@ -37,4 +34,4 @@ starred =
     ∷ []
 
 abbrev pub ProvedSet : Type 0
-ProvedSet = AllHold starred
+ProvedSet = AllHold Holds starred

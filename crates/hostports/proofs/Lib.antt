@@ -1,4 +1,3 @@
 mod Held
 pub mod HostPorts
-mod Lists
 pub mod Written

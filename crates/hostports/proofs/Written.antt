@@ -14,7 +14,6 @@ use Rattle.hostports.specs.declared.hosts.Step.the-variants.{Host}
 use Rattle.hostports.specs.HostPort.{numberAt, moreAt, hostPortAt}
 use Rattle.hostports.specs.HostPorts.{Numeral, NoDigit, written, address, HostPorts}
 use Rattle.hostports.proofs.HostPorts.{one-more, Within, within-host-port}
-use Rattle.hostports.proofs.Lists.{Sized, sized-hosts}
 
 run-none : (rest : List ℕ) → NoDigit rest → digitRun rest ≡ 0
 unfolding digitRun
@@ -104,5 +103,4 @@ host-ports =
     record {
       written-reads = λ text at a b c d e f rest h g. six-written text at a b c d e f rest h g ∙ same-number (omega arith);
       fits-48-bits = λ text at v next e. subst (Within text (2 ^ 48)) e (within-host-port text at) .0;
-      one-to-64 = λ text vs e. subst (Sized 64) e (sized-hosts text);
     }

@@ -6,7 +6,7 @@ use mathlib.Core.List.{List, [], _∷_, _++_}
 use lib.ListN.{length, drop}
 use Rattle.octets.specs.Decimal.{isDigit, digitsOnly, numberOf}
 use Rattle.hostports.specs.declared.hosts.Step.the-variants.{Host}
-use Rattle.hostports.specs.HostPort.{hostPortAt, hostsOf, listed}
+use Rattle.hostports.specs.HostPort.{hostPortAt}
 
 -- a number of at most 255, written in 1 to 3 digits, leading zeros being fine
 pub record Numeral : Type 0 where
@@ -41,5 +41,3 @@ pub record HostPorts : Type 0 where
       → hostPortAt text at ≡ Host (address a b c d * 65536 + port e f) (at + length (written a b c d e f))
   -- whatever text it is read from, a host-port fits 48 bits
   pub fits-48-bits : (text : List ℕ) (at v next : ℕ) → hostPortAt text at ≡ Host v next → v < 2 ^ 48
-  -- a text that is a list has 1 to 64 host-ports
-  pub one-to-64 : (text vs : List ℕ) → hostsOf text ≡ listed vs → (1 ≤ length vs) × (length vs ≤ 64)

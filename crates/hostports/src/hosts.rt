@@ -1,28 +1,14 @@
-// Host-port lists.
+// One host-port at a place of a text, and the reader that keeps hold of the text.
 use octets::decimal;
-use octets::entries;
 ghost use mathlib.Core.Path.{_≡_};
-ghost use Prim.Native.Nat.{_≤_};
-ghost use lib.ListN.{length};
-ghost use Rattle.hostports.specs.HostPort.{hostLimit, numberAt, hostPortAt, atEnd, Stored, emptied, fillOf, leftBy};
-
-// The most host-ports of a list, and the fewest entries that may be lent.
-pub const HOST_LIMIT: usize = 64;
+ghost use Rattle.hostports.specs.HostPort.{numberAt, hostPortAt, atEnd};
 
 const COMMA: u8 = 44;
-
-const SPACE: u8 = 32;
 
 // What stands at a place of the text: a number and the place behind it, or nothing that is well formed.
 pub enum Step {
     Host { value: u64, next: usize },
     Malformed,
-}
-
-// What filling a list answers: how many host-ports there are, or the number by which the text is refused.
-pub enum Hosts {
-    Count(usize),
-    Refused(u8),
 }
 
 // One of the six numbers: 1 to 3 digits, at most 255.
@@ -109,57 +95,4 @@ pub fn step_at(text: &[u8], at: usize) -> Step
     ensures { λ s. ⌜ s ≡ hostPortAt (now (text .entry)) at ⌝ }
 {
     next(Reader { text, at })
-}
-
-// Reads the text from its start, storing each host-port as it comes.
-fn store(text: &[u8], list: &mut [u64]) -> Hosts
-    requires { ⌜ hostLimit ≤ length (now list) ⌝ }
-    ensures { λ r. ⌜ Stored (now (text .entry)) r (now (list .exit)) ⌝ }
-{
-    let mut at = 0;
-    let mut n = 0;
-    while n < HOST_LIMIT {
-        let found = step_at(text, at);
-        let Step::Host { value, next } = found else {
-            return Hosts::Refused(41);
-        };
-        list[n] = value;
-        n += 1;
-        if next == text.len() {
-            return Hosts::Count(n);
-        }
-        if text[next] != SPACE {
-            return Hosts::Refused(41);
-        }
-        at = next + 1;
-    }
-    if at == text.len() {
-        return Hosts::Refused(41);
-    }
-    Hosts::Refused(42)
-}
-
-// Zero in every entry from one on.
-fn clear(list: &mut [u64], from: usize)
-    ensures { λ _. ⌜ now (list .exit) ≡ emptied from (now (list .entry)) ⌝ }
-{
-    if from < list.len() {
-        entries::clear(&mut list[from..]);
-    }
-}
-
-// Fills the lent list with the text's host-ports. Every entry that holds none is zero afterwards, and where the text is refused all are.
-pub fn fill(text: &[u8], list: &mut [u64]) -> Hosts
-    ensures { λ r. ⌜ (r ≡ fillOf (now (text .entry)) (now (list .entry))) × (now (list .exit) ≡ leftBy (now (text .entry)) (now (list .entry))) ⌝ }
-{
-    if list.len() < HOST_LIMIT {
-        return Hosts::Refused(43);
-    }
-    let answer = store(text, list);
-    let Hosts::Count(n) = answer else {
-        clear(list, 0);
-        return answer;
-    };
-    clear(list, n);
-    answer
 }

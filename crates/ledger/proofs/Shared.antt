@@ -97,12 +97,12 @@ counted : ℕ → ℕ → ℕ → ℕ
 counted a b zero = 0
 counted a b (suc f) = hit a b f + counted a b f
 
-counted-is : (a b f : ℕ) → a ≤ b → counted a b f ≡ min f b - min f a
+counted-is : (a b f : ℕ) → a ≤ b → counted a b f + min f a ≡ min f b
 unfolding counted
 counted-is a b zero h = omega arith
 counted-is a b (suc f) h = go (stand a b f) (counted-is a b f h)
   where
-    go : Where a b f → counted a b f ≡ min f b - min f a → hit a b f + counted a b f ≡ min (suc f) b - min (suc f) a
+    go : Where a b f → counted a b f + min f a ≡ min f b → hit a b f + counted a b f + min (suc f) a ≡ min (suc f) b
     go (under x y) i = omega arith
     go (within x y w) i = omega arith
     go (past x y w) i = omega arith

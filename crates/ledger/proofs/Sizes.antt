@@ -1,14 +1,14 @@
 -- The number of a ledger's entries, refused or not, and how large they are.
 use Prim.Native.Nat.{ℕ, suc, _%_, _≤_, _<_}
 use mathlib.Core.Path.{_≡_, refl, sym}
-use mathlib.Core.Bool.{Bool, true, false, cond, false≢true}
+use mathlib.Core.Bool.{Bool, true, false, cond, _&&_, false≢true, and-true}
 use mathlib.Core.List.{List, [], _∷_}
 use native.Mathlib.Omega.{arith}
 use borrow.Author.Tests.{le-ltb, le-leb, eq-eqb, eqb-true, ltb-false}
 use lib.Dec.{ltb, eqb}
 use lib.ListN.{length, getD}
 use Rattle.ledger.specs.Pairs.{none, pair, endsBy}
-use Rattle.ledger.specs.Ledger.{entryLimit, largest, lengthWrong, pairsOf}
+use Rattle.ledger.specs.Ledger.{entryLimit, largest, lengthWrong, obeys, pairsOf}
 
 pub length-right : (l : List ℕ) → length l % 2 ≡ 0 → length l ≤ entryLimit → lengthWrong l ≡ false
 unfolding lengthWrong
@@ -33,3 +33,7 @@ ends-fit (a ∷ b ∷ rest) h = go (eqb b 0) (ends-fit rest (λ i. h (suc (suc i
     go : (t : Bool) → endsBy largest (pairsOf rest) ≡ true → endsBy largest (cond t none (pair a b (pairsOf rest))) ≡ true
     go true i = refl
     go false i = rw (le-leb b largest (omega (arith, h 1)), i)
+
+-- only the rule is judged there
+pub obeys-fits : (l : List ℕ) → ((i : ℕ) → getD l i 0 < 18446744073709551616) → (obeys l && endsBy largest (pairsOf l)) ≡ obeys l
+obeys-fits l h = rw (ends-fit l h) (and-true (obeys l))

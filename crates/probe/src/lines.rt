@@ -5,8 +5,8 @@ use crate::part;
 use crate::print;
 use commands::line;
 use commands::line::Line;
-use hostports::hosts;
-use hostports::hosts::Hosts;
+use hostlists::list;
+use hostlists::list::Hosts;
 use replies::reply;
 use replies::reply::Class;
 
@@ -46,7 +46,7 @@ pub fn reply(body: &[u8]) -> bool {
 }
 
 fn hosts_into(text: &[u8], list: &mut [u64]) {
-    let answer = hosts::fill(text, list);
+    let answer = list::fill(text, list);
     match answer {
         Hosts::Count(n) => print::counted(b"HOSTS ", n),
         Hosts::Refused(k) => print::refused(k),

@@ -5,11 +5,11 @@ use mathlib.Core.Bool.{Bool, true, false, cond}
 use mathlib.Core.List.{List, [], _∷_, _++_, append-nil}
 use native.Mathlib.Omega.{arith}
 use borrow.Author.Tests.{ne-eqb}
-use borrow.Rule.Slice.PartMut.{putMid}
+use borrow.Rule.Slice.PartMut.{putMid, midOf, mid-len}
 use lib.Dec.{eqb}
 use lib.ListN.{length, set, take, drop, length-append}
 use lib.Seq.{append-snoc}
-use Rattle.octets.specs.Decimal.{width, decimal}
+use Rattle.octets.specs.Decimal.{width, inDigits, decimal}
 use Rattle.octets.proofs.Decimals.{length-decimal}
 use Rattle.ledger.specs.Pairs.{Pairs, none, pair, size}
 use Rattle.rangelists.specs.RangeText.{comma, rangeText, rangesText, putAt}
@@ -41,25 +41,45 @@ in-three : (a b : ℕ) → decimal a ++ (45 ∷ []) ++ decimal (b - 1) ≡ range
 unfolding rangeText
 in-three a b = append-snoc (decimal a) 45 (decimal (b - 1))
 
--- a range put into lent bytes in three stores: its start, the hyphen and its last place
-pub range-put : (out ys zs : List ℕ) (at h e a b : ℕ) → at + length (rangeText a b) ≤ length out → h ≡ at + width a → e ≡ h + 1 + width (b - 1)
-    → ys ≡ decimal a → zs ≡ decimal (b - 1)
-    → putMid (h + 1) (e - (h + 1)) (set (putMid at (h - at) out ys) h 45) zs ≡ putAt at (rangeText a b) out
-range-put out ys zs at h e a b fits start end y z =
-    let n = length-decimal a in
-    let m = length-decimal (b - 1) in
-    let l = length-rangeText a b in
-    let o₁ = putAt at (decimal a) out in
-    let h₁ : h ≡ at + length (decimal a) = omega arith in
-    let h₂ : h + 1 ≡ at + length (decimal a ++ (45 ∷ [])) = simp length-append (omega arith) in
-    let k : length o₁ ≡ length out = length-put at (decimal a) out (omega arith) in
-    let first : putMid at (h - at) out ys ≡ o₁ = rw y (put-part at h out (decimal a) h₁) in
-    let hyphen : set o₁ h 45 ≡ putAt at (decimal a ++ (45 ∷ [])) out =
-    put-one h 45 o₁ (omega arith) ∙ rw h₁ (put-put at (decimal a) (45 ∷ []) out (omega arith)) in
-    rw (first, hyphen, z)
-    (put-part (h + 1) e (putAt at (decimal a ++ (45 ∷ [])) out) (decimal (b - 1)) (omega arith)
-    ∙ rw h₂ (put-put at (decimal a ++ (45 ∷ [])) (decimal (b - 1)) out (omega arith))
-    ∙ ap (λ (t : List ℕ). putAt at t out) (in-three a b))
+-- a range put into lent bytes in three stores: its start, the hyphen and its last place, each number filling a part of its own width
+module _ (out ys zs : List ℕ) (at n m a b : ℕ) (fits : at + length (rangeText a b) ≤ length out) (start : n ≡ width a) (end : m ≡ width (b - 1)) where
+  abbrev hyphen : ℕ
+  hyphen = at + n
+
+  abbrev behind : ℕ
+  behind = hyphen + 1 + m
+
+  abbrev pub twoPut : List ℕ
+  twoPut = set (putMid at (hyphen - at) out ys) hyphen 45
+
+  module _ (y : ys ≡ inDigits (length (midOf at (hyphen - at) out)) a) where
+    start-put : putMid at (hyphen - at) out ys ≡ putAt at (decimal a) out
+    unfolding decimal
+    start-put =
+        let w : length (midOf at (hyphen - at) out) ≡ width a = mid-len at hyphen out (omega (arith, length-rangeText a b)) ∙ omega arith in
+        rw (y, w) (put-part at hyphen out (decimal a) (omega (arith, length-decimal a)))
+
+    two-put : twoPut ≡ putAt at (decimal a ++ (45 ∷ [])) out
+    two-put =
+        let l = length-rangeText a b in
+        let h : hyphen ≡ at + length (decimal a) = omega (arith, length-decimal a) in
+        let k = length-put at (decimal a) out (omega arith) in
+        rw start-put (put-one hyphen 45 (putAt at (decimal a) out) (omega arith) ∙ rw h (put-put at (decimal a) (45 ∷ []) out (omega arith)))
+
+    pub range-put : zs ≡ inDigits (length (midOf (hyphen + 1) (behind - (hyphen + 1)) twoPut)) (b - 1)
+        → putMid (hyphen + 1) (behind - (hyphen + 1)) twoPut zs ≡ putAt at (rangeText a b) out
+    unfolding decimal
+    range-put z =
+        let l = length-rangeText a b in
+        let d = decimal a ++ (45 ∷ []) in
+        let n₁ : length d ≡ width a + 1 = simp (length-append, length-decimal) in
+        let k : length (putAt at d out) ≡ length out = length-put at d out (omega arith) in
+        let w : length (midOf (hyphen + 1) (behind - (hyphen + 1)) (putAt at d out)) ≡ width (b - 1) = mid-len (hyphen + 1) behind (putAt at d out) (omega arith) ∙ omega arith in
+        let h : hyphen + 1 ≡ at + length d = omega arith in
+        rw (z, two-put, w)
+        (put-part (hyphen + 1) behind (putAt at d out) (decimal (b - 1)) (omega (arith, length-decimal (b - 1)))
+        ∙ rw h (put-put at d (decimal (b - 1)) out (omega arith))
+        ∙ ap (λ (t : List ℕ). putAt at t out) (in-three a b))
 
 -- ---- one range after another
 

@@ -1,13 +1,13 @@
 -- The text of a ledger, read back.
 use Prim.Native.Nat.{ℕ, suc, _+_, _-_, _%_, _≤_, _<_}
 use mathlib.Core.Path.{_≡_, refl, sym, ap, _∙_}
-use mathlib.Core.Bool.{Bool, true, false, cond, and-eq-true-iff}
-use mathlib.Core.List.{List, [], _∷_, _++_, append-nil}
+use mathlib.Core.Bool.{true, and-eq-true-iff}
+use mathlib.Core.List.{List, [], _∷_, _++_, append-nil, append-assoc}
 use native.Mathlib.Omega.{arith}
 use native.Mathlib.Decide.{decLt}
 use native.Mathlib.Numerals.{add-one}
 use borrow.Author.Tests.{lt-ltb, le-ltb, le-leb, leb-true, ne-eqb}
-use lib.Dec.{leb, eqb}
+use lib.Dec.{leb}
 use lib.ListN.{length, drop, length-append}
 use lib.Seq.{take-append-seam, getD-append-seam, drop-append-add}
 use Rattle.octets.specs.Decimal.{isDigit, digitRun, digitsOnly, numberOf, width, decimal}
@@ -16,11 +16,11 @@ use Rattle.ledger.specs.Pairs.{Pairs, none, pair, size, Ruled, join, endsBy}
 use Rattle.ledger.specs.Ledger.{entryLimit, largest, obeys, pairsOf, roomOf}
 use Rattle.ledger.proofs.Lents.{rule-ruled, lent-pairsOf, size-pairsOf}
 use Rattle.ledger.proofs.Sizes.{length-right}
-use Rattle.rangelists.specs.RangeText.{endLimit, bound, rangeOf, inFront, parts, commaRun, merged, added, mergedFrom, rangesOf, readRanges, rangesLeft, rangeText, rangesText}
+use Rattle.rangelists.specs.RangeText.{endLimit, bound, rangeOf, parts, commaRun, merged, added, mergedFrom, rangesOf, readRanges, rangesLeft, rangeText, rangesText}
 use Rattle.ledger.specs.declared.answer.Loaded.the-variants.{Done}
 use Rattle.rangelists.specs.declared.ranges.Range.the-variants.{Places}
 use Rattle.rangelists.proofs.Answered.{reads-merged}
-use Rattle.rangelists.proofs.Commas.{parts-last}
+use Rattle.rangelists.proofs.Commas.{parts-last, parts-next}
 
 -- ---- one range
 
@@ -87,24 +87,25 @@ commaRun-over (d ∷ ds) es h =
     let p = and-eq-true-iff (isDigit d) (digitsOnly ds) .0 h in
     rw (ne-eqb d 44 (λ e. omega (arith, digit-bounds d (p .0)))) (omega (arith, commaRun-over ds es (p .1)))
 
-range-no-comma : (a b : ℕ) → commaRun (rangeText a b) ≡ length (rangeText a b)
+range-run : (a b : ℕ) (es : List ℕ) → commaRun (rangeText a b ++ es) ≡ length (rangeText a b) + commaRun es
 unfolding rangeText commaRun
-range-no-comma a b =
-    let e : decimal (b - 1) ++ [] ≡ decimal (b - 1) = append-nil (decimal (b - 1)) in
-    let r : commaRun (decimal (b - 1)) ≡ length (decimal (b - 1)) = omega (arith, rw e at (commaRun-over (decimal (b - 1)) [] (digits-decimal (b - 1)))) in
-    omega (arith, commaRun-over (decimal a) (45 ∷ decimal (b - 1)) (digits-decimal a), length-append (decimal a) (45 ∷ decimal (b - 1)), r)
+range-run a b es =
+    let d = decimal a in
+    let f = decimal (b - 1) in
+    rw (append-assoc d (45 ∷ f) es)
+    (omega (arith, commaRun-over d (45 ∷ (f ++ es)) (digits-decimal a), commaRun-over f es (digits-decimal (b - 1)), length-append d (45 ∷ f)))
 
-parts-join : (t u : List ℕ) → commaRun t ≡ length t → parts (t ++ (44 ∷ u)) ≡ t ∷ parts u
-unfolding commaRun parts inFront
-parts-join [] u h = refl
-parts-join (b ∷ bs) u h = go (eqb b 44) refl (parts-join bs u)
-  where
-    go : (t : Bool) → eqb b 44 ≡ t → (commaRun bs ≡ length bs → parts (bs ++ (44 ∷ u)) ≡ bs ∷ parts u)
-        → cond t ([] ∷ parts (bs ++ (44 ∷ u))) (inFront b (parts (bs ++ (44 ∷ u)))) ≡ (b ∷ bs) ∷ parts u
-    go true e i = let z : 0 ≡ suc (length bs) = rw e at h in absurd (omega arith)
-    go false e i =
-        let z : suc (commaRun bs) ≡ suc (length bs) = rw e at h in
-        rw (i (omega arith))
+range-alone : (a b : ℕ) → parts (rangeText a b) ≡ rangeText a b ∷ []
+unfolding commaRun
+range-alone a b = parts-last (rangeText a b) (omega (arith, rw (append-nil (rangeText a b)) at (range-run a b [])))
+
+range-first : (a b : ℕ) (u : List ℕ) → parts (rangeText a b ++ (44 ∷ u)) ≡ rangeText a b ∷ parts u
+unfolding commaRun
+range-first a b u =
+    let t = rangeText a b in
+    let e : commaRun (t ++ (44 ∷ u)) ≡ length t = omega (arith, range-run a b (44 ∷ u)) in
+    let r : drop (suc (length t)) (t ++ (44 ∷ u)) ≡ u = rw (← add-one (length t)) (drop-append-add t (44 ∷ u) 1) in
+    parts-next (t ++ (44 ∷ u)) (omega (arith, e, length-append t (44 ∷ u))) ∙ rw (e, take-append-seam t (44 ∷ u), r)
 
 -- the text of each pair
 unfoldable textsOf : Pairs → List (List ℕ)
@@ -114,9 +115,9 @@ textsOf (pair a b ps) = rangeText a b ∷ textsOf ps
 parts-texts : (ps : Pairs) → 0 < size ps → parts (rangesText ps) ≡ textsOf ps
 unfolding rangesText textsOf size
 parts-texts none h = absurd (omega arith)
-parts-texts (pair a b none) h = parts-last (rangeText a b) (range-no-comma a b)
+parts-texts (pair a b none) h = range-alone a b
 parts-texts (pair a b (pair c d ps)) h =
-    parts-join (rangeText a b) (rangesText (pair c d ps)) (range-no-comma a b) ∙ ap (λ (ts : List (List ℕ)). rangeText a b ∷ ts) (parts-texts (pair c d ps) (omega arith))
+    range-first a b (rangesText (pair c d ps)) ∙ ap (λ (ts : List (List ℕ)). rangeText a b ∷ ts) (parts-texts (pair c d ps) (omega arith))
 
 -- ---- ascending ranges joined one by one
 

@@ -4,6 +4,7 @@ use mathlib.Core.Path.{_≡_}
 use mathlib.Core.List.{List, [], _∷_}
 use lib.ListN.{replicate}
 use Rattle.rangelists.specs.RangeText.{readRanges, rangesLeft}
+use Rattle.octets.specs.Cases.{AllHold}
 use Rattle.ledger.specs.declared.answer.Loaded.the-variants.{Done, Refused}
 
 pub data Case : Type 0 where
@@ -20,10 +21,6 @@ abbrev pub Holds : Case → Type 0
 Holds (gives r text ledger) = (readRanges text (sevens r) ≡ Done) × (rangesLeft text (sevens r) ≡ ledger)
 Holds (refused r text k) = (readRanges text (sevens r) ≡ Refused k) × (rangesLeft text (sevens r) ≡ replicate (2 * r) 0)
 
-abbrev pub AllHold : List Case → Type 0
-AllHold [] = Unit {0}
-AllHold (c ∷ cs) = Holds c × AllHold cs
-
 -- in this order: 0-29,30-89 · 60-89,0-59,5-5 · 9-8 · none · 0-0,1-1,2-2 · 0-1,5-6x · 0-1,5-6,x · 0-0,2-2,1-1
 abbrev pub starred : List Case
 starred =
@@ -38,4 +35,4 @@ starred =
     ∷ []
 
 abbrev pub ProvedSet : Type 0
-ProvedSet = AllHold starred
+ProvedSet = AllHold Holds starred

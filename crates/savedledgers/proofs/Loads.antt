@@ -7,7 +7,7 @@ use native.Mathlib.Omega.{arith}
 use native.Mathlib.Nat.{sub-zero}
 use native.Mathlib.Decide.{decLe, ℕ-discrete}
 use borrow.Author.Tests.{lt-ltb, le-ltb, eq-eqb, ne-eqb}
-use borrow.Rule.Slice.PartMut.{putMid}
+use borrow.Rule.Slice.PartMut.{putMid, midOf, mid-len}
 use lib.Dec.{ltb}
 use lib.ListN.{length, drop, replicate, length-append, length-drop, drop-of-length-le}
 use lib.Seq.{take-at, drop-at}
@@ -104,17 +104,19 @@ number-sound bytes ledger z = go (lengthWrong ledger) refl
 -- ---- the entries
 
 -- ys and zs are what stands in the two parts of the ledger, the numbers and the zeros
-pub load-placed : (ledger body ys zs : List ℕ) (n : ℕ) → length ledger % 2 ≡ 0 → n ≤ roomOf ledger → ys ≡ numbersIn (2 * n) body
-    → let o = putMid 0 (2 * n - 0) ledger ys in zs ≡ replicate (length o - 2 * n) 0
+pub load-placed : (ledger body ys zs : List ℕ) (n : ℕ) → length ledger % 2 ≡ 0 → n ≤ roomOf ledger → ys ≡ numbersIn (length (midOf 0 (2 * n - 0) ledger)) body
+    → let o = putMid 0 (2 * n - 0) ledger ys in zs ≡ replicate (length (midOf (2 * n) (length o - 2 * n) o)) 0
     → putMid (2 * n) (length o - 2 * n) o zs ≡ lent (roomOf ledger) (pairsIn n body)
-load-placed ledger body ys zs n h g e z =
+load-placed ledger body ys zs n h g y w =
     let o = putMid 0 (2 * n - 0) ledger ys in
     let s : 2 * n - 0 ≡ 2 * n = sub-zero (2 * n) in
     let t = drop (2 * n) ledger in
     let o-is : o ≡ ys ++ t = ap (λ k. putMid 0 k ledger ys) s in
+    let e : ys ≡ numbersIn (2 * n) body = y ∙ ap (λ (k : ℕ). numbersIn k body) (mid-len 0 (2 * n) ledger (omega arith) ∙ s) in
     let n₁ : length ys ≡ 2 * n = ap length e ∙ length-numbersIn (2 * n) body in
     let n₂ : length t ≡ length ledger - 2 * n = length-drop (2 * n) ledger in
     let n₃ : length o - 2 * n ≡ 2 * (roomOf ledger - n) = rw (o-is, length-append ys t) (omega arith) in
+    let z : zs ≡ replicate (length o - 2 * n) 0 = w ∙ ap (λ (k : ℕ). replicate k 0) (mid-len (2 * n) (length o) o (omega arith)) in
     let b : length t ≤ 2 * (roomOf ledger - n) = omega arith in
     let f = lent-flat (roomOf ledger) (pairsIn n body) (omega (arith, size-pairsIn n body)) in
     rw (n₃, o-is, take-at ys t (2 * n) n₁, drop-at ys t (2 * n) n₁, drop-of-length-le t b, append-nil zs, z, n₃, e)

@@ -138,7 +138,8 @@ fn write_numbers(numbers: &[u64], out: &mut [u8])
 {
     let mut i = 0;
     while i < numbers.len() {
-        little::write(numbers[i], &mut out[8 * i..8 * i + 8]);
+        let at = 8 * i;
+        little::write(numbers[i], &mut out[at..at + 8]);
         i += 1;
     }
 }

@@ -6,11 +6,14 @@ use lib.ListN.{length-set}
 use Rattle.claims.proofs.claim.widen.Statement.{statement}
 use Rattle.claims.proofs.claim.widen.Tie as tie
 
+mul-first : tie.Need-mul-first
+mul-first c = search needs
+
+mul-behind : tie.Need-mul-behind
+mul-behind c = search needs
+
 mul-lesser : tie.Need-mul-lesser
 mul-lesser c = search needs
-
-mul-lesser-2 : tie.Need-mul-lesser-2
-mul-lesser-2 c = search needs
 
 slice-read-lesser : tie.Need-slice-read-lesser
 slice-read-lesser c = search needs
@@ -18,14 +21,11 @@ slice-read-lesser c = search needs
 lesser-requires : tie.Need-lesser-requires
 lesser-requires c κs = search needs
 
-mul-greater : tie.Need-mul-greater
-mul-greater c = search needs
-
 sub-greater : tie.Need-sub-greater
 sub-greater c = search needs
 
-mul-greater-2 : tie.Need-mul-greater-2
-mul-greater-2 c = search needs
+mul-greater : tie.Need-mul-greater
+mul-greater c = search needs
 
 slice-read-greater : tie.Need-slice-read-greater
 slice-read-greater c = search needs
@@ -36,35 +36,23 @@ greater-requires c κs = search needs
 mul-ledger : tie.Need-mul-ledger
 mul-ledger c = search needs
 
-mul-ledger-2 : tie.Need-mul-ledger-2
-mul-ledger-2 c = search needs
-
 slice-write-ledger : tie.Need-slice-write-ledger
 slice-write-ledger c = search needs
-
-mul-ledger-3 : tie.Need-mul-ledger-3
-mul-ledger-3 c = search needs
 
 add-ledger : tie.Need-add-ledger
 add-ledger c = search needs
 
-mul-ledger-4 : tie.Need-mul-ledger-4
-mul-ledger-4 c = search needs
+mul-ledger-2 : tie.Need-mul-ledger-2
+mul-ledger-2 c = search needs
 
 slice-write-ledger-2 : tie.Need-slice-write-ledger-2
 slice-write-ledger-2 c = simp length-set (omega arith)
 
-mul-close : tie.Need-mul-close
-mul-close c = search needs
-
 add-close : tie.Need-add-close
 add-close c = search needs
 
-mul-close-2 : tie.Need-mul-close-2
-mul-close-2 c = search needs
-
-mul-close-3 : tie.Need-mul-close-3
-mul-close-3 c = search needs
+mul-close : tie.Need-mul-close
+mul-close c = search needs
 
 close-requires : tie.Need-close-requires
 close-requires c κs = (omega arith, omega arith, simp length-set (omega arith))
@@ -81,26 +69,22 @@ pub widen-spec : {M : Type 1} → statement M
 widen-spec =
     tie.close
     (tie.spec
+    mul-first
+    mul-behind
     mul-lesser
-    mul-lesser-2
     slice-read-lesser
     lesser-requires
-    mul-greater
     sub-greater
-    mul-greater-2
+    mul-greater
     slice-read-greater
     greater-requires
     mul-ledger
-    mul-ledger-2
     slice-write-ledger
-    mul-ledger-3
     add-ledger
-    mul-ledger-4
+    mul-ledger-2
     slice-write-ledger-2
-    mul-close
     add-close
-    mul-close-2
-    mul-close-3
+    mul-close
     close-requires
     same-length
     returns)

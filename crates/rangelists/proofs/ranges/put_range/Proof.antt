@@ -1,11 +1,10 @@
 -- `ranges::put_range`.
-use Prim.Native.Nat.{ℕ, _+_, _-_}
+use Prim.Native.Nat.{_+_, _-_}
 use mathlib.Core.Path.{_≡_, ap, _∙_}
 use native.Mathlib.Omega.{arith}
 use borrow.Author.Needs.{needs}
-use borrow.Rule.Slice.PartMut.{putMid, midOf, mid-len}
+use borrow.Rule.Slice.PartMut.{putMid}
 use lib.ListN.{length, set, length-set}
-use Rattle.octets.specs.Decimal.{width, inDigits, decimal}
 use Rattle.rangelists.specs.RangeText.{rangeText, putAt}
 use Rattle.rangelists.proofs.RangeTexts.{length-rangeText, range-put}
 use Rattle.rangelists.proofs.Placing.{length-put}
@@ -18,21 +17,15 @@ whole : (c : tie.After-slice-known3) → let w = c .before .before in let n = w 
     let h = x .at + m .length .result in
     putMid (h + 1) (h + 1 + n .length2 .result - (h + 1)) (set (putMid (x .at) (h - x .at) (x .out .now) (v .write .last .1 .0)) h 45) (w .write2 .last .1 .0)
     ≡ putAt (x .at) (rangeText (x .a) (x .b)) (x .out .now)
-unfolding decimal
 whole c =
     let w = c .before .before in
     let n = w .before .before in
     let v = n .before .before .before in
     let m = v .before .before in
-    let x = m .before .before .args in
-    let l = length-rangeText (x .a) (x .b) in
-    let h = x .at + m .length .result in
-    let e = h + 1 + n .length2 .result in
-    let o₁ = set (putMid (x .at) (h - x .at) (x .out .now) (v .write .last .1 .0)) h 45 in
-    let p : length (midOf (x .at) (h - x .at) (x .out .now)) ≡ width (x .a) = mid-len (x .at) h (x .out .now) (omega arith) ∙ omega arith in
-    let q : length (midOf (h + 1) (e - (h + 1)) o₁) ≡ width (x .b - 1) = mid-len (h + 1) e o₁ (simp length-set (omega arith)) ∙ omega arith in
-    range-put (x .out .now) _ _ (x .at) h e (x .a) (x .b) (omega arith) (omega arith) (omega arith)
-    (v .write .ensures ∙ ap (λ (k : ℕ). inDigits k (x .a)) p) (w .write2 .ensures ∙ ap (λ (k : ℕ). inDigits k (x .b - 1)) q)
+    let s = m .before .before in
+    let x = s .args in
+    range-put (x .out .now) (v .write .last .1 .0) (w .write2 .last .1 .0) (x .at) (m .length .result) (n .length2 .result) (x .a) (x .b) (s .pre .1) (m .length .ensures) (n .length2 .ensures)
+    (v .write .ensures) (w .write2 .ensures)
 
 length-requires : tie.Need-length-requires
 length-requires c κs = search needs

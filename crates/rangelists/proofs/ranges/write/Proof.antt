@@ -1,11 +1,11 @@
 -- `ranges::write`.
 use mathlib.Core.Path.{_≡_, sym, ap, _∙_}
-use mathlib.Core.Bool.{true, false, and-true}
+use mathlib.Core.Bool.{true, false}
 use native.Mathlib.Omega.{arith}
 use borrow.Author.Needs.{needs}
 use borrow.Author.Tests.{not-true, not-false}
 use Rattle.ledger.specs.Ledger.{lengthWrong, obeys}
-use Rattle.ledger.proofs.Sizes.{length-fits, ends-fit}
+use Rattle.ledger.proofs.Sizes.{length-fits, obeys-fits}
 use Rattle.ledger.specs.declared.answer.Written.the-variants.{Bytes}
 use Rattle.rangelists.proofs.Answered.{number-53, number-1, number-54, number-55, number-0, writes-refused, writes-text}
 use Rattle.rangelists.proofs.ranges.write.Statement.{statement}
@@ -18,8 +18,7 @@ right c = sym (c .before .length-wrong .ensures) ∙ c .if1 .left
 ruled : (c : tie.After-obeys) → c .obeys .result ≡ obeys (c .before .before .before .before .before .args .ledger .now)
 ruled c =
     let k = c .before .before .before .before in
-    let l = k .before .args .ledger .now in
-    c .obeys .ensures ∙ rw (ends-fit l (λ i. omega (arith, k .shared-slice-known .given i))) (and-true (obeys l))
+    c .obeys .ensures ∙ obeys-fits (k .before .args .ledger .now) (λ i. omega (arith, k .shared-slice-known .given i))
 
 obeyed : (c : tie.Else2) → obeys (c .before .before .before .before .before .before .args .ledger .now) ≡ true
 obeyed c = sym (ruled (c .before)) ∙ not-false (c .before .obeys .result) (c .if2 .left)

@@ -1,16 +1,14 @@
 -- `saved::read`.
-use Prim.Native.Nat.{_*_, _-_, _/_, _%_, _≤_}
+use Prim.Native.Nat.{_-_, _/_, _%_, _≤_}
 use mathlib.Core.Path.{_≡_, sym, ap, _∙_}
 use mathlib.Core.Bool.{true, false}
 use native.Mathlib.Omega.{arith}
 use borrow.Author.Needs.{needs}
-use borrow.Rule.Slice.PartMut.{putMid}
 use borrow.Author.Tests.{not-true, not-false}
-use lib.ListN.{length, take, drop, replicate, length-take, length-drop}
+use lib.ListN.{length, take, drop, length-drop}
 use lib.Seq.{take-all}
 use Rattle.ledger.specs.Ledger.{lengthWrong}
 use Rattle.ledger.proofs.Sizes.{length-fits}
-use Rattle.savedledgers.specs.Numbers.{numbersIn}
 use Rattle.savedledgers.specs.Saved.{kindOne, frameLength, frameNumber, bodyOf, pairLength, savedPairs, inOrder}
 use Rattle.ledger.specs.declared.answer.Loaded.the-variants.{Refused}
 use Rattle.savedledgers.proofs.Frames.{frame-sound}
@@ -164,12 +162,7 @@ returns-6 c =
     let a = reads-done (x .bytes .now) (x .ledger .now) m in
     let b = take (length (x .bytes .now) - 6) (drop 6 (x .bytes .now)) in
     let n = length b / 16 in
-    let n₁ : length (take (2 * n - 0) (x .ledger .now)) ≡ 2 * n = simp length-take (omega (arith, i .if5 .left)) in
-    let o = putMid 0 (2 * n - 0) (x .ledger .now) (r .read-numbers .last .1 .0) in
-    let n₂ : length (take (length o - 2 * n) (drop (2 * n) o)) ≡ length o - 2 * n = simp (length-take, length-drop) (omega arith) in
-    let ys : r .read-numbers .last .1 .0 ≡ numbersIn (2 * n) b = r .read-numbers .ensures ∙ rw n₁ in
-    let zs : e .clear .last .0 ≡ replicate (length o - 2 * n) 0 = e .clear .ensures ∙ rw n₂ in
-    let p = load-placed (x .ledger .now) b _ _ n (length-fits (x .ledger .now) (lengths (d .before .before)) .0) (i .if5 .left) ys zs in
+    let p = load-placed (x .ledger .now) b _ _ n (length-fits (x .ledger .now) (lengths (d .before .before)) .0) (i .if5 .left) (r .read-numbers .ensures) (e .clear .ensures) in
     (sym (a .0), p ∙ rw (body-is d) (sym (a .1)))
 
 pub read-spec : {M : Type 1} → statement M

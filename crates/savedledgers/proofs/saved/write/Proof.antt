@@ -1,14 +1,14 @@
 -- `saved::write`.
 use Prim.Native.Nat.{_+_, _*_, _≤_}
 use mathlib.Core.Path.{_≡_, sym, ap, _∙_}
-use mathlib.Core.Bool.{true, false, and-true}
+use mathlib.Core.Bool.{true, false}
 use native.Mathlib.Omega.{arith}
 use borrow.Author.Needs.{needs}
 use borrow.Author.Tests.{not-true, not-false}
 use lib.ListN.{length, length-take}
 use Rattle.ledger.specs.Pairs.{size}
 use Rattle.ledger.specs.Ledger.{lengthWrong, obeys, pairsOf}
-use Rattle.ledger.proofs.Sizes.{length-fits, ends-fit}
+use Rattle.ledger.proofs.Sizes.{length-fits, obeys-fits}
 use Rattle.ledger.proofs.Lents.{size-pairsOf}
 use Rattle.savedledgers.specs.Saved.{savedOf}
 use Rattle.ledger.specs.declared.answer.Written.the-variants.{Bytes}
@@ -23,8 +23,7 @@ lengths c = sym (c .before .length-wrong .ensures) ∙ c .if1 .left
 obeys-is : (c : tie.After-obeys) → c .obeys .result ≡ obeys (c .before .before .before .before .before .args .ledger .now)
 obeys-is c =
     let k = c .before .before .before .before in
-    let l = k .before .args .ledger .now in
-    c .obeys .ensures ∙ rw (ends-fit l (λ i. omega (arith, k .shared-slice-known .given i))) (and-true (obeys l))
+    c .obeys .ensures ∙ obeys-fits (k .before .args .ledger .now) (λ i. omega (arith, k .shared-slice-known .given i))
 
 obeyed : (c : tie.Else2) → obeys (c .before .before .before .before .before .before .args .ledger .now) ≡ true
 obeyed c = sym (obeys-is (c .before)) ∙ not-false (c .before .obeys .result) (c .if2 .left)

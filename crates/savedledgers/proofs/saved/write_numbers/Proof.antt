@@ -1,12 +1,11 @@
 -- `saved::write_numbers`: what stands written, with what is still to be written behind it, is the whole.
-use Prim.Native.Nat.{_+_, _*_, _-_, _≤_}
+use Prim.Native.Nat.{_*_, _-_, _≤_}
 use mathlib.Core.Path.{_≡_, refl, sym, _∙_}
 use mathlib.Core.List.{_++_, append-nil}
 use native.Mathlib.Omega.{arith}
 use borrow.Author.Needs.{needs}
-use lib.ListN.{length, getD, take, drop, length-take, length-drop}
+use lib.ListN.{length, take, drop}
 use lib.Seq.{take-length, drop-length}
-use Rattle.octets.specs.Digits.{toLittle}
 use Rattle.savedledgers.specs.Numbers.{numberBytes}
 use Rattle.savedledgers.proofs.Eights.{write-turn}
 use Rattle.savedledgers.proofs.saved.write_numbers.Statement.{statement}
@@ -23,17 +22,14 @@ abbrev μ-loop : tie.MeasureT-loop
 loop-holds : tie.Need-loop-holds Inv-loop μ-loop
 loop-holds c = (omega arith, refl, omega arith, refl)
 
+mul-at : tie.Need-mul-at Inv-loop μ-loop
+mul-at c = omega arith
+
 mul-write : tie.Need-mul-write Inv-loop μ-loop
 mul-write c = omega arith
 
 shared-slice-read-write : tie.Need-shared-slice-read-write Inv-loop μ-loop
 shared-slice-read-write c = omega arith
-
-mul-write-2 : tie.Need-mul-write-2 Inv-loop μ-loop
-mul-write-2 c = omega arith
-
-mul-write-3 : tie.Need-mul-write-3 Inv-loop μ-loop
-mul-write-3 c = omega arith
 
 add-write : tie.Need-add-write Inv-loop μ-loop
 add-write c = omega arith
@@ -60,14 +56,11 @@ loop-again : tie.Need-loop-again Inv-loop μ-loop
 loop-again c =
     let w = c .before .before in
     let l = w .before .before .before .before in
-    let x = l .before .before .before .args in
-    let a = 8 * l .loop .i in
-    let n : length (take (a + 8 - a) (drop a (l .loop .out))) ≡ 8 = simp (length-take, length-drop) (omega arith) in
-    let ys : w .write .last .1 .0 ≡ toLittle 256 8 (getD (x .numbers .now) (l .loop .i) 0) = w .write .ensures ∙ rw n in (
+    let x = l .before .before .before .args in (
       omega arith,
       omega arith,
       omega arith,
-      write-turn (x .numbers .now) (l .loop .out) _ (l .loop .i) (omega arith) (omega arith) ys ∙ l .loop .inv .3,
+      write-turn (x .numbers .now) (l .loop .out) _ (l .loop .i) (omega arith) (omega arith) (w .write .ensures) ∙ l .loop .inv .3,
     )
 
 same-length : tie.Need-same-length Inv-loop μ-loop
@@ -89,10 +82,9 @@ write-numbers-spec =
     Inv-loop
     μ-loop
     loop-holds
+    mul-at
     mul-write
     shared-slice-read-write
-    mul-write-2
-    mul-write-3
     add-write
     sub-write
     part-write-start

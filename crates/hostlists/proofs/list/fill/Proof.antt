@@ -1,11 +1,11 @@
--- `hosts::fill`.
+-- `list::fill`.
 use Prim.Native.Nat.{ℕ}
 use mathlib.Core.Path.{_≡_, sym, ap, _∙_}
 use borrow.Author.Needs.{needs}
-use Rattle.hostports.specs.HostPort.{emptied, fillOf, leftBy}
-use Rattle.hostports.proofs.Lists.{counted, fills-short, fills}
-use Rattle.hostports.proofs.hosts.fill.Statement.{statement}
-use Rattle.hostports.proofs.hosts.fill.Tie as tie
+use Rattle.hostlists.specs.HostList.{emptied, fillOf, leftBy}
+use Rattle.hostlists.proofs.Lists.{counted, fills-short, fills}
+use Rattle.hostlists.proofs.list.fill.Statement.{statement}
+use Rattle.hostlists.proofs.list.fill.Tie as tie
 
 -- what is left of clearing from an entry on, where so many host-ports were stored
 left : (c : tie.After-store) (n : ℕ) → counted (c .store .result) ≡ n → let x = c .before .before .before .before .before .args in

@@ -1,6 +1,6 @@
--- A list of host-ports: what each step of reading it says, and what stands in a lent list meanwhile.
+-- A list of host-ports: what each step of reading it says, and what stands in a lent list meanwhile; `HostLists` holds.
 use Prim.Native.Nat.{ℕ, zero, suc, _+_, _-_, _≤_, _<_}
-use mathlib.Core.Path.{_≡_, refl, sym, ap, _∙_}
+use mathlib.Core.Path.{_≡_, refl, sym, ap, subst, _∙_}
 use mathlib.Core.Bool.{Bool, true, false, cond}
 use mathlib.Core.List.{List, [], _∷_, _++_, append-nil}
 use native.Mathlib.Omega.{arith}
@@ -11,11 +11,13 @@ use borrow.Rule.Slice.PartMut.{putMid}
 use lib.Dec.{eqb}
 use lib.ListN.{length, getD, set, take, drop, replicate, length-append, length-take, length-drop, drop-of-length-le}
 use lib.Seq.{length-take-le, take-all, take-suc-set}
 use Rattle.hostports.specs.declared.hosts.Step.{Step}
 use Rattle.hostports.specs.declared.hosts.Step.the-variants.{Host, Malformed}
-use Rattle.hostports.specs.declared.hosts.Hosts.{Hosts}
-use Rattle.hostports.specs.declared.hosts.Hosts.the-variants.{Count, Refused}
-use Rattle.hostports.specs.HostPort.{hostLimit, hostPortAt, Listed, listed, trouble, before, continued, listAt, hostsOf, answered, hostPorts, Stored, emptied, filled, fillOf, leftBy}
+use Rattle.hostlists.specs.declared.list.Hosts.{Hosts}
+use Rattle.hostlists.specs.declared.list.Hosts.the-variants.{Count, Refused}
+use Rattle.hostports.specs.HostPort.{hostPortAt}
+use Rattle.hostlists.specs.HostList.{hostLimit, Listed, listed, trouble, before, continued, listAt, hostsOf, answered, hostPorts, Stored, emptied, filled, fillOf, leftBy}
+use Rattle.hostlists.specs.HostLists.{HostLists}
 
 -- ---- clearing a list from an entry on
 
@@ -165,3 +167,6 @@ fills text list kept r n h e s c =
       rw (le-ltb (length list) hostLimit h) (s .says),
       rw (le-ltb (length list) hostLimit h, filled-is (length list) (hostsOf text), e, m, s .holds),
     )
+
+pub host-lists : HostLists
+host-lists = record { one-to-64 = λ text vs e. subst (Sized hostLimit) e (sized-hosts text) }

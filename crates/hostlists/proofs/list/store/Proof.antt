@@ -1,15 +1,16 @@
--- `hosts::store`: the host-ports stored, and what comes behind them, are what the text says.
+-- `list::store`: the host-ports stored, and what comes behind them, are what the text says.
 use Prim.Native.Nat.{suc, _+_, _-_, _≤_}
 use mathlib.Core.Path.{_≡_, refl, sym, _∙_}
 use native.Mathlib.Omega.{arith}
 use borrow.Author.Needs.{needs}
 use lib.ListN.{length, take, length-set}
-use Rattle.hostports.specs.HostPort.{hostLimit, hostPortAt, listAt, hostsOf}
+use Rattle.hostports.specs.HostPort.{hostPortAt}
+use Rattle.hostlists.specs.HostList.{hostLimit, listAt, hostsOf}
 use Rattle.hostports.specs.declared.hosts.Step.the-variants.{Host}
 use Rattle.hostports.proofs.HostPorts.{host-port-place}
-use Rattle.hostports.proofs.Lists.{list-malformed, list-ends, list-broken, list-goes-on, list-empty, list-full, following, following-more, stored-trouble, stored-last}
-use Rattle.hostports.proofs.hosts.store.Statement.{statement}
-use Rattle.hostports.proofs.hosts.store.Tie as tie
+use Rattle.hostlists.proofs.Lists.{list-malformed, list-ends, list-broken, list-goes-on, list-empty, list-full, following, following-more, stored-trouble, stored-last}
+use Rattle.hostlists.proofs.list.store.Statement.{statement}
+use Rattle.hostlists.proofs.list.store.Tie as tie
 
 abbrev Inv-loop : tie.InvT-loop
 Inv-loop text list₀ at₀ n₀ list at n =

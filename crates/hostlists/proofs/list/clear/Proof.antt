@@ -1,8 +1,8 @@
--- `hosts::clear`.
+-- `list::clear`.
 use borrow.Author.Needs.{needs}
-use Rattle.hostports.proofs.Lists.{cleared-part, cleared-none}
-use Rattle.hostports.proofs.hosts.clear.Statement.{statement}
-use Rattle.hostports.proofs.hosts.clear.Tie as tie
+use Rattle.hostlists.proofs.Lists.{cleared-part, cleared-none}
+use Rattle.hostlists.proofs.list.clear.Statement.{statement}
+use Rattle.hostlists.proofs.list.clear.Tie as tie
 
 mul-clear : tie.Need-mul-clear
 mul-clear c = search needs

@@ -1,0 +1,2 @@
+pub mod HostList
+pub mod HostLists

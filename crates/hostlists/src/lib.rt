@@ -1,0 +1,2 @@
+// The control channel's lists of host-ports (document 01, "Control lines").
+pub mod list;
