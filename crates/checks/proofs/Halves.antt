@@ -10,9 +10,8 @@ use native.Mathlib.Decide.{decLe}
 use borrow.Author.Tests.{le-leb, lt-leb, ne-eqb, ltb-true, ltb-false, leb-true, leb-false}
 use lib.Dec.{leb, ltb, eqb}
 use lib.ListN.{getD}
-use Rattle.ledger.specs.Pairs.{Pairs, none, pair, size, Ruled, inside}
+use Rattle.ledger.specs.Pairs.{Pairs, none, pair, size, Ruled, inside, upTo}
 use Rattle.ledger.specs.Ledger.{zeros, rule, obeys, pairsOf, roomOf}
-use Rattle.ledger.specs.Claim.{upTo}
 use Rattle.ledger.proofs.Lents.{First, unused, used, rule-first, rule-ruled, size-pairsOf}
 use Rattle.ledger.proofs.Spots.{endAt, upTo-on, upTo-stops, upTo-le}
 use Rattle.ledger.proofs.Rules.{zeros-at}

@@ -5,9 +5,8 @@ ghost use mathlib.Core.Bool.{true, _&&_};
 ghost use Prim.Native.Nat.{_+_, _*_, _≤_, _<_};
 ghost use lib.Dec.{leb, ltb};
 ghost use lib.ListN.{getD};
-ghost use Rattle.ledger.specs.Pairs.{inside};
+ghost use Rattle.ledger.specs.Pairs.{inside, upTo};
 ghost use Rattle.ledger.specs.Ledger.{roomOf, obeys, pairsOf};
-ghost use Rattle.ledger.specs.Claim.{upTo};
 
 // Whether the pair with the number i is used and starts at the place or before it.
 fn starts_by(ledger: &[u64], i: usize, place: u64) -> bool

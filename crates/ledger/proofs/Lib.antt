@@ -5,12 +5,8 @@ pub mod Shared
 pub mod Lents
 pub mod Sizes
 pub mod Opened
-mod Shifted
 pub mod Spots
 pub mod Flats
-mod Spliced
-pub mod Claims
 pub mod Rules
 pub mod Meanings
-pub mod ProvedSets
 pub mod Indexed

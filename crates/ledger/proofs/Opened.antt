@@ -11,7 +11,6 @@ use lib.ListN.{length, getD, drop, length-drop}
 use lib.Seq.{drop-cons, drop-drop, getD-drop}
 use Rattle.ledger.specs.Pairs.{none, pair, endsBy}
 use Rattle.ledger.specs.Ledger.{zeros, rule, pairsOf, follows}
-use Rattle.ledger.specs.Claim.{sharesIn}
 
 pub two-of : (l : List ℕ) (i : ℕ) → i + 1 < length l → drop i l ≡ getD l i 0 ∷ getD l (i + 1) 0 ∷ drop (i + 2) l
 two-of l i h =
@@ -100,13 +99,3 @@ sound-over lo f l i h g = rw (pairs-over l i g) (go (drop i l) (length-drop i l)
     go [] k = sym (eq-eqb i (length l) (omega arith))
     go (a ∷ []) k = sym (ne-eqb i (length l) (omega arith))
     go (a ∷ b ∷ r) k = absurd (omega arith)
-
--- ---- sharing
-
-pub shares-step : (s e n k : ℕ) (l : List ℕ)
-    → sharesIn s e (suc n) (drop (2 * k) l) ≡ ((ltb s (getD l (2 * k + 1) 0) && ltb (getD l (2 * k) 0) e) || sharesIn s e n (drop (2 * (k + 1)) l))
-unfolding sharesIn
-shares-step s e n k l =
-    let z : 2 * k + 0 ≡ 2 * k = omega arith in
-    let t : 2 * k + 2 ≡ 2 * (k + 1) = omega arith in
-    rw (getD-drop (2 * k) l 1 0, getD-drop (2 * k) l 0 0, z, drop-drop 2 (2 * k) l, t)

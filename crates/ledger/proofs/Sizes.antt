@@ -8,8 +8,7 @@ use borrow.Author.Tests.{le-ltb, le-leb, eq-eqb, eqb-true, ltb-false}
 use lib.Dec.{ltb, eqb}
 use lib.ListN.{length, getD}
 use Rattle.ledger.specs.Pairs.{none, pair, endsBy}
-use Rattle.ledger.specs.Ledger.{entryLimit, lengthWrong, obeys, pairsOf}
-use Rattle.ledger.specs.Claim.{largest}
+use Rattle.ledger.specs.Ledger.{entryLimit, largest, lengthWrong, obeys, pairsOf}
 
 pub length-right : (l : List ℕ) → length l % 2 ≡ 0 → length l ≤ entryLimit → lengthWrong l ≡ false
 unfolding lengthWrong

@@ -8,9 +8,7 @@ use native.Mathlib.Decide.{decLt, decLe}
 use borrow.Author.Tests.{lt-ltb, le-ltb, le-leb, lt-leb, leb-true}
 use lib.Dec.{leb, ltb}
 use lib.ListN.{drop}
-use Rattle.ledger.specs.Pairs.{Pairs, none, pair, size, Ruled, join, shares, endsBy}
-use Rattle.ledger.specs.Ledger.{lent}
-use Rattle.ledger.specs.Claim.{below, upTo, sharesIn}
+use Rattle.ledger.specs.Pairs.{Pairs, none, pair, size, Ruled, join, endsBy, below, upTo}
 use Rattle.ledger.proofs.Joined.{Stands, before, behind, touching, stands, join-before, join-behind, join-touching}
 
 -- ---- parts of pairs
@@ -194,13 +192,6 @@ endAt-unused k none h = refl
 endAt-unused zero (pair a b ps) h = absurd (omega arith)
 endAt-unused (suc k) (pair a b ps) h = endAt-unused k ps (omega arith)
 
--- the pairs that start above the end share nothing
-shares-beyond : (s e lo : ℕ) (ps : Pairs) → Ruled lo ps → e ≤ lo → shares s e ps ≡ false
-unfolding shares
-shares-beyond s e lo none c h = refl
-shares-beyond s e lo (pair a b ps) c h =
-    rw (le-ltb a e (omega (arith, c .0)), and-false (ltb s b), shares-beyond s e (suc b) ps (c .2) (omega (arith, c .0, c .1)))
-
 -- every pair starts by an end that none is above
 pub upTo-all : (f lo : ℕ) (ps : Pairs) → Ruled lo ps → endsBy f ps ≡ true → upTo f ps ≡ size ps
 unfolding size endsBy
@@ -208,33 +199,3 @@ upTo-all f lo none c h = unfold upTo in refl
 upTo-all f lo (pair a b ps) c h =
     let q = and-eq-true-iff (leb b f) (endsBy f ps) .0 h in
     upTo-on f a b ps (omega (arith, leb-true b f (q .0), c .1)) ∙ ap suc (upTo-all f (suc b) ps (c .2) (q .1))
-
-shares-front : (s e r lo : ℕ) (ps : Pairs) → size ps ≤ r → Ruled lo ps → sharesIn s e (upTo e ps) (lent r ps) ≡ shares s e ps
-unfolding sharesIn shares lent size
-shares-front s e r lo none h c = unfold upTo in refl
-shares-front s e zero lo (pair a b ps) h c = absurd (omega arith)
-shares-front s e (suc r) lo (pair a b ps) h c = go (decLe a e) (shares-front s e r (suc b) ps (omega arith) (c .2))
-  where
-    go : Dec (a ≤ e) → sharesIn s e (upTo e ps) (lent r ps) ≡ shares s e ps
-        → sharesIn s e (upTo e (pair a b ps)) (a ∷ b ∷ lent r ps) ≡ ((ltb s b && ltb a e) || shares s e ps)
-    go (yes q) i = rw (upTo-on e a b ps q, i)
-    go (no q) i =
-        rw (upTo-stops e a b ps (omega arith), le-ltb a e (omega arith), and-false (ltb s b), shares-beyond s e (suc b) ps (c .2) (omega (arith, c .1)))
-
-pub shares-spot : (s e r lo : ℕ) (ps : Pairs) → s < e → size ps ≤ r → Ruled lo ps
-    → sharesIn s e (upTo e ps - below s ps) (drop (2 * below s ps) (lent r ps)) ≡ shares s e ps
-unfolding shares lent size
-shares-spot s e r lo none h g c = unfold upTo below sharesIn in refl
-shares-spot s e zero lo (pair a b ps) h g c = absurd (omega arith)
-shares-spot s e (suc r) lo (pair a b ps) h g c = go (decLt b s) (shares-spot s e r (suc b) ps h (omega arith) (c .2))
-  where
-    go : Dec (b < s) → sharesIn s e (upTo e ps - below s ps) (drop (2 * below s ps) (lent r ps)) ≡ shares s e ps
-        → sharesIn s e (upTo e (pair a b ps) - below s (pair a b ps)) (drop (2 * below s (pair a b ps)) (a ∷ b ∷ lent r ps))
-        ≡ ((ltb s b && ltb a e) || shares s e ps)
-    go (yes q) i =
-        let m : suc (upTo e ps) - suc (below s ps) ≡ upTo e ps - below s ps = omega arith in
-        let d : 2 * suc (below s ps) ≡ suc (suc (2 * below s ps)) = omega arith in
-        rw (below-on s a b ps q, upTo-on e a b ps (omega (arith, c .1)), m, d, i, le-ltb s b (omega arith))
-    go (no q) i =
-        let z : upTo e (pair a b ps) - 0 ≡ upTo e (pair a b ps) = omega arith in
-        rw (below-stops s a b ps (omega arith), z) (shares-front s e (suc r) lo (pair a b ps) g c)

@@ -10,6 +10,10 @@ use Rattle.ledger.specs.Pairs.{Pairs, none, pair}
 abbrev pub entryLimit : ℕ
 entryLimit = 8192
 
+-- the largest number that an entry can be
+abbrev pub largest : ℕ
+largest = 18446744073709551615
+
 -- 53: an odd number of entries, or too many
 unfoldable pub lengthWrong : List ℕ → Bool
 lengthWrong ledger = not (eqb (length ledger % 2) 0) || ltb entryLimit (length ledger)

@@ -53,3 +53,13 @@ inside s e (pair a b ps) = (leb a s && leb e b) || inside s e ps
 unfoldable pub endsBy : ℕ → Pairs → Bool
 endsBy f none = true
 endsBy f (pair a b ps) = leb b f && endsBy f ps
+
+-- the number of pairs, from the first on, that end below s
+unfoldable pub below : ℕ → Pairs → ℕ
+below s none = 0
+below s (pair a b ps) = cond (ltb b s) (suc (below s ps)) 0
+
+-- the number of pairs, from the first on, that start at e or before
+unfoldable pub upTo : ℕ → Pairs → ℕ
+upTo e none = 0
+upTo e (pair a b ps) = cond (leb a e) (suc (upTo e ps)) 0

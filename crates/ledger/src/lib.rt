@@ -1,5 +1,3 @@
-// The ledger: which bytes of the file are claimed. Its rule, claims and totals.
+// The ledger: which bytes of the file are claimed. Its rule and totals, and what reading and writing one answers.
 pub mod answer;
-pub mod claim;
 pub mod rule;
-mod shift;

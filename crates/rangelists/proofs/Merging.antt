@@ -9,11 +9,11 @@ use lib.Dec.{ltb}
 use lib.ListN.{length, take, drop, replicate, length-replicate}
 use lib.Seq.{take-all}
 use Rattle.ledger.specs.Pairs.{Pairs, none, size, join, endsBy}
-use Rattle.ledger.specs.Ledger.{obeys, pairsOf, lent, roomOf}
-use Rattle.ledger.specs.Claim.{largest, joinsIn, joinedIn}
+use Rattle.ledger.specs.Ledger.{largest, obeys, pairsOf, lent, roomOf}
+use Rattle.claims.specs.Claim.{joinsIn, joinedIn}
 use Rattle.ledger.proofs.Joined.{join-ruled}
 use Rattle.ledger.proofs.Lents.{pairsOf-lent, rule-lent, rule-ruled, lent-pairsOf}
-use Rattle.ledger.proofs.Claims.{joins-is, joined-is}
+use Rattle.claims.proofs.Claims.{joins-is, joined-is}
 use Rattle.rangelists.specs.RangeText.{commaRun, parts, rangesOf, rangeOf, Merged, merged, trouble, added, mergedFrom, Says}
 use Rattle.rangelists.specs.declared.ranges.Range.{Range}
 use Rattle.rangelists.specs.declared.ranges.Range.the-variants.{Places, Malformed}

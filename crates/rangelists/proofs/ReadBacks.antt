@@ -13,8 +13,7 @@ use lib.Seq.{take-append-seam, getD-append-seam, drop-append-add}
 use Rattle.octets.specs.Decimal.{isDigit, digitRun, digitsOnly, numberOf, width, decimal}
 use Rattle.octets.proofs.Decimals.{width-small, width-step, digitsOnly-inDigits, decimal-reads-back, digit-bounds, length-decimal, width-20}
 use Rattle.ledger.specs.Pairs.{Pairs, none, pair, size, Ruled, join, endsBy}
-use Rattle.ledger.specs.Ledger.{entryLimit, obeys, pairsOf, roomOf}
-use Rattle.ledger.specs.Claim.{largest}
+use Rattle.ledger.specs.Ledger.{entryLimit, largest, obeys, pairsOf, roomOf}
 use Rattle.ledger.proofs.Lents.{rule-ruled, lent-pairsOf, size-pairsOf}
 use Rattle.ledger.proofs.Sizes.{length-right}
 use Rattle.rangelists.specs.RangeText.{endLimit, bound, rangeOf, parts, commaRun, merged, added, mergedFrom, rangesOf, readRanges, rangesLeft, rangeText, rangesText}

@@ -5,8 +5,7 @@ use mathlib.Core.Bool.{true}
 use mathlib.Core.List.{List}
 use lib.ListN.{length}
 use Rattle.ledger.specs.Pairs.{Pairs, size, holds, Ruled, endsBy}
-use Rattle.ledger.specs.Ledger.{entryLimit, obeys, pairsOf}
-use Rattle.ledger.specs.Claim.{largest}
+use Rattle.ledger.specs.Ledger.{entryLimit, largest, obeys, pairsOf}
 use Rattle.rangelists.specs.RangeText.{parts, merged, rangesOf, namedBy, readRanges, rangesLeft, rangesText}
 use Rattle.ledger.specs.declared.answer.Loaded.the-variants.{Done}
 

@@ -1,7 +1,7 @@
 // Restart range lists, as text.
+use claims::claim;
 use ledger::answer::Loaded;
 use ledger::answer::Written;
-use ledger::claim;
 use ledger::rule;
 use octets::decimal;
 use octets::decimal::Number;
@@ -10,8 +10,7 @@ ghost use mathlib.Core.Path.{_≡_};
 ghost use mathlib.Core.Bool.{true};
 ghost use Prim.Native.Nat.{_+_, _%_, _≤_, _<_};
 ghost use lib.ListN.{length};
-ghost use Rattle.ledger.specs.Ledger.{entryLimit, obeys, pairsOf, roomOf};
-ghost use Rattle.ledger.specs.Claim.{largest};
+ghost use Rattle.ledger.specs.Ledger.{entryLimit, largest, obeys, pairsOf, roomOf};
 ghost use Rattle.rangelists.specs.RangeText.{boundOf, rangeOf, commaRun, added, mergedFrom, Says, merged, parts, readRanges, rangesLeft, comma, rangeText, rangesText, putAt, writeRanges, rangesWritten};
 
 // What the text between two commas says: the places from start up to end, end not counted, or nothing that is well formed.

@@ -6,12 +6,12 @@ use mathlib.Core.List.{List}
 use borrow.Author.Tests.{lt-ltb, ltb-false}
 use lib.Dec.{ltb}
 use lib.ListN.{length}
-use Rattle.ledger.specs.declared.claim.Room.{Room}
-use Rattle.ledger.specs.declared.claim.Room.the-variants.{Shares, Full, At}
+use Rattle.claims.specs.declared.claim.Room.{Room}
+use Rattle.claims.specs.declared.claim.Room.the-variants.{Shares, Full, At}
 use Rattle.ledger.specs.Pairs.{size, join, shares, endsBy}
-use Rattle.ledger.specs.Ledger.{obeys, pairsOf, lent}
-use Rattle.ledger.specs.Claim.{spotOf, judged, judgedIn, largest, putOf}
-use Rattle.ledger.proofs.Claims.{judged-is, put-is}
+use Rattle.ledger.specs.Ledger.{largest, obeys, pairsOf, lent}
+use Rattle.claims.specs.Claim.{spotOf, judged, judgedIn, putOf}
+use Rattle.claims.proofs.Claims.{judged-is, put-is}
 use Rattle.transfer.specs.declared.state.Transfer.{Transfer}
 use Rattle.transfer.specs.Transfer.{World, world}
 use Rattle.transfer.specs.Header.{claimFault}

@@ -11,8 +11,7 @@ use lib.Seq.{drop-drop, take-at, drop-at, length-take-le}
 use Rattle.octets.specs.Digits.{Below, fromLittle, toLittle}
 use Rattle.octets.proofs.Digits.{length-toLittle, below-take, below-drop, little-reads-back, little-writes-back}
 use Rattle.ledger.specs.Pairs.{Pairs, none, pair, size, Ruled, endsBy}
-use Rattle.ledger.specs.Ledger.{follows, pairsOf}
-use Rattle.ledger.specs.Claim.{largest}
+use Rattle.ledger.specs.Ledger.{largest, follows, pairsOf}
 use Rattle.ledger.proofs.Opened.{lowest, lowest-follows}
 use Rattle.ledger.proofs.Flats.{flat}
 use Rattle.savedledgers.specs.Numbers.{numbersIn, numberBytes}

@@ -8,8 +8,7 @@ use lib.ListN.{length}
 use Rattle.octets.specs.Digits.{Below, toLittle}
 use Rattle.octets.proofs.Digits.{below-drop}
 use Rattle.ledger.specs.Pairs.{Pairs, size, Ruled, endsBy}
-use Rattle.ledger.specs.Ledger.{lengthWrong, roomOf, obeys, pairsOf, lent}
-use Rattle.ledger.specs.Claim.{largest}
+use Rattle.ledger.specs.Ledger.{largest, lengthWrong, roomOf, obeys, pairsOf, lent}
 use Rattle.ledger.proofs.Lents.{length-lent, pairsOf-lent, rule-lent, rule-ruled, lent-pairsOf, size-pairsOf}
 use Rattle.ledger.proofs.Sizes.{length-right, length-fits}
 use Rattle.savedledgers.specs.Saved.{kindOne, bytesOf, framed, bodyOf, frameNumber, savedPairs, savedNumber, savedLeft, savedOf, inOrder}

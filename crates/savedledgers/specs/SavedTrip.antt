@@ -6,8 +6,7 @@ use mathlib.Core.List.{List, [], _∷_, _++_}
 use lib.ListN.{length, drop}
 use Rattle.octets.specs.Digits.{Below}
 use Rattle.ledger.specs.Pairs.{Pairs, none, pair, size, endsBy}
-use Rattle.ledger.specs.Ledger.{lengthWrong, roomOf, obeys, pairsOf, lent}
-use Rattle.ledger.specs.Claim.{largest}
+use Rattle.ledger.specs.Ledger.{largest, lengthWrong, roomOf, obeys, pairsOf, lent}
 use Rattle.savedledgers.specs.Saved.{savedNumber, readSaved, savedLeft, savedOf, writeSaved, savedWritten}
 use Rattle.ledger.specs.declared.answer.Loaded.the-variants.{Done}
 use Rattle.ledger.specs.declared.answer.Written.the-variants.{Bytes}

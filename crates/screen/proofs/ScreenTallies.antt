@@ -6,7 +6,7 @@ use mathlib.Core.List.{List}
 use native.Mathlib.Omega.{arith}
 use lib.ListN.{length}
 use Rattle.ledger.specs.Pairs.{Pairs}
-use Rattle.ledger.specs.Claim.{largest}
+use Rattle.ledger.specs.Ledger.{largest}
 use Rattle.transfer.specs.Transfer.{World, verdictOf, storedOf}
 use Rattle.transfer.specs.Fit.{fitsLedger}
 use Rattle.transfer.specs.Calls.{Call, after}

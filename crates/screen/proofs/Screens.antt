@@ -10,8 +10,7 @@ use lib.Dec.{leb, ltb}
 use lib.ListN.{length, drop, replicate}
 use lib.Seq.{sets, sets-eq}
 use Rattle.ledger.specs.Pairs.{Pairs, none, pair, total, Ruled, endsBy}
-use Rattle.ledger.specs.Ledger.{pairsOf}
-use Rattle.ledger.specs.Claim.{largest}
+use Rattle.ledger.specs.Ledger.{largest, pairsOf}
 use Rattle.transfer.specs.declared.state.Transfer.{Transfer}
 use Rattle.transfer.specs.Transfer.{endedOf, world, verdictOf, storedOf}
 use Rattle.transfer.specs.Fit.{fitsLedger}

@@ -3,7 +3,7 @@ use Prim.Native.Nat.{_+_, _-_, _/_, _≤_}
 use mathlib.Core.Path.{sym, _∙_}
 use native.Mathlib.Omega.{arith}
 use Rattle.ledger.specs.Ledger.{roomOf, pairsOf}
-use Rattle.ledger.specs.Claim.{upTo}
+use Rattle.ledger.specs.Pairs.{upTo}
 use Rattle.checks.proofs.Halves.{test-on, test-off, in-room}
 use Rattle.checks.proofs.rest.started.Statement.{statement}
 use Rattle.checks.proofs.rest.started.Tie as tie

@@ -1,0 +1,5 @@
+mod Shifted
+mod Sharing
+mod Spliced
+pub mod Claims
+pub mod ProvedSets

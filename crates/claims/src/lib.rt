@@ -1,0 +1,3 @@
+// Claiming ranges in a ledger.
+pub mod claim;
+mod shift;
