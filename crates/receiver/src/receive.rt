@@ -87,7 +87,7 @@ impl Receiver {
     ) -> Received
         ensures { λ r. ⌜ ((answerOf (r .answer), world (r .receiver .transfer) (now (file .exit)) (now (ledger .exit))) ≡ receiveOf (world (self .transfer) (now (file .entry)) (now (ledger .entry))) channel (now (piece .entry))) × (verdictIs (r .verdict) ≡ verdictOf (world (r .receiver .transfer) (now (file .exit)) (now (ledger .exit)))) ⌝ }
     {
-        let t = self.transfer;
+        let mut t = self.transfer;
         let found = fit::whole(t, file.len(), ledger);
         let c = place(channel);
         let k = t.channels[c];
@@ -105,19 +105,18 @@ impl Receiver {
         let r = step::take(x, c, o, piece, file, ledger);
         let y = r.live;
         let shown = verdict::of(y.fault, y.count, o.ended, y.state);
-        let mut after = t;
-        live::put_bytes(&mut after.heads, c, y);
-        after.channels[c] = Channel {
+        live::put_bytes(&mut t.heads, c, y);
+        t.channels[c] = Channel {
             state: y.state,
             held: y.held,
             next: y.next,
             left: y.left,
         };
-        after.count = y.count;
-        after.fault = y.fault;
-        after.on = y.on;
+        t.count = y.count;
+        t.fault = y.fault;
+        t.on = y.on;
         Received {
-            receiver: Receiver { transfer: after },
+            receiver: Receiver { transfer: t },
             verdict: shown,
             answer: Answer::Took(r.taken),
         }

@@ -120,11 +120,11 @@ of-requires-2 c κs = search needs
 put-bytes-requires : tie.Need-put-bytes-requires
 put-bytes-requires c κs = chosen-few (taken c)
 
-mul-t19 : tie.Need-mul-t19
-mul-t19 c = omega (arith, chosen-few (taken (c .before)))
+mul-t18 : tie.Need-mul-t18
+mul-t18 c = omega (arith, chosen-few (taken (c .before)))
 
-element-set-from-after : tie.Need-element-set-from-after
-element-set-from-after c = chosen-few (taken (c .before))
+element-set-from-t : tie.Need-element-set-from-t
+element-set-from-t c = chosen-few (taken (c .before))
 
 same-length-2 : tie.Need-same-length-2
 same-length-2 c = search needs
@@ -166,8 +166,8 @@ receive-spec =
     take-requires
     of-requires-2
     put-bytes-requires
-    mul-t19
-    element-set-from-after
+    mul-t18
+    element-set-from-t
     same-length-2
     same-length-3
     returns-2)
