@@ -10,6 +10,7 @@ pub mod Spots
 pub mod Flats
 mod Spliced
 pub mod Claims
+pub mod Zeros
 pub mod Rules
 pub mod Meanings
 pub mod ProvedSets
