@@ -1,16 +1,34 @@
--- Numbers that are all 0: so is one OR over them, and no other is.
+-- Numbers that are all 0: in every part, and in one OR over them.
 use Prim.Native.Nat.{ℕ, zero, suc, _+_, _≤_, _<_}
-use mathlib.Core.Path.{_≡_, sym, ap, _∙_}
-use mathlib.Core.Bool.{Bool, _&&_, and-true, and-assoc}
-use mathlib.Core.List.{List}
+use mathlib.Core.Path.{_≡_, refl, sym, ap, _∙_}
+use mathlib.Core.Bool.{Bool, true, _&&_, and-true, and-assoc, and-eq-true-iff}
+use mathlib.Core.List.{List, [], _∷_}
 use native.Mathlib.Omega.{arith}
 use native.Mathlib.Numerals.{add-one}
 use borrow.Author.Tests.{ne-eqb}
 use lib.Bits.{bitOr, or-zero-l, or-add-and, and-le-r}
 use lib.Dec.{eqb}
-use lib.ListN.{length, getD, drop, drop-of-length-le}
+use lib.ListN.{length, getD, take, drop, drop-of-length-le}
 use lib.Seq.{drop-cons}
 use Rattle.ledger.specs.Ledger.{zeros}
+
+-- ---- a part
+
+pub zeros-take : (n : ℕ) (l : List ℕ) → zeros l ≡ true → zeros (take n l) ≡ true
+unfolding zeros
+zeros-take zero l h = refl
+zeros-take (suc n) [] h = refl
+zeros-take (suc n) (x ∷ xs) h =
+    let e = and-eq-true-iff (eqb x 0) (zeros xs) .0 h in
+    rw (e .0, zeros-take n xs (e .1))
+
+pub zeros-drop : (n : ℕ) (l : List ℕ) → zeros l ≡ true → zeros (drop n l) ≡ true
+unfolding zeros
+zeros-drop zero l h = h
+zeros-drop (suc n) [] h = refl
+zeros-drop (suc n) (x ∷ xs) h = zeros-drop n xs (and-eq-true-iff (eqb x 0) (zeros xs) .0 h .1)
+
+-- ---- one OR
 
 or-zero : (a b : ℕ) → eqb (bitOr a b) 0 ≡ (eqb a 0 && eqb b 0)
 or-zero zero b = ap (λ k. eqb k 0) (or-zero-l b)
