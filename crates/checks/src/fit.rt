@@ -27,30 +27,38 @@ pub const HELD_LIMIT: usize = 16;
 
 // Whether the held bytes from so many on are all 0. It reads them all, so that the compiler can make vector code of it.
 fn zero_from(held: &[u8], from: usize) -> bool
-    requires { ⌜ from ≤ length (now held) ⌝ }
     ensures { λ r. ⌜ r ≡ zeros (drop from (now (held .entry))) ⌝ }
 {
-    let mut zero = true;
+    let mut any: u8 = 0;
     let mut i = from;
     while i < held.len() {
-        if held[i] != 0 {
-            zero = false;
-        }
+        any = any | held[i];
         i += 1;
     }
-    zero
+    any == 0
+}
+
+// The same, with none read where clean says that all are known to be 0.
+fn zero_past(held: &[u8], from: usize, clean: bool) -> bool
+    requires { ⌜ (clean ≡ true → zeros (now held) ≡ true) ⌝ }
+    ensures { λ r. ⌜ r ≡ zeros (drop from (now (held .entry))) ⌝ }
+{
+    if clean {
+        return true;
+    }
+    zero_from(held, from)
 }
 
 // A channel in a header.
-fn held_fits(k: Channel, held: &[u8]) -> bool
-    requires { ⌜ length (now held) ≡ 16 ⌝ }
+fn held_fits(k: Channel, held: &[u8], clean: bool) -> bool
+    requires { ⌜ (clean ≡ true → zeros (now held) ≡ true) ⌝ }
     ensures { λ r. ⌜ r ≡ heldFits k (now (held .entry)) ⌝ }
 {
     let n = k.held as usize;
     if HELD_LIMIT < n {
         return false;
     }
-    if !zero_from(held, n) {
+    if !zero_past(held, n, clean) {
         return false;
     }
     if k.next != 0 {
@@ -60,25 +68,25 @@ fn held_fits(k: Channel, held: &[u8]) -> bool
 }
 
 // A channel that is unused or has ended: as in a header of which no byte has come.
-fn idle(k: Channel, held: &[u8]) -> bool
-    requires { ⌜ length (now held) ≡ 16 ⌝ }
+fn idle(k: Channel, held: &[u8], clean: bool) -> bool
+    requires { ⌜ (clean ≡ true → zeros (now held) ≡ true) ⌝ }
     ensures { λ r. ⌜ r ≡ idle k (now (held .entry)) ⌝ }
 {
     if k.held != 0 {
         return false;
     }
-    held_fits(k, held)
+    held_fits(k, held, clean)
 }
 
 // A channel in a payload.
-fn rest_fits(k: Channel, held: &[u8], ledger: &[u64]) -> bool
-    requires { ⌜ obeys (now ledger) ≡ true ⌝ }
+fn rest_fits(k: Channel, held: &[u8], clean: bool, ledger: &[u64]) -> bool
+    requires { ⌜ (clean ≡ true → zeros (now held) ≡ true) × (obeys (now ledger) ≡ true) ⌝ }
     ensures { λ r. ⌜ r ≡ restFits (pairsOf (now (ledger .entry))) k (now (held .entry)) ⌝ }
 {
     if k.held != 0 {
         return false;
     }
-    if !zero_from(held, 0) {
+    if !zero_past(held, 0, clean) {
         return false;
     }
     if k.left == 0 {
@@ -87,26 +95,26 @@ fn rest_fits(k: Channel, held: &[u8], ledger: &[u64]) -> bool
     rest::claimed(ledger, k.next, k.left)
 }
 
-fn channel_fits(k: Channel, held: &[u8], ledger: &[u64]) -> bool
-    requires { ⌜ (length (now held) ≡ 16) × (obeys (now ledger) ≡ true) ⌝ }
+fn channel_fits(k: Channel, held: &[u8], clean: bool, ledger: &[u64]) -> bool
+    requires { ⌜ (clean ≡ true → zeros (now held) ≡ true) × (obeys (now ledger) ≡ true) ⌝ }
     ensures { λ r. ⌜ r ≡ channelFits (pairsOf (now (ledger .entry))) (k .state) k (now (held .entry)) ⌝ }
 {
     let state = k.state;
     match state {
-        0 | 4 => idle(k, held),
-        1 => held_fits(k, held),
-        2 | 3 => rest_fits(k, held, ledger),
+        0 | 4 => idle(k, held, clean),
+        1 => held_fits(k, held, clean),
+        2 | 3 => rest_fits(k, held, clean, ledger),
         _ => false,
     }
 }
 
 // The same of the channel c, with the held bytes of all channels.
-fn channel_fits_at(k: Channel, heads: &[u8], c: usize, ledger: &[u64]) -> bool
-    requires { ⌜ (c < 64) × (length (now heads) ≡ 1024) × (obeys (now ledger) ≡ true) ⌝ }
+fn channel_fits_at(k: Channel, heads: &[u8], clean: bool, c: usize, ledger: &[u64]) -> bool
+    requires { ⌜ (c < 64) × (length (now heads) ≡ 1024) × (clean ≡ true → zeros (now heads) ≡ true) × (obeys (now ledger) ≡ true) ⌝ }
     ensures { λ r. ⌜ r ≡ channelFits (pairsOf (now (ledger .entry))) (k .state) k (take 16 (drop (16 * c) (now (heads .entry)))) ⌝ }
 {
     let at = HELD_LIMIT * c;
-    channel_fits(k, &heads[at..at + HELD_LIMIT], ledger)
+    channel_fits(k, &heads[at..at + HELD_LIMIT], clean, ledger)
 }
 
 // ---- no two rests share a byte
@@ -222,11 +230,13 @@ fn unfit() -> Survey
     }
 }
 
-// Each channel is read once. The next place and the bytes left of a used one are stored at n, which moves on only where bytes are left.
+// Each channel is read once; the held bytes all at one go, and channel by channel only where one of them is not 0.
+// The next place and the bytes left of a used channel are stored at n, which moves on only where bytes are left.
 fn channels_fit(t: Transfer, ledger: &[u64]) -> Survey
     requires { ⌜ obeys (now ledger) ≡ true ⌝ }
     ensures { λ r. ⌜ r ≡ surveyWhere (channelsFit (pairsOf (now (ledger .entry))) (t .channels) (t .heads) && restsApart (t .channels)) t ⌝ }
 {
+    let clean = zero_from(&t.heads, 0);
     let mut next = [0u64; 64];
     let mut left = [0u64; 64];
     let mut n = 0;
@@ -235,7 +245,7 @@ fn channels_fit(t: Transfer, ledger: &[u64]) -> Survey
     let mut c = 0;
     while c < count::CHANNELS {
         let k = t.channels[c];
-        if !channel_fits_at(k, &t.heads, c, ledger) {
+        if !channel_fits_at(k, &t.heads, clean, c, ledger) {
             return unfit();
         }
         if 0 < k.state {

@@ -7,6 +7,7 @@ pub mod Sizes
 pub mod Opened
 pub mod Spots
 pub mod Flats
+pub mod Zeros
 pub mod Rules
 pub mod Meanings
 pub mod Indexed

@@ -2,7 +2,8 @@
 use Prim.Native.Nat.{_+_, _*_, _-_}
 use mathlib.Core.Path.{_≡_, _∙_}
 use native.Mathlib.Omega.{arith}
-use lib.ListN.{length-take, length-drop}
+use lib.ListN.{drop}
+use Rattle.ledger.proofs.Zeros.{zeros-take, zeros-drop}
 use Rattle.transfer.specs.Channel.{heldLimit}
 use Rattle.checks.proofs.fit.channel_fits_at.Statement.{statement}
 use Rattle.checks.proofs.fit.channel_fits_at.Tie as tie
@@ -23,7 +24,11 @@ part-channel-fits-end : tie.Need-part-channel-fits-end
 part-channel-fits-end c = omega arith
 
 channel-fits-requires : tie.Need-channel-fits-requires
-channel-fits-requires c κs = let x = c .before .before .before in (simp (length-take, length-drop) (omega arith), x .pre .2)
+channel-fits-requires c κs =
+    let x = c .before .before .before in
+    let at = heldLimit * x .args .c in
+    let heads = x .args .heads .now in
+    (λ e. zeros-take (at + heldLimit - at) (drop at heads) (zeros-drop at heads (x .pre .2 e)), x .pre .3)
 
 returns : tie.Need-returns
 returns c =

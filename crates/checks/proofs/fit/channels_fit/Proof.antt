@@ -19,15 +19,21 @@ use Rattle.checks.proofs.fit.channels_fit.Statement.{statement}
 use Rattle.checks.proofs.fit.channels_fit.Tie as tie
 
 abbrev Inv-loop : tie.InvT-loop
-Inv-loop ledger t next₀ left₀ n₀ used₀ ended₀ c₀ next left n used ended c =
+Inv-loop ledger t clean next₀ left₀ n₀ used₀ ended₀ c₀ next left n used ended c =
     (Passed (pairsOf ledger) (t .channels) (t .heads) next left n used ended c) × (length (t .channels) ≡ channelCount) × (length (t .heads) ≡ 1024)
 
 abbrev μ-loop : tie.MeasureT-loop
-μ-loop ledger t next₀ left₀ n₀ used₀ ended₀ c₀ next left n used ended c = 64 - c
+μ-loop ledger t clean next₀ left₀ n₀ used₀ ended₀ c₀ next left n used ended c = 64 - c
+
+abbrev start : tie.After-zero-from Inv-loop μ-loop → tie.Start Inv-loop μ-loop
+start c = c .before .before .before .before .before
+
+zero-from-requires : tie.Need-zero-from-requires Inv-loop μ-loop
+zero-from-requires c κs = search needs
 
 loop-holds : tie.Need-loop-holds Inv-loop μ-loop
 loop-holds c =
-    let x = c .before .args in
+    let x = start c .args in
     let h : length (x .t1 .channels) ≡ channelCount = search (length-mapped, needs) in
     let g : length (x .t1 .heads) ≡ 1024 = search needs in
     (passed-none (pairsOf (x .ledger .now)) (x .t1 .channels) (x .t1 .heads) (replicate 64 0) (replicate 64 0) refl refl, h, g)
@@ -41,11 +47,11 @@ element-copy-out-k c = omega arith
 channel-fits-at-requires : tie.Need-channel-fits-at-requires Inv-loop μ-loop
 channel-fits-at-requires c κs =
     let l = c .before .before .before .before .before in
-    (omega arith, l .loop .inv .2, l .before .before .pre)
+    (omega arith, l .loop .inv .2, λ e. sym (l .before .zero-from .ensures) ∙ e, start (l .before) .pre)
 
 -- the answer at the channel at hand
 tested : (c : tie.After-channel-fits-at Inv-loop μ-loop) (b : Bool) → c .channel-fits-at .result ≡ b → let l = c .before .before .before .before .before .before in
-    let x = l .before .before .args in
+    let x = start (l .before) .args in
     let k = getD (x .t1 .channels) (l .loop .c) blank in
     channelFits (pairsOf (x .ledger .now)) (k .state) k (bytesAt (x .t1 .heads) (l .loop .c)) ≡ b
 tested c b e = sym (c .channel-fits-at .ensures) ∙ e
@@ -59,7 +65,7 @@ returns c =
     let e = f .before in
     let l = e .before .before .before .before .before .before in
     let s = l .loop in
-    let x = l .before .before .args in
+    let x = start (l .before) .args in
     let q = tested e false (not-true (e .channel-fits-at .result) (f .if1 .taken)) in
     c .unfit .ensures ∙ rw (fails (pairsOf (x .ledger .now)) (x .t1 .channels) (x .t1 .heads) (s .c) (omega (arith, s .inv .1)) (s .next) (s .left) (s .n) (s .used) (s .ended) (s .inv .0) q)
 
@@ -90,7 +96,7 @@ one-if-ended-requires c κs = search needs
 add-ended : tie.Need-add-ended Inv-loop μ-loop
 add-ended c =
     let l = c .before .before .before .before .before .before .before .before .before .before .before in
-    omega (arith, c .one-if-ended .ensures, ended-le (getD (l .before .before .args .t1 .channels) (l .loop .c) blank))
+    omega (arith, c .one-if-ended .ensures, ended-le (getD (start (l .before) .args .t1 .channels) (l .loop .c) blank))
 
 add-c : tie.Need-add-c Inv-loop μ-loop
 add-c c = omega arith
@@ -105,8 +111,8 @@ loop-again c =
     let l = e .before .before .before .before .before .before in
     let s = l .loop in
     let v = s .inv in
-    let t = l .before .before .args .t1 in
-    let ps = pairsOf (l .before .before .args .ledger .now) in
+    let t = start (l .before) .args .t1 in
+    let ps = pairsOf (start (l .before) .args .ledger .now) in
     let h : s .c < length (t .channels) = omega (arith, v .1) in
     let g : s .c < channelCount = omega arith in
     let q = tested e true (not-false (e .channel-fits-at .result) (f .if1 .left)) in (
@@ -140,22 +146,22 @@ all-apart-requires c κs =
     length-take-le (l .loop .n) (l .loop .left) (room l .1) ∙ sym (length-take-le (l .loop .n) (l .loop .next) (room l .0))
 
 all : (c : tie.After-loop Inv-loop μ-loop) → let l = c .before in
-    let x = l .before .before .args in
+    let x = start (l .before) .args in
     let s = l .loop in
     All (pairsOf (x .ledger .now)) (x .t1) (s .next) (s .left) (s .n) (s .used) (s .ended)
 all c =
     let l = c .before in
-    let x = l .before .before .args in
+    let x = start (l .before) .args in
     let s = l .loop in
     passed-all (pairsOf (x .ledger .now)) (x .t1) (s .next) (s .left) (s .n) (s .used) (s .ended) (s .c) (s .inv .0) (omega (arith, s .inv .1, c .loop-test .left))
 
 -- all channels fit, so whether the rests share a byte decides
-apart-decides : (c : tie.After-all-apart Inv-loop μ-loop) → let x = c .before .before .before .before .before .before .args in
+apart-decides : (c : tie.After-all-apart Inv-loop μ-loop) → let x = start (c .before .before .before .before .before) .args in
     (channelsFit (pairsOf (x .ledger .now)) (x .t1 .channels) (x .t1 .heads) && restsApart (x .t1 .channels)) ≡ c .all-apart .result
 apart-decides c =
     let l = c .before .before .before in
     let a = all l in
-    rw (a .fit, packed-apart (l .before .before .before .args .t1 .channels), ← a .nexts, ← a .lefts) (sym (c .all-apart .ensures))
+    rw (a .fit, packed-apart (start (l .before .before) .args .t1 .channels), ← a .nexts, ← a .lefts) (sym (c .all-apart .ensures))
 
 unfit-requires-2 : tie.Need-unfit-requires-2 Inv-loop μ-loop
 unfit-requires-2 c κs = search needs
@@ -177,6 +183,7 @@ channels-fit-spec =
     (tie.spec
     Inv-loop
     μ-loop
+    zero-from-requires
     loop-holds
     mul-k
     element-copy-out-k

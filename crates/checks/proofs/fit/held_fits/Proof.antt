@@ -16,8 +16,8 @@ returns : tie.Need-returns
 unfolding heldFits
 returns c = rw (lt-leb (c .before .before .before .args .k .held) heldLimit (c .if1 .taken))
 
-zero-from-requires : tie.Need-zero-from-requires
-zero-from-requires c κs = search needs
+zero-past-requires : tie.Need-zero-past-requires
+zero-past-requires c κs = search needs
 
 returns-2 : tie.Need-returns-2
 unfolding heldFits
@@ -25,7 +25,7 @@ returns-2 c =
     let z = c .before in
     let e = z .before in
     let k = e .before .before .before .args .k in
-    rw (le-leb (k .held) heldLimit (e .if1 .left), sym (z .zero-from .ensures) ∙ not-true (z .zero-from .result) (c .if2 .taken))
+    rw (le-leb (k .held) heldLimit (e .if1 .left), sym (z .zero-past .ensures) ∙ not-true (z .zero-past .result) (c .if2 .taken))
 
 -- the bytes fit, so the numbers of a payload decide
 numbers-decide : (c : tie.Else2) → let x = c .before .before .before .before .before .args in
@@ -35,7 +35,7 @@ numbers-decide c =
     let z = c .before in
     let e = z .before in
     let k = e .before .before .before .args .k in
-    rw (le-leb (k .held) heldLimit (e .if1 .left), sym (z .zero-from .ensures) ∙ not-false (z .zero-from .result) (c .if2 .left))
+    rw (le-leb (k .held) heldLimit (e .if1 .left), sym (z .zero-past .ensures) ∙ not-false (z .zero-past .result) (c .if2 .left))
 
 returns-3 : tie.Need-returns-3
 returns-3 c =
@@ -50,4 +50,4 @@ returns-4 c =
 
 pub held-fits-spec : {M : Type 1} → statement M
 held-fits-spec =
-    tie.close (tie.spec cast-n returns zero-from-requires returns-2 returns-3 returns-4)
+    tie.close (tie.spec cast-n returns zero-past-requires returns-2 returns-3 returns-4)

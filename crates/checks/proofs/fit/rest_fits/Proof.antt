@@ -16,8 +16,8 @@ returns : tie.Need-returns
 unfolding restFits
 returns c = rw (ne-eqb (c .before .before .before .before .args .k .held) 0 (c .if1 .taken))
 
-zero-from-requires : tie.Need-zero-from-requires
-zero-from-requires c κs = search needs
+zero-past-requires : tie.Need-zero-past-requires
+zero-past-requires c κs = search needs
 
 returns-2 : tie.Need-returns-2
 unfolding restFits
@@ -25,7 +25,7 @@ returns-2 c =
     let z = c .before in
     let e = z .before in
     let k = e .before .before .before .before .args .k in
-    rw (eq-eqb (k .held) 0 (e .if1 .left), sym (z .zero-from .ensures) ∙ not-true (z .zero-from .result) (c .if2 .taken))
+    rw (eq-eqb (k .held) 0 (e .if1 .left), sym (z .zero-past .ensures) ∙ not-true (z .zero-past .result) (c .if2 .taken))
 
 -- nothing is held, so the numbers of the payload decide
 numbers-decide : (c : tie.Else2) → let x = c .before .before .before .before .before .before .args in
@@ -35,7 +35,7 @@ numbers-decide c =
     let z = c .before in
     let e = z .before in
     let k = e .before .before .before .before .args .k in
-    rw (eq-eqb (k .held) 0 (e .if1 .left), sym (z .zero-from .ensures) ∙ not-false (z .zero-from .result) (c .if2 .left))
+    rw (eq-eqb (k .held) 0 (e .if1 .left), sym (z .zero-past .ensures) ∙ not-false (z .zero-past .result) (c .if2 .left))
 
 returns-3 : tie.Need-returns-3
 returns-3 c =
@@ -52,4 +52,4 @@ returns-4 c =
 
 pub rest-fits-spec : {M : Type 1} → statement M
 rest-fits-spec =
-    tie.close (tie.spec returns zero-from-requires returns-2 returns-3 claimed-requires returns-4)
+    tie.close (tie.spec returns zero-past-requires returns-2 returns-3 claimed-requires returns-4)

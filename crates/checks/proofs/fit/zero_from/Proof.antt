@@ -1,38 +1,26 @@
--- `fit::zero_from`: what is found so far, and the bytes that are left, decide.
-use Prim.Native.Nat.{ℕ, _+_, _-_, _≤_, _<_}
-use mathlib.Core.Path.{_≡_, refl, sym, _∙_}
-use mathlib.Core.Logic.{⊎-elim}
-use mathlib.Core.Bool.{Bool, false, _&&_, and-false, and-true}
-use mathlib.Core.List.{List}
+-- `fit::zero_from`: what is gathered, and the bytes that are left, decide.
+use Prim.Native.Nat.{_-_}
+use mathlib.Core.Path.{_≡_, refl}
+use mathlib.Core.Bool.{_&&_}
 use native.Mathlib.Omega.{arith}
-use native.Mathlib.Numerals.{add-one}
-use borrow.Author.Tests.{eq-eqb, ne-eqb}
-use lib.ListN.{length, getD, drop, drop-of-length-le}
-use lib.Seq.{drop-cons}
+use lib.Dec.{eqb}
+use lib.ListN.{length, drop}
 use Rattle.ledger.specs.Ledger.{zeros}
+use Rattle.ledger.proofs.Zeros.{gathers, gathered}
 use Rattle.checks.proofs.fit.zero_from.Statement.{statement}
 use Rattle.checks.proofs.fit.zero_from.Tie as tie
 
-module _ (s : List ℕ) (i : ℕ) (z w : Bool) (h : i < length s) (v : (z && zeros (drop i s)) ≡ w) where
-  other : (getD s i 0 ≡ 0 → ⊥) → (false && zeros (drop (i + 1) s)) ≡ w
-  unfolding zeros
-  other e = rw (drop-cons s i 0 h, ne-eqb (getD s i 0) 0 e, and-false z) at v
-
-  same : getD s i 0 ≡ 0 → (z && zeros (drop (i + 1) s)) ≡ w
-  unfolding zeros
-  same e = rw (add-one i) (rw (drop-cons s i 0 h, eq-eqb (getD s i 0) 0 e) at v)
-
 abbrev Inv-loop : tie.InvT-loop
-Inv-loop held from zero₀ i₀ zero i = (i ≤ length held) × ((zero && zeros (drop i held)) ≡ zeros (drop from held))
+Inv-loop held from any₀ i₀ any i = (eqb any 0 && zeros (drop i held)) ≡ zeros (drop from held)
 
 abbrev μ-loop : tie.MeasureT-loop
-μ-loop held from zero₀ i₀ zero i = length held - i
+μ-loop held from any₀ i₀ any i = length held - i
 
 loop-holds : tie.Need-loop-holds Inv-loop μ-loop
-loop-holds c = (omega arith, refl)
+loop-holds c = refl
 
-shared-slice-read-if1 : tie.Need-shared-slice-read-if1 Inv-loop μ-loop
-shared-slice-read-if1 c = omega arith
+shared-slice-read-any : tie.Need-shared-slice-read-any Inv-loop μ-loop
+shared-slice-read-any c = omega arith
 
 add-i : tie.Need-add-i Inv-loop μ-loop
 add-i c = omega arith
@@ -42,21 +30,16 @@ loop-less c = omega arith
 
 loop-again : tie.Need-loop-again Inv-loop μ-loop
 loop-again c =
-    let l = c .before .before .before in
+    let l = c .before .before in
     let x = l .before .args in
-    let z = l .loop .zero in
-    let w = zeros (drop (x .from) (x .held .now)) in
-    let v = l .loop .inv .1 in (
-      omega arith,
-      ⊎-elim (λ a. rw (a .1) (other (x .held .now) (l .loop .i) z w (omega arith) v (a .0 .taken))) (λ a. rw (a .1) (same (x .held .now) (l .loop .i) z w (omega arith) v (a .0 .left))) (c .if1 .came),
-    )
+    gathers (x .held .now) (l .loop .i) (l .loop .any) (zeros (drop (x .from) (x .held .now))) (l .loop .inv) (omega arith)
 
 returns : tie.Need-returns Inv-loop μ-loop
-unfolding zeros
 returns c =
     let l = c .before in
-    sym (and-true (l .loop .zero)) ∙ rw (drop-of-length-le (l .before .args .held .now) (c .loop-test .left)) at (l .loop .inv .1)
+    let x = l .before .args in
+    gathered (x .held .now) (l .loop .i) (l .loop .any) (zeros (drop (x .from) (x .held .now))) (l .loop .inv) (c .loop-test .left)
 
 pub zero-from-spec : {M : Type 1} → statement M
 zero-from-spec =
-    tie.close (tie.spec Inv-loop μ-loop loop-holds shared-slice-read-if1 add-i loop-less loop-again returns)
+    tie.close (tie.spec Inv-loop μ-loop loop-holds shared-slice-read-any add-i loop-less loop-again returns)
