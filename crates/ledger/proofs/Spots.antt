@@ -1,13 +1,11 @@
 -- A range joined to pairs, by the spot where it goes: the pairs below it stay, those from `at` up to `past` become one with it, and the rest follows.
-use Prim.Native.Nat.{ℕ, zero, suc, _+_, _*_, _-_, _≤_, _<_, min, max}
+use Prim.Native.Nat.{ℕ, zero, suc, _+_, _-_, _≤_, _<_, min, max}
 use mathlib.Core.Path.{_≡_, refl, sym, ap, _∙_}
-use mathlib.Core.Bool.{true, false, cond, _&&_, _||_, and-false, and-eq-true-iff}
-use mathlib.Core.List.{_∷_}
+use mathlib.Core.Bool.{true, cond, and-eq-true-iff}
 use native.Mathlib.Omega.{arith}
 use native.Mathlib.Decide.{decLt, decLe}
 use borrow.Author.Tests.{lt-ltb, le-ltb, le-leb, lt-leb, leb-true}
 use lib.Dec.{leb, ltb}
-use lib.ListN.{drop}
 use Rattle.ledger.specs.Pairs.{Pairs, none, pair, size, Ruled, join, endsBy, below, upTo}
 use Rattle.ledger.proofs.Joined.{Stands, before, behind, touching, stands, join-before, join-behind, join-touching}
 

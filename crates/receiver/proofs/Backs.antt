@@ -5,13 +5,12 @@ use mathlib.Core.Logic.{inl, inr}
 use mathlib.Core.Bool.{true, false, cond, _&&_}
 use mathlib.Core.List.{List, [], _++_, append-assoc}
 use native.Mathlib.Omega.{arith}
-use borrow.Author.Tests.{ne-eqb, lt-ltb}
+use borrow.Author.Tests.{ne-eqb}
 use lib.Dec.{ltb, eqb}
-use lib.ListN.{length, getD, take, drop, set, replicate, length-append, length-set, length-drop, take-append-drop}
-use lib.Seq.{getD-set-same, set-set, set-getD, take-at, drop-at, take-append-add, take-append-le, drop-append-add, drop-append-le, drop-drop, length-take-le}
-use Rattle.transfer.specs.declared.state.Channel.{Channel}
+use lib.ListN.{length, take, drop, length-append}
+use lib.Seq.{getD-set-same, set-set, take-at, drop-at, take-append-add, take-append-le, drop-append-add, drop-append-le, length-take-le}
 use Rattle.transfer.specs.declared.state.Transfer.{Transfer}
-use Rattle.transfer.specs.Channel.{channelCount, heldLimit, State, header, payload, ended, stateNumber, heldNumber, nextNumber, leftNumber, heldBytes, numbersOf, blank, channelAt, putState, putFault}
+use Rattle.transfer.specs.Channel.{heldLimit, State, header, payload, ended, stateNumber, heldNumber, nextNumber, leftNumber, heldBytes, numbersOf, blank, channelAt, putState, putFault}
 use Rattle.transfer.specs.Transfer.{oneIfEnded, oneIfAlive, endedOf, usedOf, world, guess, result, broken, isFinal, verdictOf}
 use Rattle.transfer.specs.Header.{askedOf}
 use Rattle.receiver.specs.declared.live.Live.{Live}

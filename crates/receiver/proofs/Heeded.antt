@@ -11,8 +11,7 @@ use Rattle.transfer.specs.Header.{endsChannel, payloadLength, Asks, counts, cla
 use Rattle.transfer.specs.Judgement.{Asked, by-descriptor, by-14, by-15, for-count, for-nothing, by-16, for-claim}
 use Rattle.transfer.specs.Receive.{Took, faults, opens, heeds, judges}
 use Rattle.transfer.proofs.Asked.{asked}
-use Rattle.receiver.specs.declared.head.Request.{Request}
-use Rattle.receiver.specs.Leaves.{asksOf, claimsOf}
+use Rattle.receiver.specs.Leaves.{claimsOf}
 
 -- a range that a header asks for is not empty, and is as long as the payload
 module _ (F known used : ℕ) (h : List ℕ) where

@@ -1,11 +1,10 @@
 // A channel's next state: whatever it doesn't use becomes 0.
 use crate::live::Live;
 use crate::live::Others;
+use crate::verdict;
 ghost use mathlib.Core.Path.{_≡_};
-ghost use mathlib.Core.Bool.{_&&_};
 ghost use mathlib.Core.List.{List};
 ghost use Prim.Native.Nat.{ℕ, _<_};
-ghost use lib.Dec.{ltb, eqb};
 ghost use Rattle.transfer.specs.declared.state.Transfer.{Transfer};
 ghost use Rattle.transfer.specs.Transfer.{world};
 ghost use Rattle.transfer.specs.Receive.{opens, ends};
@@ -51,22 +50,12 @@ pub fn fault(x: Live, c: usize, k: u64) -> Live
     }
 }
 
-// Whether as many channels as announced have ended.
-fn all_ended(count: u64, ended: u64) -> bool
-    ensures { λ r. ⌜ r ≡ (ltb 0 count && eqb ended count) ⌝ }
-{
-    if count == 0 {
-        return false;
-    }
-    ended == count
-}
-
 // The channel ends; 20 where as many as announced have ended already.
 fn close(x: Live, c: usize, o: Others) -> Next
     requires { ⌜ x .state < 4 ⌝ }
     ensures { λ r. ⌜ ((t : Transfer) (file ledger : List ℕ) → Around t c o → tookOf (r .on) (world (back t c (r .live)) file ledger) ≡ ends (world (back t c x) file ledger) c) ⌝ }
 {
-    if all_ended(x.count, o.ended) {
+    if verdict::all_ended(x.count, o.ended) {
         return Next {
             live: fault(x, c, 20),
             on: false,

@@ -10,17 +10,24 @@ ghost use lib.Dec.{ltb, eqb};
 ghost use Rattle.transfer.specs.Transfer.{world, guess, result, broken, verdictOf};
 ghost use Rattle.receiver.specs.Answers.{verdictIs};
 
-// Whether there is no fault, and no count or another than of the channels that have ended.
+// Whether a count is known and as many channels have ended.
+pub fn all_ended(count: u64, ended: u64) -> bool
+    ensures { λ r. ⌜ r ≡ (ltb 0 count && eqb ended count) ⌝ }
+{
+    if count == 0 {
+        return false;
+    }
+    ended == count
+}
+
+// Whether the verdict is GUESS.
 pub fn guessed(fault: u64, count: u64, ended: u64) -> bool
     ensures { λ r. ⌜ r ≡ not (ltb 0 fault || (ltb 0 count && eqb ended count)) ⌝ }
 {
     if 0 < fault {
         return false;
     }
-    if count == 0 {
-        return true;
-    }
-    ended != count
+    !all_ended(count, ended)
 }
 
 // How many of the other channels have to end for all that were announced to have ended, one being in that state.

@@ -1,7 +1,6 @@
 -- `part::used`.
 use Prim.Native.Nat.{_≤_}
 use native.Mathlib.Omega.{arith}
-use borrow.Author.Needs.{needs}
 use lib.ListN.{length, length-take}
 use Rattle.probe.proofs.part.used.Statement.{statement}
 use Rattle.probe.proofs.part.used.Tie as tie

@@ -1,6 +1,5 @@
 -- `head::hold`.
-use Prim.Native.Nat.{_*_}
-use mathlib.Core.Path.{_≡_, _∙_}
+use mathlib.Core.Path.{_≡_}
 use native.Mathlib.Omega.{arith}
 use borrow.Author.Needs.{needs}
 use lib.ListN.{length}

@@ -1,10 +1,10 @@
 -- `step::run`: one of four runs, by the channel's state.
-use Prim.Native.Nat.{_<_, _≤_}
-use mathlib.Core.Path.{_≡_, sym, ap, _∙_}
+use Prim.Native.Nat.{_<_}
+use mathlib.Core.Path.{sym, ap, _∙_}
 use mathlib.Core.Logic.{inl, inr}
 use native.Mathlib.Omega.{arith}
 use borrow.Author.Needs.{needs}
-use Rattle.transfer.specs.Channel.{channelAt, putFault}
+use Rattle.transfer.specs.Channel.{putFault}
 use Rattle.transfer.specs.Transfer.{world}
 use Rattle.receiver.specs.Live.{back}
 use Rattle.receiver.proofs.Backs.{back-at, back-len, back-locked}

@@ -1,9 +1,7 @@
 -- `verdict::of`.
 use Prim.Native.Nat.{_+_, _<_}
-use mathlib.Core.Path.{_≡_}
 use mathlib.Core.Bool.{cond}
 use native.Mathlib.Omega.{arith}
-use borrow.Author.Needs.{needs}
 use borrow.Author.Tests.{lt-ltb, le-ltb, eq-eqb, ne-eqb}
 use lib.Dec.{eqb}
 use Rattle.receiver.proofs.verdict.of.Statement.{statement}

@@ -1,10 +1,10 @@
--- `channel::all_ended`.
+-- `verdict::all_ended`.
 use Prim.Native.Nat.{_<_}
 use mathlib.Core.Path.{refl}
 use native.Mathlib.Omega.{arith}
 use borrow.Author.Tests.{lt-ltb}
-use Rattle.receiver.proofs.channel.all_ended.Statement.{statement}
-use Rattle.receiver.proofs.channel.all_ended.Tie as tie
+use Rattle.receiver.proofs.verdict.all_ended.Statement.{statement}
+use Rattle.receiver.proofs.verdict.all_ended.Tie as tie
 
 returns : tie.Need-returns
 returns c = rw (c .if1 .taken)
