@@ -1,4 +1,4 @@
-// A payload's bytes, put at their place.
+// Bytes put at their place: a payload's in the file, a header's among those held.
 ghost use mathlib.Core.Path.{_≡_};
 ghost use mathlib.Core.List.{_++_};
 ghost use Prim.Native.Nat.{_+_, _≤_};
@@ -33,7 +33,7 @@ fn lower(part: &mut [u8], bytes: &[u8])
     }
 }
 
-// The same for no more than SPAN bytes, through an array.
+// The same for no more than SPAN bytes, through an array. Where there is a byte for sure, the compiler leaves out the array's zeros too.
 fn few(part: &mut [u8], bytes: &[u8])
     requires { ⌜ (length (now bytes) ≤ length (now part)) × (length (now bytes) ≤ 16384) ⌝ }
     ensures { λ _. ⌜ now (part .exit) ≡ now (bytes .entry) ++ drop (length (now (bytes .entry))) (now (part .entry)) ⌝ }
