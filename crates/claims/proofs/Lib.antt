@@ -2,4 +2,3 @@ mod Shifted
 mod Sharing
 mod Spliced
 pub mod Claims
-pub mod ProvedSets

@@ -4,4 +4,3 @@ mod Placed
 pub mod RoundTrips
 pub mod Tables
 pub mod Weighed
-pub mod ProvedSets

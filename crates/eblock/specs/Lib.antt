@@ -3,4 +3,3 @@ pub mod Header
 pub mod Table
 pub mod Weights
 pub mod RoundTrip
-pub mod ProvedSet

@@ -7,4 +7,4 @@ pub mod Merging
 mod Unions
 mod ReadBacks
 pub mod RangeListed
-pub mod ProvedSets
+pub mod RangeCases

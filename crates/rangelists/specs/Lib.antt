@@ -1,3 +1,3 @@
 pub mod RangeText
 pub mod RangeLists
-pub mod ProvedSet
+pub mod RangeCases

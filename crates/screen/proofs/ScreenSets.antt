@@ -1,4 +1,4 @@
--- The proved set of the screen line, by computation.
+-- Worked cases of the screen line, by computation.
 use mathlib.Core.Path.{refl}
 use Rattle.octets.specs.Decimal.{widthBy, width, inDigits, decimal}
 use Rattle.octets.specs.Digits.{fromLittle, fromBig, toLittle, toBig}

@@ -1,11 +1,12 @@
--- The proved set of the screen line: document 01's example call by call, its broken line, and one with a payload under way, as one statement over a list of cases.
+-- Worked cases of the screen line: document 01's example call by call, its broken line, and one with a payload under way, as one statement over a list of cases.
 use Prim.Native.Nat.{ℕ, _-_}
 use mathlib.Core.Path.{_≡_}
 use mathlib.Core.List.{List, [], _∷_, _++_}
 use lib.ListN.{length, replicate}
+use Rattle.octets.specs.Cases.{AllHold}
 use Rattle.eblock.specs.Header.{bytesOf}
 use Rattle.transfer.specs.Calls.{Call, receive, begun, after}
-use Rattle.transfer.specs.ProvedSet.{first, second, third}
+use Rattle.transfer.specs.CallCases.{first, second, third}
 use Rattle.screen.specs.declared.line.Line.the-variants.{Bytes, Refused}
 use Rattle.screen.specs.Screen.{lineOf, screenOf, screenLeaves}
 
@@ -27,10 +28,6 @@ Holds k =
     × (screenLeaves (w .t) (w .lent .claimed) (filled 40) ≡ k .line ++ filled (40 - n))
     -- one byte less than it has
     × (screenOf (w .t) (w .lent .claimed) (filled (n - 1)) ≡ Refused 55)
-
-abbrev pub AllHold : List Case → Type 0
-AllHold [] = Unit {0}
-AllHold (k ∷ ks) = Holds k × AllHold ks
 
 -- GUESS ended 0 of ? bytes 4
 abbrev pub firstLine : List ℕ
@@ -64,4 +61,4 @@ cases =
     ∷ []
 
 abbrev pub ScreenSet : Type 0
-ScreenSet = AllHold cases
+ScreenSet = AllHold Holds cases

@@ -1,6 +1,6 @@
 pub mod Lens
 pub mod Pieces
-pub mod ProvedSets
+pub mod CallCases
 pub mod Rowed
 pub mod Claimed
 pub mod Counted

@@ -8,7 +8,7 @@ use Rattle.transfer.specs.EachCall.{EachCall}
 use Rattle.transfer.specs.AfterList.{EveryList}
 use Rattle.transfer.specs.Arrivals.{EveryArrival}
 use Rattle.transfer.specs.Example.{Example}
-use Rattle.transfer.specs.ProvedSet.{ProvedSet}
+use Rattle.transfer.specs.CallCases.{CallCases}
 
 pub record Demand3 : Type 1 where
   -- what start leaves, how a header is judged, how bytes are cut into blocks, and what FIT says
@@ -25,4 +25,4 @@ pub record Demand3 : Type 1 where
   pub every-arrival : EveryArrival
   -- an instance of each half
   pub example : Example
-  pub proved-set : ProvedSet
+  pub cases : CallCases

@@ -5,7 +5,7 @@ use Rattle.ledger.specs.Pairs.{none}
 use Rattle.eblock.specs.Header.{bytesOf}
 use Rattle.transfer.specs.Calls.{Call, begun}
 use Rattle.transfer.specs.Block.{block}
-use Rattle.transfer.specs.ProvedSet.{plai, d123, first, second, third}
+use Rattle.transfer.specs.CallCases.{plai, d123, first, second, third}
 use Rattle.transfer.specs.AfterList.{Begun}
 use Rattle.transfer.specs.Sending.{Life, WellFormed, Arrival}
 use Rattle.transfer.specs.Arrivals.{Arrives}

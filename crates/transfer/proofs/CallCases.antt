@@ -1,4 +1,4 @@
--- The proved set of the receiver, by computation.
+-- Worked cases of lists of calls, by computation.
 use mathlib.Core.Path.{refl}
 use Rattle.octets.specs.Digits.{fromLittle, fromBig, toLittle, toBig}
 use Rattle.eblock.specs.Descriptor.{has, faultOf}
@@ -11,9 +11,9 @@ use Rattle.transfer.specs.Header.{payloadLength, askedOf, claimFault}
 use Rattle.transfer.specs.Fit.{idle, heldFits, restFits, channelFits, channelsFit, apart, apartFrom, restsApart, countFits, faultFits, fitsLedger, fits}
 use Rattle.transfer.specs.Receive.{ends, opens, faults, claimsRange, heeds, judges, heads, stores, byteOn, byteOf, bytesBy, refusalOf, receiveOf}
 use Rattle.transfer.specs.Calls.{callOf, runBy, begun}
-use Rattle.transfer.specs.ProvedSet.{ProvedSet}
+use Rattle.transfer.specs.CallCases.{CallCases}
 
-pub proved-set : ProvedSet
+pub call-cases : CallCases
 unfolding fromLittle fromBig toLittle toBig has faultOf secondOf thirdOf bytesOf size total join shares inside endsBy lengthWrong zeros rule obeys pairsOf lent stateNumber heldNumber nextNumber leftNumber heldBytes numbersOf readState stateAt putState putFault putCount sum endedOf usedOf leftOf isFinal verdictOf storedOf fresh startOf startLeaves payloadLength askedOf claimFault idle heldFits restFits channelFits channelsFit apart apartFrom restsApart countFits faultFits fitsLedger fits ends opens faults claimsRange heeds judges heads stores byteOn byteOf bytesBy refusalOf receiveOf callOf runBy begun
-proved-set =
-    ((refl, refl, refl, refl, refl, refl), ((refl, refl, refl, refl, refl, refl), ((refl, refl, refl, refl, refl, refl), ((refl, refl, refl, refl, refl, refl), ((refl, refl, refl, refl, refl, refl), ((refl, refl, refl, refl, refl, refl), ((refl, refl, refl, refl, refl, refl), ((refl, refl, refl, refl, refl, refl), ((refl, refl, refl, refl, refl, refl), ((refl, refl, refl, refl, refl, refl), ((refl, refl, refl, refl, refl, refl), ((refl, refl, refl, refl, refl, refl), ((refl, refl, refl, refl, refl, refl), ((refl, refl, refl, refl, refl, refl), ((refl, refl, refl, refl, refl, refl), ((refl, refl, refl, refl, refl, refl), ((refl, refl, refl, refl, refl, refl), ((refl, refl, refl, refl, refl, refl), ((refl, refl, refl, refl, refl, refl), ((refl, refl, refl, refl, refl, refl), ((refl, refl, refl, refl, refl, refl), ((refl, refl, refl, refl, refl, refl), ((refl, refl, refl, refl, refl, refl), ((refl, refl, refl, refl, refl, refl), tt))))))))))))))))))))))))
+call-cases =
+    ((refl, refl, refl, refl, refl, refl), ((refl, refl, refl, refl, refl, refl), ((refl, refl, refl, refl, refl, refl), ((refl, refl, refl, refl, refl, refl), ((refl, refl, refl, refl, refl, refl), ((refl, refl, refl, refl, refl, refl), ((refl, refl, refl, refl, refl, refl), ((refl, refl, refl, refl, refl, refl), ((refl, refl, refl, refl, refl, refl), ((refl, refl, refl, refl, refl, refl), ((refl, refl, refl, refl, refl, refl), ((refl, refl, refl, refl, refl, refl), ((refl, refl, refl, refl, refl, refl), ((refl, refl, refl, refl, refl, refl), ((refl, refl, refl, refl, refl, refl), ((refl, refl, refl, refl, refl, refl), ((refl, refl, refl, refl, refl, refl), ((refl, refl, refl, refl, refl, refl), ((refl, refl, refl, refl, refl, refl), tt)))))))))))))))))))
