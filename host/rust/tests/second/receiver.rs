@@ -237,7 +237,7 @@ impl Transfer {
         Ok(())
     }
 
-    /// Fault 20 stands here as the paper lists it; a transfer that fits never meets it, as its verdict is RESULT then.
+    /// Fault 20, as the paper lists it. No calls are known that reach it.
     fn end(&mut self, at: usize) -> Answer<()> {
         if self.count != 0 && self.ended() == self.count {
             return Err(20);
