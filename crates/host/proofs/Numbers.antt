@@ -1,0 +1,39 @@
+-- Numbers, case by case.
+use mathlib.Core.Path.{_≡_, refl}
+use Rattle.eblock.specs.Header.{number as headerNumber}
+use Rattle.eblock.specs.declared.header.Header.{Header}
+use Rattle.eblock.specs.declared.header.Header.the-variants.{Data, Eodc, Refused as NotRead}
+use Rattle.commands.specs.Line.{number as lineNumber, verb}
+use Rattle.commands.specs.declared.line.Line.{Line}
+use Rattle.commands.specs.declared.line.Line.the-variants.{Command, Refused as NoCommand}
+use Rattle.hostlists.specs.HostList.{number as listNumber}
+use Rattle.hostlists.specs.declared.list.Hosts.{Hosts}
+use Rattle.hostlists.specs.declared.list.Hosts.the-variants.{Count, Refused as NoList}
+use Rattle.host.specs.Header.{fieldsOf}
+use Rattle.host.specs.Line.{commandOf}
+use Rattle.host.specs.Hosts.{listOf}
+use Rattle.host.specs.Numbers.{Numbers}
+
+header : (x : Header) → fieldsOf x .refused ≡ headerNumber x
+unfolding headerNumber
+header (Data d n offset) = refl
+header (Eodc d n) = refl
+header (NotRead k) = refl
+
+line : (x : Line) → commandOf x .refused ≡ lineNumber x
+unfolding lineNumber
+line (Command v from to) = refl
+line (NoCommand k) = refl
+
+verb-is : (x : Line) → commandOf x .verb ≡ verb x
+unfolding verb
+verb-is (Command v from to) = refl
+verb-is (NoCommand k) = refl
+
+list : (x : Hosts) → listOf x .refused ≡ listNumber x
+unfolding listNumber
+list (Count n) = refl
+list (NoList k) = refl
+
+pub numbers : Numbers
+numbers = record { header = header; line = line; verb-is = verb-is; list = list }
