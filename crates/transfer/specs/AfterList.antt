@@ -1,5 +1,5 @@
 -- What holds after every list of receive calls: demand 3 but for its last sentence, a field for each sentence.
-use Prim.Native.Nat.{ℕ, _+_, _*_, _≤_, _<_}
+use Prim.Native.Nat.{ℕ, _+_, _*_, _/_, _%_, _≤_, _<_}
 use mathlib.Core.Path.{_≡_}
 use mathlib.Core.Logic.{_↔_, _⊎_}
 use mathlib.Core.Bool.{true}
@@ -90,6 +90,8 @@ pub record Unchanged (v w : World) : Type 0 where
   pub bytes : storedOf w ≡ storedOf v
 
 pub record EveryList : Type 0 where
+  -- every file begins with every ledger of whole pairs, 8,192 entries at most
+  pub begins : (file ledger : List ℕ) → length ledger % 2 ≡ 0 → length ledger ≤ 8192 → Begun (begun file ledger) file (length ledger / 2) none
   pub answers-are : (w : World) (file : List ℕ) (R : ℕ) (before : Pairs) → Begun w file R before → (ks : List Call) → answersOf w ks ≡ tallyAnswers (length file) R before ks
   pub after-list : (w : World) (file : List ℕ) (R : ℕ) (before : Pairs) → Begun w file R before → (ks : List Call)
       → AfterList R before file (after w ks) (tallyOf (length file) R before ks)
