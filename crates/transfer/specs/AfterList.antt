@@ -7,7 +7,7 @@ use mathlib.Core.List.{List, [], _∷_, _++_}
 use lib.ListN.{length, getD, take, drop}
 use Rattle.ledger.specs.Pairs.{Pairs, none, total, holds}
 use Rattle.ledger.specs.Ledger.{roomOf, obeys, lent, Holds}
-use Rattle.transfer.specs.Channel.{channelCount, stateAt}
+use Rattle.transfer.specs.Channel.{stateAt}
 use Rattle.transfer.specs.Transfer.{endedOf, World, guess, result, broken, verdictOf, storedOf, startNumber}
 use Rattle.transfer.specs.Receive.{Answer}
 use Rattle.transfer.specs.Fit.{fits}
@@ -77,7 +77,7 @@ pub record AfterList (R : ℕ) (before : Pairs) (file : List ℕ) (w : World) (t
   pub ended-is : endedOf (w .t) ≡ endedIn (t .streams)
   pub ledger-is : LedgerIs R before (w .lent .claimed) (blocksOf (t .streams))
   -- each channel's state is that of its bytes; after a fault in its header nothing is held of that
-  pub channels-are : (c : ℕ) → c < channelCount → stateAt (w .t) c ≡ view (streamAt t c)
+  pub channels-are : (c : ℕ) → c < 64 → stateAt (w .t) c ≡ view (streamAt t c)
   -- from RESULT on every accepted payload stands whole in the file
   pub stands : Complete t → Stand (w .lent .file) (blocksOf (t .streams))
   -- transfer, file and ledger fit
