@@ -3,15 +3,17 @@ use Prim.Native.Nat.{ℕ, _+_, _*_, _≤_, _<_}
 use mathlib.Core.Path.{_≡_}
 use mathlib.Core.Logic.{_↔_, _⊎_}
 use mathlib.Core.Bool.{true, cond}
+use mathlib.Core.List.{List}
 use lib.Dec.{eqb}
 use lib.ListN.{length, getD}
 use Rattle.ledger.specs.Means.{Obeys}
 use Rattle.transfer.specs.declared.state.Channel.{Channel}
+use Rattle.transfer.specs.declared.state.Transfer.{Transfer}
 use Rattle.transfer.specs.Channel.{channelAt}
-use Rattle.transfer.specs.Transfer.{sum, usedOf, World}
+use Rattle.transfer.specs.Transfer.{sum, usedOf, World, world}
 use Rattle.transfer.specs.Receive.{leftBy, byteOf}
 use Rattle.transfer.specs.Calls.{Call, callOf}
-use Rattle.transfer.specs.Fit.{fits}
+use Rattle.transfer.specs.Fit.{fitsLedger, fits}
 
 abbrev pub InHeader : Channel → Type 0
 InHeader k = k .state ≡ 1
@@ -53,6 +55,8 @@ pub record Fit (w : World) : Type 0 where
   pub fault : ((w .t .fault ≡ 0) × (w .t .on ≡ 0)) ⊎ ((11 ≤ w .t .fault) × (w .t .fault ≤ 20) × (w .t .on < 64))
 
 pub record Fitting : Type 0 where
+  -- FIT without the file, which the screen line tests: with every file of F bytes they fit
+  pub without-file : (t : Transfer) (claimed : List ℕ) → (fitsLedger t claimed ≡ true) ↔ ((file : List ℕ) → length file ≡ t .len → Fit (world t file claimed))
   pub says : (w : World) → (fits w ≡ true) ↔ Fit w
   -- used are the channels not unused
   pub used-are : (w : World) → Fit w → usedOf (w .t) ≡ sum (λ (k : Channel). cond (eqb (k .state) 0) 0 1) (w .t .channels)
