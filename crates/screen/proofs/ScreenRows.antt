@@ -3,7 +3,6 @@ use Prim.Native.Nat.{ℕ}
 use mathlib.Core.Path.{_≡_, refl, sym, ap}
 use mathlib.Core.List.{List}
 use Rattle.transfer.specs.declared.state.Transfer.{Transfer}
-use Rattle.screen.specs.declared.line.Line.{Line}
 use Rattle.screen.specs.declared.line.Line.the-variants.{Bytes, Refused}
 use Rattle.screen.specs.Screen.{lineFor, screenOf, screenLeaves, lineNumber, lineBytes}
 use Rattle.screen.specs.ScreenRows.{Leaves, ScreenRows}
