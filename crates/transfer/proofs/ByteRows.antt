@@ -17,7 +17,7 @@ use Rattle.transfer.specs.Channel.{blank, unused, header, payload, ended
 use Rattle.transfer.specs.Transfer.{sum, oneIfAlive, endedOf, usedOf, World, world, withTransfer}
 use Rattle.transfer.specs.Header.{isCount, endsChannel, payloadLength, Asks, counts, claims, nothing, faulty, claimFault}
 use Rattle.transfer.specs.Judgement.{Asked, for-count, for-claim, Union, Claim}
-use Rattle.transfer.specs.Receive.{goes, stops, faults, ends, opens, claimsRange, heeds, stores, byteOf}
+use Rattle.transfer.specs.Receive.{goes, stops, leaves, faults, ends, opens, claimsRange, heeds, stores, byteOf}
 use Rattle.transfer.specs.ByteRows.{Seventeenth, ByteRows}
 use Rattle.transfer.proofs.Asked.{asked-only}
 use Rattle.transfer.proofs.Judged.{union-is, claim-only}
@@ -119,6 +119,10 @@ module _ (w : World) (c b p : ℕ) where
   unfolding stores opens
   stored n e s = byte-payload w c b p (suc (suc n)) e s
 
+  none-left : (e : Bool) → stateAt (w .t) c ≡ payload p 0 e → byteOf w c b ≡ leaves w
+  unfolding stores
+  none-left e s = byte-payload w c b p 0 e s
+
   last-stored : stateAt (w .t) c ≡ payload p 1 false → byteOf w c b ≡ goes (withTransfer with-byte (putState (w .t) c (header [])))
   unfolding stores opens
   last-stored s = byte-payload w c b p 1 false s
@@ -143,5 +147,6 @@ byte-rows =
       stored = stored;
       last-stored = last-stored;
       last-ends = λ w c b p s n. last-byte w c b p s ∙ ends-channel (with-byte w c b p) c n;
-      not-taken = byte-ended;
+      ended-leaves = byte-ended;
+      none-left-leaves = none-left;
     }

@@ -16,7 +16,7 @@ use Rattle.transfer.specs.Block.{Block, placeOf, sizeOf, claimsOf, place
 use Rattle.transfer.specs.Tally.{Tally, blocksOf, countsOf, known, endedIn, empty, streamAt, callOf}
 use Rattle.transfer.specs.View.{view}
 
--- the world w is what an accepted start leaves, with a file and a ledger of R pairs that holds these ranges
+-- the world w is what an accepted start leaves, with a file and a ledger of R pairs that holds these ranges: none, until a transfer can be resumed
 pub data Begun : World → List ℕ → ℕ → Pairs → Type 0 where
   fresh-start : (file ledger : List ℕ) → startNumber ledger ≡ 0 → Begun (begun file ledger) file (roomOf ledger) none
 
@@ -69,7 +69,7 @@ pub record AfterList (R : ℕ) (before : Pairs) (file : List ℕ) (w : World) (t
   pub file-rest : (p : ℕ) → ((v : ℕ) → Has p v (blocksOf (t .streams)) → ⊥) → getD (w .lent .file) p 0 ≡ getD file p 0
   pub file-length : length (w .lent .file) ≡ length file
   pub file-is : w .lent .file ≡ placed (blocksOf (t .streams)) file
-  -- the byte count is their number, and that of the bytes held before
+  -- the byte count is their number, and that of the bytes in the ranges held from the beginning, 0 until a transfer can be resumed
   pub bytes-are : storedOf w ≡ bytesIn (blocksOf (t .streams)) + total before
   -- the fault's number and channel, the count, the number of channels that have ended and the ledger are the tally's
   pub fault-is : (w .t .fault ≡ t .fault) × (w .t .on ≡ t .on)
@@ -90,7 +90,7 @@ pub record Unchanged (v w : World) : Type 0 where
   pub bytes : storedOf w ≡ storedOf v
 
 pub record EveryList : Type 0 where
-  -- every file begins with every ledger of whole pairs, 8,192 entries at most
+  -- every file and every ledger of an even length, up to 8,192 entries, begins
   pub begins : (file ledger : List ℕ) → length ledger % 2 ≡ 0 → length ledger ≤ 8192 → Begun (begun file ledger) file (length ledger / 2) none
   pub answers-are : (w : World) (file : List ℕ) (R : ℕ) (before : Pairs) → Begun w file R before → (ks : List Call) → answersOf w ks ≡ tallyAnswers (length file) R before ks
   pub after-list : (w : World) (file : List ℕ) (R : ℕ) (before : Pairs) → Begun w file R before → (ks : List Call)

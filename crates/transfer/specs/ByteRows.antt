@@ -53,12 +53,13 @@ pub record ByteRows : Type 0 where
       → Claim (w .t .pairs) (pairsOf (w .lent .claimed)) s e 0 → Union s e (pairsOf (w .lent .claimed)) m
       → byteOf w c b
       ≡ goes (world (putState (w .t) c (payload s (secondOf (h ++ (b ∷ []))) (endsChannel (h ++ (b ∷ []))))) (w .lent .file) (lent (w .t .pairs) m))
-  -- a payload's byte is stored at its place: one before the last, and the last, after which the channel is in a header or ends
+  -- a payload's byte is stored at its place; after the last one the channel is in a header, or ends
   pub stored : (w : World) (c b p n : ℕ) (e : Bool) → stateAt (w .t) c ≡ payload p (suc (suc n)) e
       → byteOf w c b ≡ goes (world (putState (w .t) c (payload (suc p) (suc n) e)) (set (w .lent .file) p b) (w .lent .claimed))
   pub last-stored : (w : World) (c b p : ℕ) → stateAt (w .t) c ≡ payload p 1 false
       → byteOf w c b ≡ goes (world (putState (w .t) c (header [])) (set (w .lent .file) p b) (w .lent .claimed))
   pub last-ends : (w : World) (c b p : ℕ) → stateAt (w .t) c ≡ payload p 1 true → MayEnd w
       → byteOf w c b ≡ stops (world (putState (w .t) c ended) (set (w .lent .file) p b) (w .lent .claimed))
-  -- an ended channel's byte is not taken
-  pub not-taken : (w : World) (c b : ℕ) → stateAt (w .t) c ≡ ended → byteOf w c b ≡ leaves w
+  -- an ended channel's byte is not taken, nor one of a payload with nothing left, which does not fit
+  pub ended-leaves : (w : World) (c b : ℕ) → stateAt (w .t) c ≡ ended → byteOf w c b ≡ leaves w
+  pub none-left-leaves : (w : World) (c b p : ℕ) (e : Bool) → stateAt (w .t) c ≡ payload p 0 e → byteOf w c b ≡ leaves w
