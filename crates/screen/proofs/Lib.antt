@@ -1,4 +1,5 @@
 pub mod Lines
 pub mod Screens
+pub mod ScreenRows
 pub mod ScreenTallies
 pub mod ScreenSets

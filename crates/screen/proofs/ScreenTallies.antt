@@ -19,7 +19,7 @@ use Rattle.receiver.specs.Stored.{storedCut}
 use Rattle.receiver.proofs.Taking.{fits-parts}
 use Rattle.screen.specs.Screen.{lineOf, lineFor, roomNumber, answerBy, leftBy, screenOf, screenLeaves}
 use Rattle.screen.specs.ScreenTally.{bytesOf, tallyLine, ScreenTally}
-use Rattle.screen.proofs.Screens.{number-is, bytes-are, fit, stored-whole}
+use Rattle.screen.proofs.Screens.{fit, stored-whole}
 
 module _ (w : World) (file : List ℕ) (R : ℕ) (before : Pairs) (b : Begun w file R before) (ks : List Call) where
   list : AfterList R before file (after w ks) (tallyOf (length file) R before ks)
@@ -55,8 +55,6 @@ module _ (w : World) (file : List ℕ) (R : ℕ) (before : Pairs) (b : Begun w f
 pub screen-tally : ScreenTally
 screen-tally =
     record {
-      number-is = number-is;
-      bytes-are = bytes-are;
       stored-is = stored-whole;
       stored-after = λ w file R before b l ks. stored-here w file R before b ks l;
       line-is = says;

@@ -1,12 +1,12 @@
 -- What the screen line answers and leaves, case by case, and the stored bytes where nothing is cut.
 use Prim.Native.Nat.{ℕ, suc, _-_, _≤_, _<_}
-use mathlib.Core.Path.{_≡_, refl, ap, _∙_}
-use mathlib.Core.Bool.{Bool, true, false, cond, and-eq-true-iff}
+use mathlib.Core.Path.{_≡_, ap, _∙_}
+use mathlib.Core.Bool.{true, false, and-eq-true-iff}
 use mathlib.Core.List.{List, [], _++_}
 use native.Mathlib.Omega.{arith}
 use native.Mathlib.Nat.{zero-add}
-use borrow.Author.Tests.{lt-ltb, le-ltb, leb-true, ltb-false}
-use lib.Dec.{leb, ltb}
+use borrow.Author.Tests.{lt-ltb, le-ltb, leb-true}
+use lib.Dec.{leb}
 use lib.ListN.{length, drop, replicate}
 use lib.Seq.{sets, sets-eq}
 use Rattle.ledger.specs.Pairs.{Pairs, none, pair, total, Ruled, endsBy}
@@ -22,7 +22,7 @@ use Rattle.screen.specs.declared.line.Line.the-variants.{Bytes, Refused}
 use Rattle.receiver.specs.Answers.{verdictIs}
 use Rattle.receiver.specs.Stored.{storedCut}
 use Rattle.receiver.proofs.Ran.{fits-some}
-use Rattle.screen.specs.Screen.{lineOf, lineFor, lineSaid, roomNumber, answerBy, leftBy, screenNumber, screenOf, screenLeaves, lineNumber, lineBytes}
+use Rattle.screen.specs.Screen.{lineOf, lineFor, lineSaid, roomNumber, answerBy, leftBy, screenNumber, screenOf, screenLeaves}
 
 -- ---- a text and lent bytes
 
@@ -31,27 +31,13 @@ module _ (text out : List ℕ) where
   unfolding roomNumber answerBy leftBy
   no-room h = (rw (lt-ltb (length out) (length text) h), rw (lt-ltb (length out) (length text) h))
 
-  pub has-room : length text ≤ length out → (Bytes (length text) ≡ answerBy (roomNumber text out) text) × (sets out 0 text ≡ leftBy (roomNumber text out) text out)
+  pub written : length text ≤ length out → (Bytes (length text) ≡ answerBy (roomNumber text out) text) × (text ++ drop (length text) out ≡ leftBy (roomNumber text out) text out)
   unfolding roomNumber answerBy leftBy
-  has-room h = (rw (le-ltb (length out) (length text) h), rw (le-ltb (length out) (length text) h) (sets-eq text out 0 (omega arith) ∙ ap (λ n. text ++ drop n out) (zero-add (length text))))
+  written h = (rw (le-ltb (length out) (length text) h), rw (le-ltb (length out) (length text) h))
 
--- an answer's number and bytes
-module _ (k : ℕ) (text : List ℕ) where
-  answer-number : lineNumber (answerBy k text) ≡ k
-  unfolding lineNumber answerBy
-  answer-number = go (ltb 0 k) refl
-    where
-      go : (b : Bool) → ltb 0 k ≡ b → lineNumber (cond b (Refused k) (Bytes (length text))) ≡ k
-      go true e = refl
-      go false e = omega (arith, ltb-false 0 k e)
-
-  answer-bytes : lineBytes (answerBy k text) ≡ cond (ltb 0 k) 0 (length text)
-  unfolding lineBytes answerBy
-  answer-bytes = go (ltb 0 k)
-    where
-      go : (b : Bool) → lineBytes (cond b (Refused k) (Bytes (length text))) ≡ cond b 0 (length text)
-      go true = refl
-      go false = refl
+  -- as the code writes it
+  pub has-room : length text ≤ length out → (Bytes (length text) ≡ answerBy (roomNumber text out) text) × (sets out 0 text ≡ leftBy (roomNumber text out) text out)
+  has-room h = (written h .0, sets-eq text out 0 (omega arith) ∙ ap (λ n. text ++ drop n out) (zero-add (length text)) ∙ written h .1)
 
 -- ---- by FIT
 
@@ -59,14 +45,6 @@ module _ (t : Transfer) (ledger out : List ℕ) where
   pub not-fit : fitsLedger t ledger ≡ false → (Refused 1 ≡ screenOf t ledger out) × (out ≡ screenLeaves t ledger out)
   unfolding screenOf screenLeaves screenNumber answerBy leftBy
   not-fit f = (rw f, rw f)
-
-  pub number-is : lineNumber (screenOf t ledger out) ≡ screenNumber t ledger out
-  unfolding screenOf
-  number-is = answer-number (screenNumber t ledger out) (lineFor t ledger)
-
-  pub bytes-are : lineBytes (screenOf t ledger out) ≡ cond (ltb 0 (screenNumber t ledger out)) 0 (length (lineFor t ledger))
-  unfolding screenOf
-  bytes-are = answer-bytes (screenNumber t ledger out) (lineFor t ledger)
 
   -- what is answered and left by the line's text, in the words of the code or of the tally
   pub fit : (text : List ℕ) (r : Line) (after : List ℕ) → fitsLedger t ledger ≡ true → text ≡ lineFor t ledger

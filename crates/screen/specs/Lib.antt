@@ -1,3 +1,4 @@
 pub mod Screen
+pub mod ScreenRows
 pub mod ScreenTally
 pub mod ScreenSet

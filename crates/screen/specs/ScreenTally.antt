@@ -1,9 +1,8 @@
--- What the screen shows: its answer in document 01's numbers, and after every list of receive calls the tally's words and numbers.
+-- What the screen shows after every list of receive calls: the tally's words and numbers.
 use Prim.Native.Nat.{ℕ, _+_, _≤_}
 use mathlib.Core.Path.{_≡_}
-use mathlib.Core.Bool.{true, cond}
+use mathlib.Core.Bool.{true}
 use mathlib.Core.List.{List}
-use lib.Dec.{ltb}
 use lib.ListN.{length}
 use Rattle.ledger.specs.Pairs.{Pairs, total}
 use Rattle.ledger.specs.Ledger.{largest}
@@ -15,7 +14,7 @@ use Rattle.transfer.specs.Block.{bytesIn}
 use Rattle.transfer.specs.Tally.{Tally, blocksOf, known, endedIn, verdict}
 use Rattle.transfer.specs.AfterList.{Begun, tallyOf}
 use Rattle.receiver.specs.Stored.{storedCut}
-use Rattle.screen.specs.Screen.{lineText, lineOf, lineFor, roomNumber, answerBy, leftBy, screenNumber, screenOf, screenLeaves, lineNumber, lineBytes}
+use Rattle.screen.specs.Screen.{lineText, lineOf, roomNumber, answerBy, leftBy, screenOf, screenLeaves}
 
 -- the payload bytes taken, and those held before
 abbrev pub bytesOf : Pairs → Tally → ℕ
@@ -25,9 +24,6 @@ unfoldable pub tallyLine : Pairs → Tally → List ℕ
 tallyLine before t = lineText (verdict t) (t .fault) (t .on) (endedIn (t .streams)) (known (t .streams)) (bytesOf before t)
 
 pub record ScreenTally : Type 0 where
-  -- the answer's number, and how many bytes it says were written
-  pub number-is : (t : Transfer) (ledger out : List ℕ) → lineNumber (screenOf t ledger out) ≡ screenNumber t ledger out
-  pub bytes-are : (t : Transfer) (ledger out : List ℕ) → lineBytes (screenOf t ledger out) ≡ cond (ltb 0 (screenNumber t ledger out)) 0 (length (lineFor t ledger))
   -- nothing is cut off the stored bytes of a transfer and a ledger that fit, with a file whose length is a 64-bit number
   pub stored-is : (t : Transfer) (file ledger : List ℕ) → t .len ≤ largest → fitsLedger t ledger ≡ true → storedCut t ledger ≡ storedOf (world t file ledger)
   pub stored-after : (w : World) (file : List ℕ) (R : ℕ) (before : Pairs) → Begun w file R before → length file ≤ largest → (ks : List Call)

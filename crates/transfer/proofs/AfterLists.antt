@@ -17,6 +17,7 @@ use Rattle.transfer.specs.Calls.{Call, callOf, after}
 use Rattle.transfer.specs.Block.{Block, sizeOf, bytesIn}
 use Rattle.transfer.specs.Tally.{Tally, Stream, taken, accepted, blocksOf, countsOf, known, claimed, used, endedIn, verdict, empty, callOf as tallyCallOf}
 use Rattle.transfer.specs.AfterList.{Begun, tallyOf, Complete, Has, AfterList, Unchanged, EveryList}
+use Rattle.transfer.proofs.Starts.{every-start-begins}
 use Rattle.transfer.proofs.Claimed.{sum-append, claims-holds, claims-total}
 use Rattle.transfer.proofs.Placed.{length-placed}
 use Rattle.transfer.specs.View.{view}
@@ -190,6 +191,7 @@ unchanged w file R before b ks c more =
 pub every-list : EveryList
 every-list =
     record {
+      begins = every-start-begins;
       answers-are = λ w file R before b ks. ap (λ r. r .0) (along w file R before b ks .out);
       after-list = after-list-is;
       kept = λ w file R before b ks more p v h. grown-has _ _ p v (grew w file R before b ks more) h;

@@ -11,6 +11,7 @@ use Rattle.transfer.proofs.Judged.{judgement}
 use Rattle.transfer.proofs.Cutting.{cutting}
 use Rattle.transfer.proofs.Fitted.{fitting}
 use Rattle.transfer.proofs.Rowed.{rows}
+use Rattle.transfer.proofs.ByteRows.{byte-rows}
 use Rattle.transfer.proofs.EachCalls.{each-call}
 use Rattle.transfer.proofs.AfterLists.{every-list}
 use Rattle.transfer.proofs.Offered.{has-arrival}
@@ -38,6 +39,7 @@ demand-3 =
       cutting = cutting;
       fitting = fitting;
       rows = rows;
+      byte-rows = byte-rows;
       each-call = each-call;
       every-list = every-list;
       every-arrival = every-arrival;

@@ -7,17 +7,17 @@ use borrow.Author.Tests.{eq-eqb, ne-eqb}
 use lib.ListN.{replicate}
 use Rattle.octets.specs.Digits.{fromLittle, fromBig, toLittle, toBig}
 use Rattle.ledger.specs.Pairs.{none, size, hit, holds}
-use Rattle.ledger.specs.Ledger.{lengthWrong}
 use Rattle.ledger.proofs.Places.{Where, under, within, past, stand}
 use Rattle.eblock.specs.Descriptor.{has, faultOf}
 use Rattle.eblock.specs.Header.{secondOf, thirdOf, bytesOf}
-use Rattle.transfer.specs.Transfer.{sum, startNumber}
+use Rattle.transfer.specs.Transfer.{sum}
 use Rattle.transfer.specs.Header.{payloadLength}
 use Rattle.transfer.specs.Calls.{begun}
 use Rattle.transfer.specs.Block.{flat, countsIn}
-use Rattle.transfer.specs.AfterList.{Begun, fresh-start}
+use Rattle.transfer.specs.AfterList.{Begun}
 use Rattle.transfer.specs.Sending.{sentBlocks, livesOn, holding, WellFormed, bytesOn, piecesOn, Arrival}
 use Rattle.transfer.specs.Example.{plaid, calls}
+use Rattle.transfer.proofs.Starts.{every-start-begins}
 
 once : (c : ℕ) → livesOn c plaid ≤ 1
 unfolding sum
@@ -80,5 +80,4 @@ arrival (suc zero) = refl
 arrival (suc (suc c)) = rw (ne-eqb 0 (suc (suc c)) (λ e. omega arith), ne-eqb 1 (suc (suc c)) (λ e. omega arith))
 
 pub begins : Begun (begun (replicate 8 0) (replicate 4 7)) (replicate 8 0) 2 none
-unfolding startNumber lengthWrong
-begins = fresh-start (replicate 8 0) (replicate 4 7) refl
+begins = every-start-begins (replicate 8 0) (replicate 4 7) refl (omega arith)

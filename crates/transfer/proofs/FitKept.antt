@@ -5,7 +5,8 @@ use mathlib.Core.Logic.{inl, inr, _≢_}
 use mathlib.Core.Bool.{Bool, true, false, cond, _&&_}
 use mathlib.Core.List.{List, [], _∷_, _++_}
 use native.Mathlib.Omega.{arith}
-use borrow.Author.Tests.{ltb-true, ltb-false, eqb-false, ne-eqb, lt-ltb}
+use native.Mathlib.Decide.{decLt}
+use borrow.Author.Tests.{ltb-true, ltb-false, eqb-false, ne-eqb}
 use lib.Dec.{ltb, eqb}
 use lib.ListN.{length, set, take, drop, length-take, length-append}
 use Rattle.ledger.specs.Pairs.{hit, holds}
@@ -13,14 +14,16 @@ use Rattle.ledger.specs.Ledger.{pairsOf}
 use Rattle.ledger.proofs.Places.{hit-part}
 use Rattle.ledger.proofs.Shared.{shares-none}
 use Rattle.eblock.specs.Header.{secondOf, thirdOf}
+use Rattle.transfer.specs.declared.state.Channel.{Channel}
 use Rattle.transfer.specs.Channel.{channelCount, heldLimit, State, unused, header, payload, ended, nextNumber, leftNumber, readState, stateAt, channelAt, putState, putFault, putCount}
 use Rattle.transfer.specs.Transfer.{sum, usedOf, World, world, withTransfer, isFinal}
 use Rattle.transfer.specs.Header.{endsChannel, payloadLength, Asks, counts, claims, nothing, faulty, askedOf, claimFault}
 use Rattle.transfer.specs.Judgement.{Asked, for-count, for-nothing, for-claim}
-use Rattle.transfer.specs.Receive.{goes, stops, leaves, leftBy, faults, ends, opens, claimsRange, heeds, judges, heads, stores, byteOn, byteOf}
+use Rattle.transfer.specs.Receive.{goes, stops, leaves, leftBy, faults, ends, opens, claimsRange, heeds, stores, byteOf}
 use Rattle.transfer.proofs.Shapes.{hit-nothing}
 use Rattle.transfer.proofs.Asked.{Numbered, asked, in-range}
 use Rattle.transfer.proofs.Judged.{claim-numbered, claim-accepted}
+use Rattle.transfer.proofs.Bytes.{byte-unused, byte-held, byte-judged, byte-payload, byte-ended, claim-faulty, claim-opens}
 use Rattle.transfer.proofs.Stages.{waits, held-within}
 use Rattle.transfer.proofs.Together.{CountSays, Together, ruled}
 use Rattle.transfer.proofs.FitUsed.{oneIfUsed}
@@ -88,42 +91,43 @@ module _ (c : ℕ) (h : c < channelCount) where
       size-is = unfold payloadLength in rw q
 
       go : (k : ℕ) → claimFault (w .t .pairs) (pairsOf (w .lent .claimed)) (thirdOf r) (thirdOf r + secondOf r) ≡ k
-          → Together (leftBy (cond (ltb 0 k) (faults w c k) (opens (claimsRange w (thirdOf r) (thirdOf r + secondOf r)) c (thirdOf r) (payloadLength r) (endsChannel r))))
-      go (suc k) z = rw (lt-ltb 0 (suc k) (omega arith)) (judged (claim-numbered (w .t .pairs) (pairsOf (w .lent .claimed)) (thirdOf r) (thirdOf r + secondOf r) (omega arith) (ruled w (f .rule))))
+          → Together (leftBy (heeds w c r (claims (thirdOf r) (thirdOf r + secondOf r))))
+      go (suc k) z =
+          rw (claim-faulty w c r (thirdOf r) (thirdOf r + secondOf r) k z)
+          (judged (claim-numbered (w .t .pairs) (pairsOf (w .lent .claimed)) (thirdOf r) (thirdOf r + secondOf r) (omega arith) (ruled w (f .rule))))
         where
           judged : Numbered (claimFault (w .t .pairs) (pairsOf (w .lent .claimed)) (thirdOf r) (thirdOf r + secondOf r)) → Together (leftBy (faults w c (suc k)))
           judged (inl y) = absurd (omega arith)
           judged (inr y) = faults-keep w f u (suc k) (omega (arith, y .0)) (omega (arith, y .1))
-      go zero z = rw size-is (claimed-keeps w f u (thirdOf r) (secondOf r) (endsChannel r) q₀ q₁ z)
-
-  judges-keep : (w : World) → Together w → InUse w → (r : List ℕ) → Together (leftBy (judges w c r))
-  unfolding judges
-  judges-keep w f u r = heeds-keep w f u r (askedOf (w .t .len) (w .t .count) (usedOf (w .t)) r) (asked (w .t .len) (w .t .count) (usedOf (w .t)) r)
+      go zero z = rw (claim-opens w c r (thirdOf r) (thirdOf r + secondOf r) z, size-is) (claimed-keeps w f u (thirdOf r) (secondOf r) (endsChannel r) q₀ q₁ z)
 
   -- ---- a byte
 
-  -- of a header, of which r is held: on a channel not in use there is none
-  heads-keep : (w : World) → Together w → (r : List ℕ) (b : ℕ) → length r ≤ heldLimit → Room w c → (heldLimit ≤ length r → InUse w) → Together (leftBy (heads w c r b))
-  unfolding heads
-  heads-keep w f r b l room u = go (ltb (length r) heldLimit) refl
+  -- of a header, of which r is held
+  held-keeps : (w : World) → Together w → InUse w → (r : List ℕ) (b : ℕ) → stateAt (w .t) c ≡ header r → length r ≤ heldLimit → Together (leftBy (byteOf w c b))
+  held-keeps w f u r b s l = go (decLt (length r) heldLimit)
     where
-      go : (t : Bool) → ltb (length r) heldLimit ≡ t → Together (leftBy (cond t (goes (withTransfer w (putState (w .t) c (header (r ++ (b ∷ [])))))) (judges w c (r ++ (b ∷ [])))))
-      go true e = clear-keeps w f (header (r ++ (b ∷ []))) (omega (arith, length-append r (b ∷ []), ltb-true (length r) heldLimit e)) (unfold leftNumber in refl) room
-      go false e = judges-keep w f (u (ltb-false (length r) heldLimit e)) (r ++ (b ∷ []))
+      go : Dec (length r < heldLimit) → Together (leftBy (byteOf w c b))
+      go (yes y) = rw (byte-held w c b r s y) (clear-keeps w f (header (r ++ (b ∷ []))) (omega (arith, length-append r (b ∷ []))) (unfold leftNumber in refl) (in-use-room w f u))
+      go (no y) =
+          rw (byte-judged w c b r s (omega arith))
+          (heeds-keep w f u (r ++ (b ∷ [])) (askedOf (w .t .len) (w .t .count) (usedOf (w .t)) (r ++ (b ∷ []))) (asked (w .t .len) (w .t .count) (usedOf (w .t)) (r ++ (b ∷ []))))
 
-  first-keeps : (w : World) (b : ℕ) → Together w → Together (leftBy (byteOn unused w c b))
-  unfolding byteOn
-  first-keeps w b f = go (ltb 0 (w .t .count)) (eqb (usedOf (w .t)) (w .t .count)) refl refl
+  first-keeps : (w : World) (b : ℕ) → Together w → stateAt (w .t) c ≡ unused → Together (leftBy (byteOf w c b))
+  first-keeps w b f s = rw (byte-unused w c b s) (go (ltb 0 (w .t .count)) (eqb (usedOf (w .t)) (w .t .count)) refl refl)
     where
+      held : Room w c → Together (withTransfer w (putState (w .t) c (header (b ∷ []))))
+      held room = clear-keeps w f (header (b ∷ [])) (omega arith) (unfold leftNumber in refl) room
+
       go : (x y : Bool) → ltb 0 (w .t .count) ≡ x → eqb (usedOf (w .t)) (w .t .count) ≡ y
-          → Together (leftBy (cond (x && y) (leaves (withTransfer w (putFault (w .t) 19 c))) (heads w c [] b)))
+          → Together (leftBy (cond (x && y) (leaves (withTransfer w (putFault (w .t) 19 c))) (goes (withTransfer w (putState (w .t) c (header (b ∷ [])))))))
       go true true p q = fault-keeps w f c h 19 (omega arith) (omega arith)
-      go true false p q = heads-keep w f [] b (omega arith) (λ n. room (f .count)) (λ z. absurd (omega arith))
+      go true false p q = held (λ n. room (f .count))
         where
           room : CountSays (w .t) → usedOf (w .t) < w .t .count + oneIfUsed (channelAt (w .t) c)
           room (inl z) = absurd (omega (arith, ltb-true 0 (w .t .count) p))
           room (inr z) = let n : usedOf (w .t) ≢ w .t .count = eqb-false (usedOf (w .t)) (w .t .count) q in omega (arith, z .2)
-      go false y p q = heads-keep w f [] b (omega arith) (λ n. absurd (omega (arith, ltb-false 0 (w .t .count) p))) (λ z. absurd (omega arith))
+      go false y p q = held (λ n. absurd (omega (arith, ltb-false 0 (w .t .count) p)))
 
   stores-keep : (w : World) (n b : ℕ) (e : Bool) → Together w → InUse w → channelAt (w .t) c .left ≡ n → Together (leftBy (stores w c (channelAt (w .t) c .next) n e b))
   unfolding stores
@@ -134,18 +138,25 @@ module _ (c : ℕ) (h : c < channelCount) where
       (λ q. omega (arith, f .rests q, hit-part (suc p) (suc p + n) p (p + channelAt (w .t) c .left) q (omega arith) (omega arith)))
 
   pub byte-keeps : (w : World) (b : ℕ) → Together w → Together (leftBy (byteOf w c b))
-  unfolding byteOf stateAt readState byteOn
   byte-keeps w b f = go (channelAt (w .t) c .state) refl
     where
-      r : List ℕ
-      r = take (channelAt (w .t) c .held) (drop (heldLimit * c) (w .t .heads))
+      k : Channel
+      k = channelAt (w .t) c
 
-      go : (n : ℕ) → channelAt (w .t) c .state ≡ n → Together (leftBy (byteOn (readState n r (channelAt (w .t) c .next) (channelAt (w .t) c .left)) w c b))
-      go zero e = first-keeps w b f
+      r : List ℕ
+      r = take (k .held) (drop (heldLimit * c) (w .t .heads))
+
+      state : (n : ℕ) → k .state ≡ n → stateAt (w .t) c ≡ readState n r (k .next) (k .left)
+      state n e = unfold stateAt in ap (λ m. readState m r (k .next) (k .left)) e
+
+      rest-keeps : (e : Bool) → InUse w → stateAt (w .t) c ≡ payload (k .next) (k .left) e → Together (leftBy (byteOf w c b))
+      rest-keeps e u s = rw (byte-payload w c b (k .next) (k .left) e s) (stores-keep w (k .left) b e f u refl)
+
+      go : (n : ℕ) → k .state ≡ n → Together (leftBy (byteOf w c b))
+      go zero e = first-keeps w b f (unfold readState in state 0 e)
       go (suc zero) e =
-          heads-keep w f r b
-          (omega (arith, length-take (channelAt (w .t) c .held) (drop (heldLimit * c) (w .t .heads)), held-within (channelAt (w .t) c) (f .stages c h)))
-          (in-use-room w f (omega arith)) (λ z. omega arith)
-      go (suc (suc zero)) e = stores-keep w (channelAt (w .t) c .left) b false f (omega arith) refl
-      go (suc (suc (suc zero))) e = stores-keep w (channelAt (w .t) c .left) b true f (omega arith) refl
-      go (suc (suc (suc (suc n)))) e = f
+          held-keeps w f (omega arith) r b (unfold readState in state 1 e)
+          (omega (arith, length-take (k .held) (drop (heldLimit * c) (w .t .heads)), held-within k (f .stages c h)))
+      go (suc (suc zero)) e = rest-keeps false (omega arith) (unfold readState in state 2 e)
+      go (suc (suc (suc zero))) e = rest-keeps true (omega arith) (unfold readState in state 3 e)
+      go (suc (suc (suc (suc n)))) e = rw (byte-ended w c b (unfold readState in state (suc (suc (suc (suc n)))) e)) f

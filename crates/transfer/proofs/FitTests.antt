@@ -53,15 +53,14 @@ unfolding faultFits
 fault-fits t (inl e) = rw (e .0, e .1)
 fault-fits t (inr q) = rw (ne-eqb (t .fault) 0 (λ e. omega arith), le-leb 11 (t .fault) (q .0), le-leb (t .fault) 20 (q .1), lt-ltb (t .on) channelCount (q .2))
 
--- ---- the whole
+-- ---- all but the file's length
 
-pub fits-together : (w : World) → fits w ≡ true → Together w
-unfolding fits fitsLedger
-fits-together w h =
+pub ledger-together : (w : World) → fitsLedger (w .t) (w .lent .claimed) ≡ true → length (w .lent .file) ≡ w .t .len → Together w
+unfolding fitsLedger
+ledger-together w h f =
     let t = w .t in
     let l = w .lent .claimed in
-    let a = both (eqb (length (w .lent .file)) (t .len)) _ h in
-    let a₁ = both (leb (t .pairs) pairLimit) _ (a .1) in
+    let a₁ = both (leb (t .pairs) pairLimit) _ h in
     let a₂ = both (eqb (length l) (2 * t .pairs)) _ (a₁ .1) in
     let a₃ = both (obeys l) _ (a₂ .1) in
     let a₄ = both (endsBy (t .len) (pairsOf l)) _ (a₃ .1) in
@@ -74,7 +73,7 @@ fits-together w h =
     let s : (c : ℕ) → c < length (t .channels) → ChannelSays (pairsOf l) (channelAt t c) (bytesAt (t .heads) c) =
     λ c g. channel-says (pairsOf l) (channelAt t c) (bytesAt (t .heads) c) (channelAt t c .state) refl (channels-at (pairsOf l) (t .channels) (t .heads) c (a₇ .0) g) in
     record {
-      file = eqb-true (length (w .lent .file)) (t .len) (a .0);
+      file = f;
       entries = eqb-true (length l) (2 * t .pairs) (a₂ .0);
       pairs = leb-true (t .pairs) pairLimit (a₁ .0);
       rule = a₃ .0;
@@ -89,13 +88,12 @@ fits-together w h =
       fault = fault-says t (a₉ .1);
     }
 
-pub together-fits : (w : World) → Together w → fits w ≡ true
-unfolding fits fitsLedger
-together-fits w f =
+pub together-ledger : (w : World) → Together w → fitsLedger (w .t) (w .lent .claimed) ≡ true
+unfolding fitsLedger
+together-ledger w f =
     let t = w .t in
     let l = w .lent .claimed in
     rw (
-      eq-eqb (length (w .lent .file)) (t .len) (f .file),
       le-leb (t .pairs) pairLimit (f .pairs),
       eq-eqb (length l) (2 * t .pairs) (f .entries),
       f .rule,
@@ -109,3 +107,15 @@ together-fits w f =
       count-fits t (f .count),
       fault-fits t (f .fault),
     )
+
+-- ---- the whole
+
+pub fits-together : (w : World) → fits w ≡ true → Together w
+unfolding fits
+fits-together w h =
+    let a = both (eqb (length (w .lent .file)) (w .t .len)) (fitsLedger (w .t) (w .lent .claimed)) h in
+    ledger-together w (a .1) (eqb-true (length (w .lent .file)) (w .t .len) (a .0))
+
+pub together-fits : (w : World) → Together w → fits w ≡ true
+unfolding fits
+together-fits w f = rw (eq-eqb (length (w .lent .file)) (w .t .len) (f .file), together-ledger w f)

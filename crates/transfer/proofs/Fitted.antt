@@ -1,20 +1,24 @@
 -- `Fitting` holds.
 use Prim.Native.Nat.{ℕ, suc, _<_}
 use mathlib.Core.Path.{_≡_, refl}
+use mathlib.Core.Logic.{_↔_}
 use mathlib.Core.Bool.{Bool, true, false, cond}
 use mathlib.Core.List.{List, [], _∷_}
 use native.Mathlib.Omega.{arith}
 use borrow.Author.Tests.{leb-true, leb-false}
 use lib.Dec.{leb, ltb}
+use lib.ListN.{length, replicate, length-replicate}
+use Rattle.transfer.specs.declared.state.Transfer.{Transfer}
 use Rattle.transfer.specs.Channel.{channelCount}
-use Rattle.transfer.specs.Transfer.{usedOf, endedOf, sum, World}
+use Rattle.transfer.specs.Transfer.{usedOf, endedOf, sum, World, world}
 use Rattle.transfer.specs.Receive.{Took, goes, stops, leaves, leftBy, refused, bytesBy, byteOf, refusalOf, receiveOf}
 use Rattle.transfer.specs.Calls.{Call, receive, callOf}
+use Rattle.transfer.specs.Fit.{fitsLedger}
 use Rattle.transfer.specs.Fitting.{Fit, Fitting}
 use Rattle.transfer.proofs.Pieces.{bytes-none, bytes-goes, bytes-stops, bytes-leaves}
 use Rattle.transfer.proofs.Rowed.{rows}
 use Rattle.transfer.proofs.Together.{Together, together-fit, fit-together}
-use Rattle.transfer.proofs.FitTests.{fits-together, together-fits}
+use Rattle.transfer.proofs.FitTests.{ledger-together, together-ledger, fits-together, together-fits}
 use Rattle.transfer.proofs.FitUsed.{oneIfUsed, used-sum}
 use Rattle.transfer.proofs.FitKept.{byte-keeps}
 
@@ -44,9 +48,19 @@ call-keeps w (receive c piece) f = go (leb channelCount c) refl
         taken true = f
         taken false = piece-keeps c (leb-false channelCount c e) piece w 0 f
 
+-- a file of as many zeros will do
+fits-without-file : (t : Transfer) (claimed : List ℕ) → (fitsLedger t claimed ≡ true) ↔ ((file : List ℕ) → length file ≡ t .len → Fit (world t file claimed))
+fits-without-file t claimed =
+    let some : List ℕ = replicate (t .len) 0 in
+    let w = world t some claimed in (
+      (λ e file l. together-fit (world t file claimed) (ledger-together (world t file claimed) e l)),
+      (λ f. together-ledger w (fit-together w (f some (length-replicate (t .len) 0)))),
+    )
+
 pub fitting : Fitting
 fitting =
     record {
+      without-file = fits-without-file;
       says = λ w. (λ e. together-fit w (fits-together w e), λ f. together-fits w (fit-together w f));
       used-are = used-are;
       byte-keeps = λ w c b f h. together-fit (leftBy (byteOf w c b)) (byte-keeps c h w b (fit-together w f));

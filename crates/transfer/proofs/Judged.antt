@@ -24,8 +24,11 @@ module _ (R : ℕ) (ps : Pairs) (s e : ℕ) (h : s < e) (ruled : Ruled 0 ps) whe
   joined : Union s e ps (join s e ps)
   joined = record { ruled = join-ruled s e 0 ps h (omega arith) ruled; places = λ p. join-holds s e 0 p ps h ruled }
 
+  pub union-is : (m : Pairs) → Union s e ps m → m ≡ join s e ps
+  union-is m u = ruled-unique 0 m (join s e ps) (u .ruled) (joined .ruled) (λ p. u .places p ∙ sym (joined .places p))
+
   only-joined : (m : Pairs) → Union s e ps m → size m ≡ size (join s e ps)
-  only-joined m u = ap size (ruled-unique 0 m (join s e ps) (u .ruled) (joined .ruled) (λ p. u .places p ∙ sym (joined .places p)))
+  only-joined m u = ap size (union-is m u)
 
   free : shares s e ps ≡ false → (p : ℕ) → s ≤ p → p < e → holds p ps ≡ 0
   free q p a b = omega (arith, shares-none s e p ps q, hit-in s e p a b)
@@ -47,7 +50,7 @@ module _ (R : ℕ) (ps : Pairs) (s e : ℕ) (h : s < e) (ruled : Ruled 0 ps) whe
       go false true x y = by-18 (free x) (join s e ps) joined (ltb-true R (size (join s e ps)) y)
       go false false x y = is-claimed (free x) (join s e ps) joined (ltb-false R (size (join s e ps)) y)
 
-  claim-only : (k : ℕ) → Claim R ps s e k → k ≡ claimFault R ps s e
+  pub claim-only : (k : ℕ) → Claim R ps s e k → k ≡ claimFault R ps s e
   unfolding claimFault
   claim-only _ (by-17 p a b q) = go (shares s e ps) refl
     where

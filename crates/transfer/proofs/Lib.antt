@@ -15,6 +15,8 @@ pub mod States
 pub mod Starts
 pub mod Asked
 pub mod Judged
+pub mod Bytes
+pub mod ByteRows
 pub mod Invariant
 pub mod Follows
 pub mod Fills

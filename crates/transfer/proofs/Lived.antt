@@ -221,8 +221,8 @@ module _ (F R : ℕ) (before : Pairs) (ruled : Ruled 0 before) (t : Tally) (i : 
   pub lived-bytes : (c : ℕ) → bytesOn c lived ≡ taken (getD (t .streams) c (sound []))
   lived-bytes c = let e : 0 + c ≡ c = omega arith in ap (λ d. bytesOn d lived) (sym e) ∙ lives-bytes c 0 (t .streams) all-ended
 
-  pub lived-well : WellFormed F (nonEmpty (sentBlocks lived) + size before) before lived
-  lived-well =
+  pub lived-well : (r : ℕ) → nonEmpty (sentBlocks lived) + size before ≤ r → WellFormed F r before lived
+  lived-well r h =
       record {
         some = omega (arith, lives-length 0 (t .streams), counted .0, counted .1);
         few = omega (arith, lives-length 0 (t .streams), counted .0, counted .2);
@@ -230,5 +230,5 @@ module _ (F R : ℕ) (before : Pairs) (ruled : Ruled 0 before) (t : Tally) (i : 
         each = lives-sent F 0 (t .streams) all-ended (omega (arith, i .number)) (i .headers) below;
         one-count = ap countsIn (lives-blocks 0 (t .streams) all-ended) ∙ whole .1 ∙ ap {B = List ℕ} (λ n. n ∷ []) (sym (lives-length 0 (t .streams) ∙ counted .0));
         apart = λ p. rw (lives-blocks 0 (t .streams) all-ended) (i .apart p);
-        room = omega arith;
+        room = h;
       }

@@ -1,5 +1,5 @@
 -- No sending is left out: calls that are taken whole and end with RESULT are an arrival of a well-formed sending.
-use Prim.Native.Nat.{ℕ, _+_}
+use Prim.Native.Nat.{ℕ, _+_, _≤_}
 use mathlib.Core.Path.{_≡_, sym, _∙_}
 use mathlib.Core.List.{List}
 use lib.ListN.{length}
@@ -15,7 +15,7 @@ use Rattle.transfer.proofs.Taken.{pieces-taken}
 use Rattle.transfer.proofs.Lived.{lived, lived-bytes, lived-well}
 
 pub only-well-formed : (w : World) (file : List ℕ) (R : ℕ) (before : Pairs) → Begun w file R before → (ks : List Call) → AllTaken w ks → verdictOf (after w ks) ≡ result
-    → (s : List Life) × Arrival s ks × WellFormed (length file) (nonEmpty (sentBlocks s) + size before) before s
+    → (s : List Life) × Arrival s ks × ((r : ℕ) → nonEmpty (sentBlocks s) + size before ≤ r → WellFormed (length file) r before s)
 only-well-formed w file R before b ks whole v =
     let a = along w file R before b ks in
     let t = tallyOf (length file) R before ks in

@@ -8,10 +8,12 @@ use borrow.Author.Tests.{lt-ltb, eq-eqb, le-leb, lt-leb, leb-true, leb-false}
 use lib.Dec.{leb}
 use lib.ListN.{set}
 use Rattle.transfer.specs.Channel.{channelCount, State, unused, header, payload, ended, stateAt, putState, putFault}
-use Rattle.transfer.specs.Transfer.{endedOf, usedOf, World, world, withTransfer, Verdict, guess, result, broken, isFinal, verdictOf}
-use Rattle.transfer.specs.Receive.{stops, leaves, faults, ends, opens, stores, byteOn, Answer, refused, took, bytesBy, byteOf, isGuess, isEnded, isSome, refusalOf, receiveOf}
+use Rattle.transfer.specs.Transfer.{endedOf, usedOf, World, world, withTransfer, Verdict, guess, result, broken, verdictOf}
+use Rattle.transfer.specs.Receive.{stops, leaves, Answer, refused, took, bytesBy, byteOf, isGuess, isEnded, isSome, refusalOf, receiveOf}
 use Rattle.transfer.specs.Fit.{fits}
 use Rattle.transfer.specs.Calls.{Call, receive, callOf, runBy, answersOf, after}
+use Rattle.transfer.proofs.Bytes.{byte-unused, ends-20}
+use Rattle.transfer.proofs.ByteRows.{with-byte, last-byte}
 use Rattle.transfer.proofs.Pieces.{bytes-none, bytes-goes, bytes-stops, bytes-leaves}
 use Rattle.transfer.specs.Rows.{Rows}
 
@@ -64,13 +66,11 @@ second-row w c piece e h = refuses w c piece 1 (unfold refusalOf in rw (e, le-le
 -- ---- 19 and 20
 
 nineteen : (w : World) (c b : ℕ) → stateAt (w .t) c ≡ unused → 0 < w .t .count → usedOf (w .t) ≡ w .t .count → byteOf w c b ≡ leaves (withTransfer w (putFault (w .t) 19 c))
-unfolding byteOf byteOn
-nineteen w c b u n e = rw (u, lt-ltb 0 (w .t .count) n, eq-eqb (usedOf (w .t)) (w .t .count) e)
+nineteen w c b u n e = byte-unused w c b u ∙ rw (lt-ltb 0 (w .t .count) n, eq-eqb (usedOf (w .t)) (w .t .count) e)
 
 twenty : (w : World) (c b p : ℕ) → stateAt (w .t) c ≡ payload p 1 true → 0 < w .t .count → endedOf (w .t) ≡ w .t .count
     → byteOf w c b ≡ stops (world (putFault (putState (w .t) c (header [])) 20 c) (set (w .lent .file) p b) (w .lent .claimed))
-unfolding byteOf byteOn stores opens ends faults isFinal
-twenty w c b p s n e = rw (s, lt-ltb 0 (w .t .count) n, eq-eqb (endedOf (w .t)) (w .t .count) e)
+twenty w c b p s n e = last-byte w c b p s ∙ ends-20 (with-byte w c b p) c n e
 
 -- ---- lists of calls
 

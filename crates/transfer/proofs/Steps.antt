@@ -6,17 +6,17 @@ use mathlib.Core.Bool.{Bool, true, false, cond, _&&_, true≢false}
 use mathlib.Core.List.{List, [], _∷_, _++_, append-assoc, append-nil}
 use native.Mathlib.Omega.{arith}
 use native.Mathlib.Decide.{decLt}
-use borrow.Author.Tests.{lt-ltb, le-ltb, eq-eqb, ne-eqb}
+use borrow.Author.Tests.{lt-ltb, eq-eqb, ne-eqb}
 use lib.Dec.{ltb, eqb}
 use lib.ListN.{length, getD, set, length-append}
 use Rattle.ledger.specs.Pairs.{Pairs, Ruled}
-use Rattle.ledger.specs.Ledger.{lent}
+use Rattle.ledger.specs.Ledger.{pairsOf, lent}
 use Rattle.eblock.specs.Header.{secondOf, thirdOf}
 use Rattle.transfer.specs.Channel.{channelCount, heldLimit, unused, header, stateAt, putState, putFault}
-use Rattle.transfer.specs.Transfer.{usedOf, withTransfer}
-use Rattle.transfer.specs.Header.{endsChannel, payloadLength, Asks, counts, claims, nothing, faulty, askedOf, claimFault}
+use Rattle.transfer.specs.Transfer.{usedOf, World, withTransfer}
+use Rattle.transfer.specs.Header.{Asks, counts, claims, nothing, faulty, askedOf, claimFault}
 use Rattle.transfer.specs.Judgement.{Asked, for-count, for-nothing, for-claim}
-use Rattle.transfer.specs.Receive.{goes, stops, leaves, opens, claimsRange, faults, heeds, judges, heads, byteOn, byteOf, isSome, isEnded}
+use Rattle.transfer.specs.Receive.{goes, stops, leaves, faults, heeds, byteOf, isSome, isEnded}
 use Rattle.transfer.specs.Block.{Block, block, cut, cutBy, over, overBy, countsIn, claimsOf, placed, flat}
 use Rattle.transfer.specs.Tally.{Tally, Stream, sound, spoilt, taken, allButLast, accepted, blocksOf, countsOf, known, claimed, one, used, streamAt, withStream, withFault, keeps, judgedBy, faultIn, byteOn as tallyByteOn, byteOf as tallyByteOf}
 use Rattle.transfer.proofs.Claimed.{claims-ruled}
@@ -29,6 +29,7 @@ use Rattle.transfer.proofs.Sums.{sum-set}
 use Rattle.transfer.proofs.States.{transferOf, worldOf, state-is, put-is, fault-is, used-is}
 use Rattle.transfer.proofs.Asked.{Numbered, asked, in-range}
 use Rattle.transfer.proofs.Judged.{claim-numbered, claim-accepted}
+use Rattle.transfer.proofs.Bytes.{byte-unused, byte-held, byte-judged, byte-payload, claim-faulty, claim-opens}
 use Rattle.transfer.proofs.Invariant.{Count, unknown, announced, sound-at, Invariant, stays, used-same, same-blocks, kept-fault, kept-spoilt}
 use Rattle.transfer.proofs.Follows.{Follows, both-stop, both-leave, world-is, isSome-append, goes-on}
 use Rattle.transfer.proofs.Fills.{fills}
@@ -79,17 +80,21 @@ module _ (F R : ℕ) (before : Pairs) (file : List ℕ) (ruled : Ruled 0 before)
     heeded (faulty (suc n)) a = let m = in-range F (known (t .streams)) (used (t .streams)) head (faulty (suc n)) a in spoils (suc n) (m .0) (m .1)
     heeded (counts n) (for-count f₀ q k₀ n₀ n₁ n₂) = accepts-count F R before file ruled t c bs done r b i z k e d y u g f₀ q k₀ n₀ n₁ n₂
     heeded nothing (for-nothing f₀ q q₀) = accepts-nothing F R before file ruled t c bs done r b i z k e d y u g f₀ q q₀
-    heeded (claims s f) (for-claim f₀ q q₀ q₁) = rw (pairs-are F R before file ruled t i) (go (claimFault R (claimed before (t .streams)) (thirdOf head) (thirdOf head + secondOf head)) refl)
+    heeded (claims s f) (for-claim f₀ q q₀ q₁) = go (claimFault R (claimed before (t .streams)) (thirdOf head) (thirdOf head + secondOf head)) refl
       where
+        by-ledger : claimFault R (pairsOf (worldOf F R before file t .lent .claimed)) (thirdOf head) (thirdOf head + secondOf head)
+            ≡ claimFault R (claimed before (t .streams)) (thirdOf head) (thirdOf head + secondOf head)
+        by-ledger = ap (λ ps. claimFault R ps (thirdOf head) (thirdOf head + secondOf head)) (pairs-are F R before file ruled t i)
+
         go : (n : ℕ) → claimFault R (claimed before (t .streams)) (thirdOf head) (thirdOf head + secondOf head) ≡ n
-            → Follows F R before file t c
-            (cond (ltb 0 n) (faults (worldOf F R before file t) c n)
-            (opens (claimsRange (worldOf F R before file t) (thirdOf head) (thirdOf head + secondOf head)) c (thirdOf head) (payloadLength head) (endsChannel head)))
-            (judgedBy t c (bs ++ b ∷ []) n)
+            → Follows F R before file t c (heeds (worldOf F R before file t) c head (claims (thirdOf head) (thirdOf head + secondOf head))) (judgedBy t c (bs ++ b ∷ []) n)
         go zero w =
             let a = claim-accepted R (claimed before (t .streams)) (thirdOf head) (thirdOf head + secondOf head) (omega arith) (claims-ruled (blocksOf (t .streams)) before ruled) w in
-            accepts-claim F R before file ruled t c bs done r b i z k e d y u g f₀ q q₀ q₁ (a .0) (a .1)
-        go (suc n) w = rw (lt-ltb 0 (suc n) (omega arith)) (numbered (claim-numbered R (claimed before (t .streams)) (thirdOf head) (thirdOf head + secondOf head) (omega arith) (claims-ruled (blocksOf (t .streams)) before ruled)))
+            rw (claim-opens (worldOf F R before file t) c head (thirdOf head) (thirdOf head + secondOf head) (by-ledger ∙ w))
+            (accepts-claim F R before file ruled t c bs done r b i z k e d y u g f₀ q q₀ q₁ (a .0) (a .1))
+        go (suc n) w =
+            rw (claim-faulty (worldOf F R before file t) c head (thirdOf head) (thirdOf head + secondOf head) n (by-ledger ∙ w))
+            (numbered (claim-numbered R (claimed before (t .streams)) (thirdOf head) (thirdOf head + secondOf head) (omega arith) (claims-ruled (blocksOf (t .streams)) before ruled)))
           where
             numbered : Numbered (claimFault R (claimed before (t .streams)) (thirdOf head) (thirdOf head + secondOf head))
                 → Follows F R before file t c (faults (worldOf F R before file t) c (suc n)) (stops (withFault (withStream t c (spoilt (bs ++ b ∷ []))) (suc n) c))
@@ -100,7 +105,7 @@ module _ (F R : ℕ) (before : Pairs) (file : List ℕ) (ruled : Ruled 0 before)
 
   pub step : (t : Tally) (c b : ℕ) → Invariant F R before t → t .fault ≡ 0 → c < channelCount → isEnded (view (streamAt t c)) ≡ false
       → Follows F R before file t c (byteOf (worldOf F R before file t) c b) (tallyByteOf F R before t c b)
-  unfolding byteOf tallyByteOf byteOn tallyByteOn heads judges worldOf transferOf accepted flat overBy
+  unfolding tallyByteOf tallyByteOn worldOf transferOf accepted flat overBy
   step t c b i z k o = go (subst Proper e (proper-at (t .streams) c (i .proper)))
     where
       bs : List ℕ
@@ -140,10 +145,13 @@ module _ (F R : ℕ) (before : Pairs) (file : List ℕ) (ruled : Ruled 0 before)
               λ y. true≢false (sym (rw (lt-ltb 0 (known (t .streams)) (omega arith), eq-eqb (used (t .streams)) (known (t .streams)) (omega arith))) ∙ q) in
               announced n x x₀ x₁ (omega (arith, one-more))
 
-      go : Shape bs → Follows F R before file t c (byteOn (stateAt (transferOf F R t) c) (worldOf F R before file t) c b) (tallyByteOn F R before t c bs b)
+      w : World
+      w = worldOf F R before file t
+
+      go : Shape bs → Follows F R before file t c (byteOf w c b) (tallyByteOn F R before t c bs b)
       go (no-byte n) =
           let v : view (sound []) ≡ unused = unfold view in refl in
-          rw (state ∙ ap view (ap sound n) ∙ v, used-eq, n) (first n (ltb 0 (known (t .streams)) && eqb (used (t .streams)) (known (t .streams))) refl)
+          rw (byte-unused w c b (state ∙ ap view (ap sound n) ∙ v), used-eq, n) (first n (ltb 0 (known (t .streams)) && eqb (used (t .streams)) (known (t .streams))) refl)
       go (in-header done r d hr u g) = sized (decLt (length r) heldLimit)
         where
           over-is : over bs ≡ r
@@ -158,16 +166,16 @@ module _ (F R : ℕ) (before : Pairs) (file : List ℕ) (ruled : Ruled 0 before)
           same-used : used (set (t .streams) c (sound (bs ++ b ∷ []))) ≡ used (t .streams)
           same-used = used-same t c (sound (bs ++ b ∷ [])) h′ (ap (λ s. one (isSome (taken s))) e ∙ ap one u) (isSome-append bs b)
 
-          sized : Dec (length r < heldLimit) → Follows F R before file t c (byteOn (stateAt (transferOf F R t) c) (worldOf F R before file t) c b) (tallyByteOn F R before t c bs b)
+          sized : Dec (length r < heldLimit) → Follows F R before file t c (byteOf w c b) (tallyByteOn F R before t c bs b)
           sized (yes y) =
-              rw (state ∙ view-header bs done r d hr u g, lt-ltb (length r) heldLimit y, u, over-is, ne-eqb (length r) heldLimit (λ x. omega arith))
+              rw (byte-held w c b r (state ∙ view-header bs done r d hr u g) y, u, over-is, ne-eqb (length r) heldLimit (λ x. omega arith))
               (goes-on F R before file t c (bs ++ b ∷ []) i z k (in-header done (r ++ b ∷ []) d (omega (arith, longer-by)) (isSome-append bs b) new)
               (ap cut new ∙ cuts-header done (r ++ b ∷ []) d (omega (arith, longer-by)) .0 ∙ sym (ap accepted e ∙ ap cut g ∙ cuts-header done r d hr .0))
               (rw same-used (i .count)) (header (r ++ b ∷ [])) (view-header (bs ++ b ∷ []) done (r ++ b ∷ []) d (omega (arith, longer-by)) (isSome-append bs b) new) refl)
           sized (no y) =
-              rw (state ∙ view-header bs done r d hr u g, le-ltb (length r) heldLimit (omega arith), u, over-is, eq-eqb (length r) heldLimit (omega arith), used-eq)
+              rw (byte-judged w c b r (state ∙ view-header bs done r d hr u g) (omega arith), u, over-is, eq-eqb (length r) heldLimit (omega arith), used-eq)
               (heeded t c bs done r b i z k e d (omega arith) u g (askedOf F (known (t .streams)) (used (t .streams)) (r ++ b ∷ [])) (asked F (known (t .streams)) (used (t .streams)) (r ++ b ∷ [])))
       go (in-payload done h p d y q u g) =
-          rw (state ∙ view-payload bs done h p d y q u g, u, ap over g ∙ cuts-payload done h p d y (omega arith) .1) (fills F R before file t c bs done h p b i z k e d y q u g)
+          rw (byte-payload w c b _ _ _ (state ∙ view-payload bs done h p d y q u g), u, ap over g ∙ cuts-payload done h p d y (omega arith) .1) (fills F R before file t c bs done h p b i z k e d y q u g)
       go (at-end done h p d y q x u g) =
           absurd (true≢false (sym (ap (λ s. isEnded (view s)) e ∙ ap isEnded (view-end bs done h p d y q x u g)) ∙ o))

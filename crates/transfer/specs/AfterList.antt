@@ -1,5 +1,5 @@
 -- What holds after every list of receive calls: demand 3 but for its last sentence, a field for each sentence.
-use Prim.Native.Nat.{ℕ, _+_, _*_, _≤_, _<_}
+use Prim.Native.Nat.{ℕ, _+_, _*_, _/_, _%_, _≤_, _<_}
 use mathlib.Core.Path.{_≡_}
 use mathlib.Core.Logic.{_↔_, _⊎_}
 use mathlib.Core.Bool.{true}
@@ -7,7 +7,7 @@ use mathlib.Core.List.{List, [], _∷_, _++_}
 use lib.ListN.{length, getD, take, drop}
 use Rattle.ledger.specs.Pairs.{Pairs, none, total, holds}
 use Rattle.ledger.specs.Ledger.{roomOf, obeys, lent, Holds}
-use Rattle.transfer.specs.Channel.{channelCount, stateAt}
+use Rattle.transfer.specs.Channel.{stateAt}
 use Rattle.transfer.specs.Transfer.{endedOf, World, guess, result, broken, verdictOf, storedOf, startNumber}
 use Rattle.transfer.specs.Receive.{Answer}
 use Rattle.transfer.specs.Fit.{fits}
@@ -16,7 +16,7 @@ use Rattle.transfer.specs.Block.{Block, placeOf, sizeOf, claimsOf, place
 use Rattle.transfer.specs.Tally.{Tally, blocksOf, countsOf, known, endedIn, empty, streamAt, callOf}
 use Rattle.transfer.specs.View.{view}
 
--- the world w is what an accepted start leaves, with a file and a ledger of R pairs that holds these ranges
+-- the world w is what an accepted start leaves, with a file and a ledger of R pairs that holds these ranges: none, until a transfer can be resumed
 pub data Begun : World → List ℕ → ℕ → Pairs → Type 0 where
   fresh-start : (file ledger : List ℕ) → startNumber ledger ≡ 0 → Begun (begun file ledger) file (roomOf ledger) none
 
@@ -69,7 +69,7 @@ pub record AfterList (R : ℕ) (before : Pairs) (file : List ℕ) (w : World) (t
   pub file-rest : (p : ℕ) → ((v : ℕ) → Has p v (blocksOf (t .streams)) → ⊥) → getD (w .lent .file) p 0 ≡ getD file p 0
   pub file-length : length (w .lent .file) ≡ length file
   pub file-is : w .lent .file ≡ placed (blocksOf (t .streams)) file
-  -- the byte count is their number, and that of the bytes held before
+  -- the byte count is their number, and that of the bytes in the ranges held from the beginning, 0 until a transfer can be resumed
   pub bytes-are : storedOf w ≡ bytesIn (blocksOf (t .streams)) + total before
   -- the fault's number and channel, the count, the number of channels that have ended and the ledger are the tally's
   pub fault-is : (w .t .fault ≡ t .fault) × (w .t .on ≡ t .on)
@@ -77,7 +77,7 @@ pub record AfterList (R : ℕ) (before : Pairs) (file : List ℕ) (w : World) (t
   pub ended-is : endedOf (w .t) ≡ endedIn (t .streams)
   pub ledger-is : LedgerIs R before (w .lent .claimed) (blocksOf (t .streams))
   -- each channel's state is that of its bytes; after a fault in its header nothing is held of that
-  pub channels-are : (c : ℕ) → c < channelCount → stateAt (w .t) c ≡ view (streamAt t c)
+  pub channels-are : (c : ℕ) → c < 64 → stateAt (w .t) c ≡ view (streamAt t c)
   -- from RESULT on every accepted payload stands whole in the file
   pub stands : Complete t → Stand (w .lent .file) (blocksOf (t .streams))
   -- transfer, file and ledger fit
@@ -90,6 +90,8 @@ pub record Unchanged (v w : World) : Type 0 where
   pub bytes : storedOf w ≡ storedOf v
 
 pub record EveryList : Type 0 where
+  -- every file and every ledger of an even length, up to 8,192 entries, begins
+  pub begins : (file ledger : List ℕ) → length ledger % 2 ≡ 0 → length ledger ≤ 8192 → Begun (begun file ledger) file (length ledger / 2) none
   pub answers-are : (w : World) (file : List ℕ) (R : ℕ) (before : Pairs) → Begun w file R before → (ks : List Call) → answersOf w ks ≡ tallyAnswers (length file) R before ks
   pub after-list : (w : World) (file : List ℕ) (R : ℕ) (before : Pairs) → Begun w file R before → (ks : List Call)
       → AfterList R before file (after w ks) (tallyOf (length file) R before ks)

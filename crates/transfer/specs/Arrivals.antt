@@ -1,5 +1,5 @@
 -- Every arrival of every well-formed sending: the last sentence of demand 3, a field for each of its parts.
-use Prim.Native.Nat.{ℕ, suc, _+_, _<_}
+use Prim.Native.Nat.{ℕ, suc, _+_, _≤_, _<_}
 use mathlib.Core.Path.{_≡_}
 use mathlib.Core.List.{List, _∷_, _++_}
 use lib.ListN.{length, getD}
@@ -31,6 +31,7 @@ pub record EveryArrival : Type 0 where
       → Arrives w file s ks
   -- every sending has an arrival
   pub has-arrival : (s : List Life) → (ks : List Call) × Arrival s ks
-  -- no sending is left out: what is taken whole and ends with RESULT is a well-formed sending, room for pairs apart
+  -- no sending is left out: what is taken whole and ends with RESULT is a well-formed sending, for every ledger with a pair for each payload that is
+  -- not empty and for each range held before
   pub only-well-formed : (w : World) (file : List ℕ) (R : ℕ) (before : Pairs) → Begun w file R before → (ks : List Call) → AllTaken w ks → verdictOf (after w ks) ≡ result
-      → (s : List Life) × Arrival s ks × WellFormed (length file) (nonEmpty (sentBlocks s) + size before) before s
+      → (s : List Life) × Arrival s ks × ((r : ℕ) → nonEmpty (sentBlocks s) + size before ≤ r → WellFormed (length file) r before s)

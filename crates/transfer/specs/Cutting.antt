@@ -3,19 +3,18 @@ use Prim.Native.Nat.{ℕ, _≤_, _<_}
 use mathlib.Core.Path.{_≡_}
 use mathlib.Core.List.{List, [], _∷_, _++_}
 use lib.ListN.{length}
-use Rattle.eblock.specs.Header.{headerLength}
 use Rattle.transfer.specs.Block.{Block, sizeOf, flat, cut, over}
 
 -- each has 17 header bytes, and all but the last have their whole payload
 abbrev pub WholeButLast : List Block → Type 0
 WholeButLast [] = Unit {0}
-WholeButLast (x ∷ []) = (length (x .head) ≡ headerLength) × (length (x .body) ≤ sizeOf x)
-WholeButLast (x ∷ y ∷ xs) = (length (x .head) ≡ headerLength) × (length (x .body) ≡ sizeOf x) × WholeButLast (y ∷ xs)
+WholeButLast (x ∷ []) = (length (x .head) ≡ 17) × (length (x .body) ≤ sizeOf x)
+WholeButLast (x ∷ y ∷ xs) = (length (x .head) ≡ 17) × (length (x .body) ≡ sizeOf x) × WholeButLast (y ∷ xs)
 
 pub record Cutting : Type 0 where
   -- the blocks and the header begun behind them, put back together, are the bytes
   pub together : (bs : List ℕ) → flat (cut bs) ++ over bs ≡ bs
   pub whole : (bs : List ℕ) → WholeButLast (cut bs)
   -- what is begun is not yet a header, and behind a payload that is not whole nothing is begun
-  pub begun : (bs : List ℕ) → length (over bs) < headerLength
+  pub begun : (bs : List ℕ) → length (over bs) < 17
   pub behind : (bs : List ℕ) (front : List Block) (x : Block) → cut bs ≡ front ++ (x ∷ []) → length (x .body) < sizeOf x → over bs ≡ []

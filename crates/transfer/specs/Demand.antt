@@ -4,6 +4,7 @@ use Rattle.transfer.specs.Judgement.{Judgement}
 use Rattle.transfer.specs.Cutting.{Cutting}
 use Rattle.transfer.specs.Fitting.{Fitting}
 use Rattle.transfer.specs.Rows.{Rows}
+use Rattle.transfer.specs.ByteRows.{ByteRows}
 use Rattle.transfer.specs.EachCall.{EachCall}
 use Rattle.transfer.specs.AfterList.{EveryList}
 use Rattle.transfer.specs.Arrivals.{EveryArrival}
@@ -16,8 +17,9 @@ pub record Demand3 : Type 1 where
   pub judgement : Judgement
   pub cutting : Cutting
   pub fitting : Fitting
-  -- what one call answers and leaves, and what it adds to the tally
+  -- what one call and one byte answer and leave, and what a call adds to the tally
   pub rows : Rows
+  pub byte-rows : ByteRows
   pub each-call : EachCall
   -- after every list of calls
   pub every-list : EveryList

@@ -3,16 +3,17 @@ use Prim.Native.Nat.{ℕ, _+_, _*_, _≤_, _<_}
 use mathlib.Core.Path.{_≡_}
 use mathlib.Core.Logic.{_↔_, _⊎_}
 use mathlib.Core.Bool.{true, cond}
+use mathlib.Core.List.{List}
 use lib.Dec.{eqb}
 use lib.ListN.{length, getD}
 use Rattle.ledger.specs.Means.{Obeys}
-use Rattle.eblock.specs.Header.{countLimit}
 use Rattle.transfer.specs.declared.state.Channel.{Channel}
-use Rattle.transfer.specs.Channel.{channelCount, heldLimit, channelAt}
-use Rattle.transfer.specs.Transfer.{sum, usedOf, World}
+use Rattle.transfer.specs.declared.state.Transfer.{Transfer}
+use Rattle.transfer.specs.Channel.{channelAt}
+use Rattle.transfer.specs.Transfer.{sum, usedOf, World, world}
 use Rattle.transfer.specs.Receive.{leftBy, byteOf}
 use Rattle.transfer.specs.Calls.{Call, callOf}
-use Rattle.transfer.specs.Fit.{pairLimit, fits}
+use Rattle.transfer.specs.Fit.{fitsLedger, fits}
 
 abbrev pub InHeader : Channel → Type 0
 InHeader k = k .state ≡ 1
@@ -29,34 +30,36 @@ pub record Fit (w : World) : Type 0 where
   pub file : length (w .lent .file) ≡ w .t .len
   -- the ledger has 2R entries, R at most 4,096, and obeys its rule, with no end above F
   pub entries : length (w .lent .claimed) ≡ 2 * w .t .pairs
-  pub pairs : w .t .pairs ≤ pairLimit
+  pub pairs : w .t .pairs ≤ 4096
   pub rule : Obeys (w .t .pairs) (w .lent .claimed)
   pub ends : (i : ℕ) → getD (w .lent .claimed) (2 * i + 1) 0 ≤ w .t .len
   -- there are 64 channels with 16 held bytes each, and their states are those of the struct
-  pub channels : length (w .t .channels) ≡ channelCount
-  pub heads : length (w .t .heads) ≡ heldLimit * channelCount
-  pub states : (c : ℕ) → c < channelCount → channelAt (w .t) c .state ≤ 4
+  pub channels : length (w .t .channels) ≡ 64
+  pub heads : length (w .t .heads) ≡ 1024
+  pub states : (c : ℕ) → c < 64 → channelAt (w .t) c .state ≤ 4
   -- each payload has 1 or more bytes left, inside one claimed range
-  pub left : (c : ℕ) → c < channelCount → InPayload (channelAt (w .t) c) → 0 < channelAt (w .t) c .left
-  pub inside : (c : ℕ) → c < channelCount → InPayload (channelAt (w .t) c)
+  pub left : (c : ℕ) → c < 64 → InPayload (channelAt (w .t) c) → 0 < channelAt (w .t) c .left
+  pub inside : (c : ℕ) → c < 64 → InPayload (channelAt (w .t) c)
       → (i : ℕ) × (getD (w .lent .claimed) (2 * i) 0 ≤ channelAt (w .t) c .next) × (channelAt (w .t) c .next + channelAt (w .t) c .left ≤ getD (w .lent .claimed) (2 * i + 1) 0)
   -- no two such rests share a byte
-  pub apart : (c d p : ℕ) → c < d → d < channelCount → Awaits (channelAt (w .t) c) p → Awaits (channelAt (w .t) d) p → ⊥
+  pub apart : (c d p : ℕ) → c < d → d < 64 → Awaits (channelAt (w .t) c) p → Awaits (channelAt (w .t) d) p → ⊥
   -- no header holds more than 16 bytes
-  pub held : (c : ℕ) → c < channelCount → InHeader (channelAt (w .t) c) → channelAt (w .t) c .held ≤ heldLimit
+  pub held : (c : ℕ) → c < 64 → InHeader (channelAt (w .t) c) → channelAt (w .t) c .held ≤ 16
   -- whatever isn't in use is 0: held bytes but in a header, and past those that are held; next place and bytes left but in a payload
-  pub none-held : (c : ℕ) → c < channelCount → (InHeader (channelAt (w .t) c) → ⊥) → channelAt (w .t) c .held ≡ 0
-  pub bytes-zero : (c i : ℕ) → c < channelCount → channelAt (w .t) c .held ≤ i → i < heldLimit → getD (w .t .heads) (heldLimit * c + i) 0 ≡ 0
-  pub rest-zero : (c : ℕ) → c < channelCount → (InPayload (channelAt (w .t) c) → ⊥) → (channelAt (w .t) c .next ≡ 0) × (channelAt (w .t) c .left ≡ 0)
+  pub none-held : (c : ℕ) → c < 64 → (InHeader (channelAt (w .t) c) → ⊥) → channelAt (w .t) c .held ≡ 0
+  pub bytes-zero : (c i : ℕ) → c < 64 → channelAt (w .t) c .held ≤ i → i < 16 → getD (w .t .heads) (16 * c + i) 0 ≡ 0
+  pub rest-zero : (c : ℕ) → c < 64 → (InPayload (channelAt (w .t) c) → ⊥) → (channelAt (w .t) c .next ≡ 0) × (channelAt (w .t) c .left ≡ 0)
   -- n is unknown, or in 1 to 64 with used at most n
-  pub count : (w .t .count ≡ 0) ⊎ ((0 < w .t .count) × (w .t .count ≤ countLimit) × (usedOf (w .t) ≤ w .t .count))
+  pub count : (w .t .count ≡ 0) ⊎ ((0 < w .t .count) × (w .t .count ≤ 64) × (usedOf (w .t) ≤ w .t .count))
   -- the fault, if any, is 11 to 20 on a channel below 64
-  pub fault : ((w .t .fault ≡ 0) × (w .t .on ≡ 0)) ⊎ ((11 ≤ w .t .fault) × (w .t .fault ≤ 20) × (w .t .on < channelCount))
+  pub fault : ((w .t .fault ≡ 0) × (w .t .on ≡ 0)) ⊎ ((11 ≤ w .t .fault) × (w .t .fault ≤ 20) × (w .t .on < 64))
 
 pub record Fitting : Type 0 where
+  -- FIT without the file, which the screen line tests: with every file of F bytes they fit
+  pub without-file : (t : Transfer) (claimed : List ℕ) → (fitsLedger t claimed ≡ true) ↔ ((file : List ℕ) → length file ≡ t .len → Fit (world t file claimed))
   pub says : (w : World) → (fits w ≡ true) ↔ Fit w
   -- used are the channels not unused
   pub used-are : (w : World) → Fit w → usedOf (w .t) ≡ sum (λ (k : Channel). cond (eqb (k .state) 0) 0 1) (w .t .channels)
   -- every byte on every channel keeps it, in any world that fits, and so does every call
-  pub byte-keeps : (w : World) (c b : ℕ) → Fit w → c < channelCount → Fit (leftBy (byteOf w c b))
+  pub byte-keeps : (w : World) (c b : ℕ) → Fit w → c < 64 → Fit (leftBy (byteOf w c b))
   pub call-keeps : (w : World) (k : Call) → Fit w → Fit (callOf w k .1)

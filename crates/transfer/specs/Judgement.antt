@@ -7,7 +7,7 @@ use mathlib.Core.Bool.{true, false}
 use mathlib.Core.List.{List, [], _∷_, map}
 use Rattle.ledger.specs.Pairs.{Pairs, size, hit, holds, Ruled}
 use Rattle.eblock.specs.Descriptor.{faultOf}
-use Rattle.eblock.specs.Header.{countLimit, descriptorOf, secondOf, thirdOf}
+use Rattle.eblock.specs.Header.{descriptorOf, secondOf, thirdOf}
 use Rattle.transfer.specs.Header.{isCount, endsChannel, payloadLength, Asks, counts, claims, nothing, faulty, askedOf, claimFault}
 
 -- by the transfer alone: F bytes of file, the known count or 0, and the channels used
@@ -17,8 +17,8 @@ pub data Asked (F known used : ℕ) (h : List ℕ) : Asks → Type 0 where
   -- a second count
   by-14 : faultOf (descriptorOf h) ≡ 0 → isCount h ≡ true → 0 < known → Asked F known used h (faulty 14)
   -- a count that is 0, above 64, or less than the channels used
-  by-15 : faultOf (descriptorOf h) ≡ 0 → isCount h ≡ true → known ≡ 0 → ((thirdOf h ≡ 0) ⊎ ((countLimit < thirdOf h) ⊎ (thirdOf h < used))) → Asked F known used h (faulty 15)
-  for-count : faultOf (descriptorOf h) ≡ 0 → isCount h ≡ true → known ≡ 0 → 0 < thirdOf h → thirdOf h ≤ countLimit → used ≤ thirdOf h
+  by-15 : faultOf (descriptorOf h) ≡ 0 → isCount h ≡ true → known ≡ 0 → ((thirdOf h ≡ 0) ⊎ ((64 < thirdOf h) ⊎ (thirdOf h < used))) → Asked F known used h (faulty 15)
+  for-count : faultOf (descriptorOf h) ≡ 0 → isCount h ≡ true → known ≡ 0 → 0 < thirdOf h → thirdOf h ≤ 64 → used ≤ thirdOf h
       → Asked F known used h (counts (thirdOf h))
   -- an empty payload, wherever it lies
   for-nothing : faultOf (descriptorOf h) ≡ 0 → isCount h ≡ false → secondOf h ≡ 0 → Asked F known used h nothing

@@ -13,6 +13,7 @@ pub mod AfterList
 pub mod EachCall
 pub mod Start
 pub mod Judgement
+pub mod ByteRows
 pub mod Cutting
 pub mod Fitting
 pub mod Sending

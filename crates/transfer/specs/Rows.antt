@@ -4,7 +4,7 @@ use mathlib.Core.Path.{_≡_}
 use mathlib.Core.Bool.{true, false}
 use mathlib.Core.List.{List, [], _∷_, _++_}
 use lib.ListN.{set}
-use Rattle.transfer.specs.Channel.{channelCount, unused, header, payload, ended, stateAt, putState, putFault}
+use Rattle.transfer.specs.Channel.{unused, header, payload, ended, stateAt, putState, putFault}
 use Rattle.transfer.specs.Transfer.{endedOf, usedOf, World, world, withTransfer, guess, verdictOf}
 use Rattle.transfer.specs.Receive.{Took, goes, stops, leaves, refused, took, bytesBy, byteOf, receiveOf}
 use Rattle.transfer.specs.Fit.{fits}
@@ -15,16 +15,16 @@ pub record Rows : Type 1 where
   -- 1: transfer, file and ledger don't fit
   pub row-1 : (w : World) (c : ℕ) (piece : List ℕ) → fits w ≡ false → receiveOf w c piece ≡ (refused 1, w)
   -- 2: there is no such channel
-  pub row-2 : (w : World) (c : ℕ) (piece : List ℕ) → fits w ≡ true → channelCount ≤ c → receiveOf w c piece ≡ (refused 2, w)
+  pub row-2 : (w : World) (c : ℕ) (piece : List ℕ) → fits w ≡ true → 64 ≤ c → receiveOf w c piece ≡ (refused 2, w)
   -- 3: the verdict is not GUESS
-  pub row-3 : (w : World) (c : ℕ) (piece : List ℕ) → fits w ≡ true → c < channelCount → (verdictOf w ≡ guess → ⊥) → receiveOf w c piece ≡ (refused 3, w)
+  pub row-3 : (w : World) (c : ℕ) (piece : List ℕ) → fits w ≡ true → c < 64 → (verdictOf w ≡ guess → ⊥) → receiveOf w c piece ≡ (refused 3, w)
   -- 4: bytes for a channel that has ended
-  pub row-4 : (w : World) (c b : ℕ) (bs : List ℕ) → fits w ≡ true → c < channelCount → verdictOf w ≡ guess → stateAt (w .t) c ≡ ended
+  pub row-4 : (w : World) (c b : ℕ) (bs : List ℕ) → fits w ≡ true → c < 64 → verdictOf w ≡ guess → stateAt (w .t) c ≡ ended
       → receiveOf w c (b ∷ bs) ≡ (refused 4, w)
   -- an empty piece is taken, whatever the channel's state
-  pub row-empty : (w : World) (c : ℕ) → fits w ≡ true → c < channelCount → verdictOf w ≡ guess → receiveOf w c [] ≡ (took 0, w)
+  pub row-empty : (w : World) (c : ℕ) → fits w ≡ true → c < 64 → verdictOf w ≡ guess → receiveOf w c [] ≡ (took 0, w)
   -- otherwise the bytes are taken one after the other
-  pub row-taken : (w : World) (c b : ℕ) (bs : List ℕ) → fits w ≡ true → c < channelCount → verdictOf w ≡ guess → (stateAt (w .t) c ≡ ended → ⊥)
+  pub row-taken : (w : World) (c b : ℕ) (bs : List ℕ) → fits w ≡ true → c < 64 → verdictOf w ≡ guess → (stateAt (w .t) c ≡ ended → ⊥)
       → receiveOf w c (b ∷ bs) ≡ bytesBy (λ v x. byteOf v c x) w (b ∷ bs) 0
   -- at the end of a piece, all of its bytes are taken
   pub piece-none : {W : Type 0} (f : W → ℕ → Took W) (w : W) (k : ℕ) → bytesBy f w [] k ≡ (took k, w)

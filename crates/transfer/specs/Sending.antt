@@ -7,8 +7,7 @@ use lib.Dec.{eqb}
 use lib.ListN.{length}
 use Rattle.ledger.specs.Pairs.{Pairs, size, hit, holds}
 use Rattle.eblock.specs.Descriptor.{faultOf}
-use Rattle.eblock.specs.Header.{headerLength, countLimit, descriptorOf}
-use Rattle.transfer.specs.Channel.{channelCount}
+use Rattle.eblock.specs.Header.{descriptorOf}
 use Rattle.transfer.specs.Transfer.{sum}
 use Rattle.transfer.specs.Header.{endsChannel}
 use Rattle.transfer.specs.Calls.{Call, receive}
@@ -23,7 +22,7 @@ pub record Life : Type 0 where
 
 -- a block as it should be, for a file of F bytes
 pub record SentBlock (F : ℕ) (x : Block) : Type 0 where
-  pub seventeen : length (x .head) ≡ headerLength
+  pub seventeen : length (x .head) ≡ 17
   pub accepted : faultOf (descriptorOf (x .head)) ≡ 0
   -- its whole payload
   pub whole : length (x .body) ≡ sizeOf x
@@ -41,7 +40,7 @@ EndsAtLast (x ∷ []) = endsChannel (x .head) ≡ true
 EndsAtLast (x ∷ y ∷ xs) = (endsChannel (x .head) ≡ false) × EndsAtLast (y ∷ xs)
 
 pub record SentLife (F : ℕ) (x : Life) : Type 0 where
-  pub channel : x .number < channelCount
+  pub channel : x .number < 64
   pub each : SentBlocks F (x .blocks)
   pub ends : EndsAtLast (x .blocks)
 
@@ -68,7 +67,7 @@ nonEmpty xs = sum (λ (x : Block). cond (eqb (sizeOf x) 0) 0 1) xs
 pub record WellFormed (F R : ℕ) (before : Pairs) (s : List Life) : Type 0 where
   -- n channels, 1 to 64, each once
   pub some : 0 < length s
-  pub few : length s ≤ countLimit
+  pub few : length s ≤ 64
   pub once : (c : ℕ) → livesOn c s ≤ 1
   -- on each a list of blocks with accepted descriptors, the last with bit 8 and no other; every payload that is not empty inside F
   pub each : SentLives F s

@@ -4,7 +4,6 @@ use mathlib.Core.Path.{_≡_}
 use mathlib.Core.Logic.{_≢_}
 use mathlib.Core.List.{List}
 use lib.ListN.{length, replicate}
-use Rattle.ledger.specs.Ledger.{entryLimit}
 use Rattle.transfer.specs.declared.state.Transfer.{Transfer}
 use Rattle.transfer.specs.Transfer.{fresh, startNumber, startOf, startLeaves}
 
@@ -14,7 +13,11 @@ Leaves f ledger number t after = (startNumber ledger ≡ number) × (startOf f l
 
 pub record Start : Type 0 where
   -- whole pairs, and not too many: a fresh transfer, and the ledger zeroed
-  pub accepted : (f : ℕ) (ledger : List ℕ) → length ledger % 2 ≡ 0 → length ledger ≤ entryLimit → Leaves f ledger 0 (fresh f (length ledger / 2)) (replicate (length ledger) 0)
+  pub accepted : (f : ℕ) (ledger : List ℕ) → length ledger % 2 ≡ 0 → length ledger ≤ 8192 → Leaves f ledger 0 (fresh f (length ledger / 2)) (replicate (length ledger) 0)
   -- 5: the ledger is left as it was, and the transfer is that of no bytes and no pairs
   pub odd : (f : ℕ) (ledger : List ℕ) → length ledger % 2 ≢ 0 → Leaves f ledger 5 (fresh 0 0) ledger
-  pub long : (f : ℕ) (ledger : List ℕ) → entryLimit < length ledger → Leaves f ledger 5 (fresh 0 0) ledger
+  pub long : (f : ℕ) (ledger : List ℕ) → 8192 < length ledger → Leaves f ledger 5 (fresh 0 0) ledger
+  -- at the limit: 8,192 entries are 4,096 pairs; one entry more, or one pair more, is refused
+  pub last-accepted : (f : ℕ) (ledger : List ℕ) → length ledger ≡ 8192 → Leaves f ledger 0 (fresh f 4096) (replicate (length ledger) 0)
+  pub first-refused : (f : ℕ) (ledger : List ℕ) → length ledger ≡ 8193 → Leaves f ledger 5 (fresh 0 0) ledger
+  pub first-even-refused : (f : ℕ) (ledger : List ℕ) → length ledger ≡ 8194 → Leaves f ledger 5 (fresh 0 0) ledger

@@ -1,4 +1,5 @@
--- The tally (document 01's word): fed only F, R and each call's channel number and piece, it keeps each channel's taken bytes and any fault.
+-- The tally (document 01's word): fed only F, R, the ranges held from the beginning, and each call's channel number and piece, it keeps each channel's
+-- taken bytes and any fault. `before` are those ranges: none, until a transfer can be resumed.
 use Prim.Native.Nat.{ℕ, zero, suc}
 use mathlib.Core.Bool.{Bool, true, false, cond, _&&_, not}
 use mathlib.Core.List.{List, [], _∷_, _++_}
@@ -54,7 +55,7 @@ countsOf ss = countsIn (blocksOf ss)
 abbrev pub known : List Stream → ℕ
 known ss = getD (countsOf ss) 0 0
 
--- claimed before and by these
+-- the ranges held from the beginning, none until a transfer can be resumed, and those that these claim
 abbrev pub claimed : Pairs → List Stream → Pairs
 claimed before ss = claimsOf (blocksOf ss) before
 
