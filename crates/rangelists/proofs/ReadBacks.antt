@@ -1,25 +1,26 @@
 -- The text of a ledger, read back.
-use Prim.Native.Nat.{ℕ, suc, _+_, _-_, _%_, _≤_, _<_}
+use Prim.Native.Nat.{ℕ, suc, _+_, _-_, _≤_, _<_}
 use mathlib.Core.Path.{_≡_, refl, sym, ap, _∙_}
-use mathlib.Core.Bool.{true, and-eq-true-iff}
+use mathlib.Core.Bool.{true, false, and-eq-true-iff}
 use mathlib.Core.List.{List, [], _∷_, _++_, append-nil, append-assoc}
 use native.Mathlib.Omega.{arith}
-use native.Mathlib.Decide.{decLt}
 use native.Mathlib.Numerals.{add-one}
 use borrow.Author.Tests.{lt-ltb, le-ltb, le-leb, leb-true, ne-eqb}
 use lib.Dec.{leb}
-use lib.ListN.{length, drop, length-append}
-use lib.Seq.{take-append-seam, getD-append-seam, drop-append-add}
+use lib.ListN.{length, take, drop, length-append}
+use lib.Seq.{take-at, take-append-seam, getD-append-seam, drop-append-add}
 use Rattle.octets.specs.Decimal.{isDigit, digitRun, digitsOnly, numberOf, width, decimal}
-use Rattle.octets.proofs.Decimals.{width-small, width-step, digitsOnly-inDigits, decimal-reads-back, digit-bounds, length-decimal, width-20}
+use Rattle.octets.proofs.Decimals.{width-some, digitsOnly-inDigits, decimal-reads-back, digit-bounds, length-decimal, width-20}
 use Rattle.ledger.specs.Pairs.{Pairs, none, pair, size, Ruled, join, endsBy}
-use Rattle.ledger.specs.Ledger.{entryLimit, largest, obeys, pairsOf, roomOf}
+use Rattle.ledger.specs.Ledger.{largest, lengthWrong, obeys, pairsOf, roomOf}
 use Rattle.ledger.proofs.Lents.{rule-ruled, lent-pairsOf, size-pairsOf}
-use Rattle.ledger.proofs.Sizes.{length-right}
-use Rattle.rangelists.specs.RangeText.{endLimit, bound, rangeOf, parts, commaRun, merged, added, mergedFrom, rangesOf, readRanges, rangesLeft, rangeText, rangesText}
+use Rattle.ledger.proofs.Sizes.{length-right, length-fits}
+use Rattle.rangelists.specs.RangeText.{endLimit, bound, rangeOf, parts, commaRun, merged, added, mergedFrom, rangesOf, readRanges, rangesLeft, rangeText, rangesText, writeRanges, rangesWritten}
+use Rattle.rangelists.specs.RangeLists.{Reads}
 use Rattle.ledger.specs.declared.answer.Loaded.the-variants.{Done}
+use Rattle.ledger.specs.declared.answer.Written.the-variants.{Bytes}
 use Rattle.rangelists.specs.declared.ranges.Range.the-variants.{Places}
-use Rattle.rangelists.proofs.Answered.{reads-merged}
+use Rattle.rangelists.proofs.Answered.{reads-merged, written}
 use Rattle.rangelists.proofs.Commas.{parts-last, parts-next}
 
 -- ---- one range
@@ -27,13 +28,6 @@ use Rattle.rangelists.proofs.Commas.{parts-last, parts-next}
 digits-decimal : (n : ℕ) → digitsOnly (decimal n) ≡ true
 unfolding decimal
 digits-decimal n = digitsOnly-inDigits (width n) n
-
-width-some : (n : ℕ) → 1 ≤ width n
-width-some n = go (decLt n 10)
-  where
-    go : Dec (n < 10) → 1 ≤ width n
-    go (yes h) = omega (arith, width-small n h)
-    go (no h) = omega (arith, width-step n (omega arith))
 
 bound-decimal : (n : ℕ) → n ≤ endLimit → bound (decimal n) ≡ true
 unfolding bound
@@ -169,13 +163,30 @@ merged-chain r qs (pair a b ps) c n f =
     rw (range-reads-back a b (i .1) (leb-true b largest (q .0)), j, le-ltb r (size (chain qs (pair a b none))) k)
     (merged-chain r (chain qs (pair a b none)) ps (rw e c) (rw e n) (q .1) ∙ rw e)
 
-pub reads-back : (l m : List ℕ) → length l % 2 ≡ 0 → length l ≤ entryLimit → obeys l ≡ true → 0 < size (pairsOf l)
-    → endsBy largest (pairsOf l) ≡ true → length m ≡ length l
-    → (readRanges (rangesText (pairsOf l)) m ≡ Done) × (rangesLeft (rangesText (pairsOf l)) m ≡ l)
-unfolding rangesOf obeys chain
-reads-back l m n h o s f e =
-    let w = length-right m (omega arith) (omega arith) in
-    let c : rangesOf (roomOf m) (rangesText (pairsOf l)) ≡ merged (pairsOf l) =
-    rw (parts-texts (pairsOf l) s) (merged-chain (roomOf m) none (pairsOf l) (rule-ruled 0 l o) (omega (arith, size-pairsOf l)) f) in
-    let r = reads-merged (rangesText (pairsOf l)) m w (pairsOf l) c in
-    (sym (r .0), sym (r .1) ∙ sym (lent-pairsOf (roomOf m) 0 l o (omega arith)))
+-- ---- the text that the writer left
+
+text-back : (ps : Pairs) (m : List ℕ) → 0 < size ps → Ruled 0 ps → endsBy largest ps ≡ true → lengthWrong m ≡ false → size ps ≤ roomOf m
+    → Reads (rangesText ps) ps m
+unfolding rangesOf chain
+text-back ps m some ruled ends lengths room =
+    let c : rangesOf (roomOf m) (rangesText ps) ≡ merged ps = rw (parts-texts ps some) (merged-chain (roomOf m) none ps ruled room ends) in
+    let r = reads-merged (rangesText ps) m lengths ps c in
+    record { accepted = sym (r .0); left = sym (r .1) }
+
+pub reads-back : (l out m : List ℕ) (n : ℕ) → writeRanges l out ≡ Bytes n → endsBy largest (pairsOf l) ≡ true → lengthWrong m ≡ false → size (pairsOf l) ≤ roomOf m
+    → Reads (take n (rangesWritten l out)) (pairsOf l) m
+unfolding obeys
+reads-back l out m n e ends lengths room =
+    let w = written l out n e in
+    let text = rangesText (pairsOf l) in
+    rw (w .left, take-at text (drop (length text) out) n (w .bytes)) (text-back (pairsOf l) m (w .some) (rule-ruled 0 l (w .ruled)) ends lengths room)
+
+pub reads-same : (l out m : List ℕ) (n : ℕ) → writeRanges l out ≡ Bytes n → endsBy largest (pairsOf l) ≡ true → length m ≡ length l
+    → (readRanges (take n (rangesWritten l out)) m ≡ Done) × (rangesLeft (take n (rangesWritten l out)) m ≡ l)
+unfolding obeys
+reads-same l out m n e ends same =
+    let w = written l out n e in
+    let f = length-fits l (w .lengths) in
+    let lengths : lengthWrong m ≡ false = length-right m (omega (arith, f .0)) (omega (arith, f .1)) in
+    let r = reads-back l out m n e ends lengths (omega (arith, size-pairsOf l)) in
+    (r .accepted, r .left ∙ sym (lent-pairsOf (roomOf m) 0 l (w .ruled) (omega (arith, f .0))))
