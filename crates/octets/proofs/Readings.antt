@@ -1,7 +1,7 @@
 -- `Reading` holds: what the readers of numbers answer, and what follows from a number that was read.
-use Prim.Native.Nat.{ℕ, suc, _+_, _*_, _-_, _≤_, _<_}
+use Prim.Native.Nat.{ℕ, zero, suc, _+_, _*_, _-_, _≤_, _<_}
 use mathlib.Core.Path.{_≡_, refl}
-use mathlib.Core.Bool.{Bool, true, false, cond, _&&_, and-false}
+use mathlib.Core.Bool.{Bool, true, false, cond, _&&_, and-false, and-eq-true-iff}
 use mathlib.Core.Logic.{_⊎_, inl, inr}
 use mathlib.Core.List.{List, [], _∷_, _++_, map, map-append}
 use native.Mathlib.Omega.{arith}
@@ -13,7 +13,7 @@ use Rattle.octets.specs.Decimal.{isDigit, digitsOnly, digitValue, number
 use Rattle.octets.specs.Reading.{Reading}
 use Rattle.octets.specs.declared.decimal.Number.the-variants.{Value, Nothing}
 use Rattle.octets.proofs.Digits.{fromBig-snoc, fromLittle-cons}
-use Rattle.octets.proofs.Decimals.{digit-is, digitsOnly-not}
+use Rattle.octets.proofs.Decimals.{digit-is, digit-bounds, digitsOnly-not}
 
 -- ---- what a text reads as
 
@@ -49,12 +49,18 @@ readOf-read text n limit h = go (ltb 0 (length text)) (digitsOnly text) (leb (nu
 
 -- ---- byte by byte
 
-digits-at : (text : List ℕ) → ((i : ℕ) → i < length text → (48 ≤ getD text i 0) × (getD text i 0 ≤ 57)) → digitsOnly text ≡ true
+pub digits-at : (text : List ℕ) → ((i : ℕ) → i < length text → (48 ≤ getD text i 0) × (getD text i 0 ≤ 57)) → digitsOnly text ≡ true
 unfolding digitsOnly
 digits-at [] h = refl
 digits-at (b ∷ bs) h =
     let d = h 0 (omega arith) in
     rw (digit-is b (d .0) (d .1), digits-at bs (λ i g. h (suc i) (omega arith)))
+
+pub at-digits : (text : List ℕ) → digitsOnly text ≡ true → (i : ℕ) → i < length text → (48 ≤ getD text i 0) × (getD text i 0 ≤ 57)
+unfolding digitsOnly
+at-digits [] h i l = absurd (omega arith)
+at-digits (b ∷ bs) h zero l = digit-bounds b (and-eq-true-iff (isDigit b) (digitsOnly bs) .0 h .0)
+at-digits (b ∷ bs) h (suc i) l = at-digits bs (and-eq-true-iff (isDigit b) (digitsOnly bs) .0 h .1) i (omega arith)
 
 other-byte : (b : ℕ) → (b < 48) ⊎ (57 < b) → isDigit b ≡ false
 other-byte b (inl h) = rw (lt-leb 48 b h)

@@ -2,7 +2,9 @@ mod Placing
 pub mod RangeTexts
 pub mod Answered
 mod Commas
+pub mod Parted
 mod Bounds
+pub mod OneRanges
 pub mod Merging
 mod Unions
 mod ReadBacks

@@ -1,3 +1,5 @@
 pub mod RangeText
+pub mod OneRange
+pub mod Parts
 pub mod RangeLists
 pub mod ProvedSet
