@@ -1,6 +1,7 @@
 -- What the writer and the reader of range lists answer, case by case.
-use Prim.Native.Nat.{ℕ, _<_, _≤_}
+use Prim.Native.Nat.{ℕ, _%_, _<_, _≤_}
 use mathlib.Core.Path.{_≡_, refl}
+use mathlib.Core.Logic.{_⊎_, inl, inr}
 use mathlib.Core.Bool.{Bool, true, false, cond, not}
 use mathlib.Core.List.{List, _++_}
 use native.Mathlib.Omega.{arith}
@@ -13,7 +14,17 @@ use Rattle.ledger.specs.Ledger.{lengthWrong, obeys, pairsOf, lent, roomOf}
 use Rattle.rangelists.specs.RangeText.{merged, trouble, loaded, laidOut, readRanges, rangesLeft, rangesOf, rangesText, rangesNumber, writeRanges, rangesWritten, putAt}
 use Rattle.ledger.specs.declared.answer.Loaded.the-variants.{Done, Refused}
 use Rattle.ledger.specs.declared.answer.Written.the-variants.{Bytes, Refused as NotWritten}
-use Rattle.rangelists.proofs.RangeTexts.{text-empty, text-some}
+use Rattle.ledger.proofs.Sizes.{length-fits}
+
+-- ---- a ledger whose length is wrong
+
+pub wrong-length : (ledger : List ℕ) → (length ledger % 2 ≡ 1) ⊎ (8192 < length ledger) → lengthWrong ledger ≡ true
+wrong-length ledger o = go (lengthWrong ledger) refl o
+  where
+    go : (t : Bool) → lengthWrong ledger ≡ t → (length ledger % 2 ≡ 1) ⊎ (8192 < length ledger) → t ≡ true
+    go true e o = refl
+    go false e (inl h) = absurd (omega (arith, length-fits ledger e .0))
+    go false e (inr h) = absurd (omega (arith, length-fits ledger e .1))
 
 -- ---- the writer
 
@@ -28,20 +39,20 @@ module _ (ledger out : List ℕ) where
     number-1 o = rw (w, o)
 
     module _ (o : obeys ledger ≡ true) where
-      pub number-54 : length (rangesText (pairsOf ledger)) ≡ 0 → rangesNumber ledger out ≡ 54
+      pub number-54 : size (pairsOf ledger) ≡ 0 → rangesNumber ledger out ≡ 54
       unfolding rangesNumber
-      number-54 z = rw (w, o, eq-eqb (size (pairsOf ledger)) 0 (text-empty (pairsOf ledger) z))
+      number-54 z = rw (w, o, eq-eqb (size (pairsOf ledger)) 0 z)
 
-      module _ (z : length (rangesText (pairsOf ledger)) ≡ 0 → ⊥) where
+      module _ (z : size (pairsOf ledger) ≡ 0 → ⊥) where
         pub number-55 : length out < length (rangesText (pairsOf ledger)) → rangesNumber ledger out ≡ 55
         unfolding rangesNumber
         number-55 l =
-            rw (w, o, ne-eqb (size (pairsOf ledger)) 0 (text-some (pairsOf ledger) z), lt-ltb (length out) (length (rangesText (pairsOf ledger))) l)
+            rw (w, o, ne-eqb (size (pairsOf ledger)) 0 z, lt-ltb (length out) (length (rangesText (pairsOf ledger))) l)
 
         pub number-0 : length (rangesText (pairsOf ledger)) ≤ length out → rangesNumber ledger out ≡ 0
         unfolding rangesNumber
         number-0 l =
-            rw (w, o, ne-eqb (size (pairsOf ledger)) 0 (text-some (pairsOf ledger) z), le-ltb (length out) (length (rangesText (pairsOf ledger))) l)
+            rw (w, o, ne-eqb (size (pairsOf ledger)) 0 z, le-ltb (length out) (length (rangesText (pairsOf ledger))) l)
 
   pub writes-refused : (k : ℕ) → rangesNumber ledger out ≡ k → 0 < k → (NotWritten k ≡ writeRanges ledger out) × (out ≡ rangesWritten ledger out)
   unfolding writeRanges rangesWritten

@@ -9,4 +9,6 @@ pub mod Merging
 mod Unions
 mod ReadBacks
 pub mod RangeListed
+pub mod RangeRead
+pub mod RangeWritten
 pub mod ProvedSets
