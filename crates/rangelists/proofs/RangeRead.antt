@@ -11,8 +11,9 @@ use Rattle.ledger.specs.Pairs.{Pairs, none, size, join}
 use Rattle.ledger.specs.Ledger.{lengthWrong, roomOf}
 use Rattle.ledger.specs.Answer.{loadedNumber}
 use Rattle.ledger.proofs.Sizes.{length-right}
-use Rattle.rangelists.specs.RangeText.{parts, rangeOf, Merged, merged, trouble, added, mergedFrom, rangesOf, loaded, readRanges}
-use Rattle.rangelists.specs.RangeReading.{Merges, no-range, one-more, Trouble, by-51, by-52, RangeReading}
+use Rattle.rangelists.specs.RangeText.{parts, rangeOf, Merged, merged, trouble, added, mergedFrom, rangesOf, loaded, readRanges, rangesLeft}
+use Rattle.rangelists.specs.RangeReading.{Merges, no-range, one-more, Trouble, by-51, by-52, Reads, Refuses, RangeReading}
+use Rattle.ledger.specs.declared.answer.Loaded.the-variants.{Refused}
 use Rattle.rangelists.specs.declared.ranges.Range.{Range}
 use Rattle.rangelists.specs.declared.ranges.Range.the-variants.{Places, Malformed}
 use Rattle.rangelists.proofs.Answered.{wrong-length, reads-53, reads-trouble, reads-merged}
@@ -92,17 +93,24 @@ module _ (text ledger : List ℕ) (w : lengthWrong ledger ≡ false) where
       go (trouble k) (stops _ (by-51 before after t ps e m x)) h = absurd (omega arith)
       go (trouble k) (stops _ (by-52 before after t ps s e q m x l)) h = absurd (omega arith)
 
-pub range-reading : (text ledger : List ℕ) → RangeReading text ledger
-unfolding rangesOf loadedNumber
-range-reading text ledger =
-    record {
-      wrong-length = λ o. let r = reads-53 text ledger (wrong-length ledger o) in (sym (ap loadedNumber (r .0)), sym (r .1));
-      trouble-is = λ e l k t.
-          let r = reads-trouble text ledger (length-right ledger e l) k (trouble-stops (roomOf ledger) k (parts text) t) in
-          (sym (ap loadedNumber (r .0)), sym (r .1));
-      trouble-only = λ e l. trouble-only text ledger (length-right ledger e l);
-      merged-is = λ e l ps m.
-          let r = reads-merged text ledger (length-right ledger e l) ps (merges-all (roomOf ledger) ps (parts text) m) in
-          (sym (ap loadedNumber (r .0)), sym (r .1));
-      merged-only = λ e l. merged-only text ledger (length-right ledger e l);
-    }
+module _ (text ledger : List ℕ) where
+  refuses : (k : ℕ) (after : List ℕ) → (Refused k ≡ readRanges text ledger) × (after ≡ rangesLeft text ledger) → Refuses text ledger k after
+  unfolding loadedNumber
+  refuses k after r = record { number = sym (ap loadedNumber (r .0)); left = sym (r .1) }
+
+  pub reads : lengthWrong ledger ≡ false → (ps : Pairs) → rangesOf (roomOf ledger) text ≡ merged ps → Reads text ledger ps
+  unfolding loadedNumber
+  reads w ps m =
+      let r = reads-merged text ledger w ps m in
+      record { accepted = sym (r .0); number = sym (ap loadedNumber (r .0)); left = sym (r .1) }
+
+  pub range-reading : RangeReading text ledger
+  unfolding rangesOf
+  range-reading =
+      record {
+        wrong-length = λ o. refuses 53 ledger (reads-53 text ledger (wrong-length ledger o));
+        trouble-is = λ e l k t. refuses k _ (reads-trouble text ledger (length-right ledger e l) k (trouble-stops (roomOf ledger) k (parts text) t));
+        trouble-only = λ e l. trouble-only text ledger (length-right ledger e l);
+        merged-is = λ e l ps m. reads (length-right ledger e l) ps (merges-all (roomOf ledger) ps (parts text) m);
+        merged-only = λ e l. merged-only text ledger (length-right ledger e l);
+      }

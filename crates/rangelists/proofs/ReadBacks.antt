@@ -19,12 +19,13 @@ use Rattle.ledger.proofs.Sizes.{length-right, length-fits}
 use Rattle.rangelists.specs.RangeText.{rangeOf, parts, merged, added, mergedFrom, rangesOf, readRanges, rangesLeft, rangeText, rangesText, writeRanges, rangesWritten}
 use Rattle.rangelists.specs.OneRange.{Bound}
 use Rattle.rangelists.specs.Parts.{withCommas, NoComma}
-use Rattle.rangelists.specs.RangeLists.{Reads}
+use Rattle.rangelists.specs.RangeReading.{Reads}
 use Rattle.ledger.specs.declared.answer.Loaded.the-variants.{Done}
 use Rattle.ledger.specs.declared.answer.Written.the-variants.{Bytes}
 use Rattle.rangelists.specs.declared.ranges.Range.the-variants.{Places}
-use Rattle.rangelists.proofs.Answered.{reads-merged, written}
+use Rattle.rangelists.proofs.Answered.{written}
 use Rattle.rangelists.proofs.OneRanges.{range-reads}
+use Rattle.rangelists.proofs.RangeRead.{reads}
 use Rattle.rangelists.proofs.Parted.{no-comma-cons, no-comma-append, parts-only}
 
 -- ---- one range
@@ -141,15 +142,13 @@ merged-chain r qs (pair a b ps) c n f =
 -- ---- the text that the writer left
 
 text-back : (ps : Pairs) (m : List ℕ) → 0 < size ps → Ruled 0 ps → endsBy largest ps ≡ true → lengthWrong m ≡ false → size ps ≤ roomOf m
-    → Reads (rangesText ps) ps m
+    → Reads (rangesText ps) m ps
 unfolding rangesOf chain
 text-back ps m some ruled ends lengths room =
-    let c : rangesOf (roomOf m) (rangesText ps) ≡ merged ps = rw (parts-texts ps some) (merged-chain (roomOf m) none ps ruled room ends) in
-    let r = reads-merged (rangesText ps) m lengths ps c in
-    record { accepted = sym (r .0); left = sym (r .1) }
+    reads (rangesText ps) m lengths ps (rw (parts-texts ps some) (merged-chain (roomOf m) none ps ruled room ends))
 
 pub reads-back : (l out m : List ℕ) (n : ℕ) → writeRanges l out ≡ Bytes n → endsBy largest (pairsOf l) ≡ true → lengthWrong m ≡ false → size (pairsOf l) ≤ roomOf m
-    → Reads (take n (rangesWritten l out)) (pairsOf l) m
+    → Reads (take n (rangesWritten l out)) m (pairsOf l)
 unfolding obeys
 reads-back l out m n e ends lengths room =
     let w = written l out n e in

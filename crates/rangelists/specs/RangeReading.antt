@@ -8,6 +8,7 @@ use Rattle.ledger.specs.Pairs.{Pairs, none, size, join}
 use Rattle.ledger.specs.Ledger.{lent, roomOf}
 use Rattle.ledger.specs.Answer.{loadedNumber}
 use Rattle.rangelists.specs.RangeText.{parts, rangeOf, readRanges, rangesLeft}
+use Rattle.ledger.specs.declared.answer.Loaded.the-variants.{Done}
 use Rattle.rangelists.specs.declared.ranges.Range.the-variants.{Places, Malformed}
 
 -- the texts are ranges that, joined to the pairs ps one after another, give qs and never need more than r pairs
@@ -25,17 +26,27 @@ pub data Trouble (r : ℕ) (texts : List (List ℕ)) : ℕ → Type 0 where
   by-52 : (before after : List (List ℕ)) (t : List ℕ) (ps : Pairs) (s e : ℕ) → texts ≡ before ++ (t ∷ after) → Merges r none before ps
       → rangeOf t ≡ Places s e → r < size (join s e ps) → Trouble r texts 52
 
+-- the text is read: the ledger holds these pairs, and zeros after them
+pub record Reads (text ledger : List ℕ) (ps : Pairs) : Type 0 where
+  pub accepted : readRanges text ledger ≡ Done
+  pub number : loadedNumber (readRanges text ledger) ≡ 0
+  pub left : rangesLeft text ledger ≡ lent (roomOf ledger) ps
+
+-- the text is refused with this number, and the ledger becomes this one
+pub record Refuses (text ledger : List ℕ) (k : ℕ) (after : List ℕ) : Type 0 where
+  pub number : loadedNumber (readRanges text ledger) ≡ k
+  pub left : rangesLeft text ledger ≡ after
+
 pub record RangeReading (text ledger : List ℕ) : Type 0 where
   -- 53: a ledger whose length is odd or above 8,192 stays as it is
-  pub wrong-length : (length ledger % 2 ≡ 1) ⊎ (8192 < length ledger)
-      → (loadedNumber (readRanges text ledger) ≡ 53) × (rangesLeft text ledger ≡ ledger)
+  pub wrong-length : (length ledger % 2 ≡ 1) ⊎ (8192 < length ledger) → Refuses text ledger 53 ledger
   -- 51 or 52: the first trouble, which leaves the ledger all zero; no other text has a number above 0
   pub trouble-is : length ledger % 2 ≡ 0 → length ledger ≤ 8192 → (k : ℕ) → Trouble (roomOf ledger) (parts text) k
-      → (loadedNumber (readRanges text ledger) ≡ k) × (rangesLeft text ledger ≡ replicate (length ledger) 0)
+      → Refuses text ledger k (replicate (length ledger) 0)
   pub trouble-only : length ledger % 2 ≡ 0 → length ledger ≤ 8192 → 0 < loadedNumber (readRanges text ledger)
       → Trouble (roomOf ledger) (parts text) (loadedNumber (readRanges text ledger))
   -- 0: the merged pairs, and zeros after them; no other text has the number 0
   pub merged-is : length ledger % 2 ≡ 0 → length ledger ≤ 8192 → (ps : Pairs) → Merges (roomOf ledger) none (parts text) ps
-      → (loadedNumber (readRanges text ledger) ≡ 0) × (rangesLeft text ledger ≡ lent (roomOf ledger) ps)
+      → Reads text ledger ps
   pub merged-only : length ledger % 2 ≡ 0 → length ledger ≤ 8192 → loadedNumber (readRanges text ledger) ≡ 0
       → (ps : Pairs) × Merges (roomOf ledger) none (parts text) ps

@@ -13,12 +13,14 @@ use Rattle.ledger.specs.Ledger.{largest, lengthWrong, roomOf, obeys, pairsOf, l
 use Rattle.ledger.proofs.Lents.{length-lent, pairsOf-lent, rule-lent, rule-ruled, lent-pairsOf, size-pairsOf}
 use Rattle.ledger.proofs.Sizes.{length-right, length-fits}
 use Rattle.savedledgers.specs.Saved.{kindOne, bytesOf, framed, bodyOf, frameNumber, savedPairs, savedNumber, readSaved, savedLeft, savedOf, writeSaved, savedWritten, inOrder}
-use Rattle.savedledgers.specs.SavedTrip.{Reads, Rewrites, SavedTrip}
+use Rattle.savedledgers.specs.SavedReading.{Reads}
+use Rattle.savedledgers.specs.SavedTrip.{Rewrites, SavedTrip}
 use Rattle.ledger.specs.declared.answer.Loaded.the-variants.{Done}
 use Rattle.ledger.specs.declared.answer.Written.the-variants.{Bytes}
 use Rattle.savedledgers.proofs.Bodies.{order-ruled, ruled-order, size-pairsIn, length-bytesOf, pairsIn-bytesOf, bytesOf-pairsIn}
 use Rattle.savedledgers.proofs.Frames.{body-back, frame-back, framed-same}
 use Rattle.savedledgers.proofs.Loads.{Sound, number-sound, number-none, reads-done}
+use Rattle.savedledgers.proofs.SavedReadings.{reads}
 use Rattle.savedledgers.proofs.Saves.{save-none, length-savedOf, writes-done, written}
 
 -- ---- saved and read
@@ -30,7 +32,7 @@ module _ (ps : Pairs) (ruled : Ruled 0 ps) (ends : endsBy largest ps ≡ true) w
       let n : length (bytesOf ps) / 16 ≡ size ps = omega (arith, length-bytesOf ps) in
       rw (body-back kindOne (bytesOf ps), n) (pairsIn-bytesOf 0 ps ruled ends)
 
-  pairs-back : (m : List ℕ) → lengthWrong m ≡ false → size ps ≤ 4096 → size ps ≤ roomOf m → Reads (savedOf ps) ps m
+  pairs-back : (m : List ℕ) → lengthWrong m ≡ false → size ps ≤ 4096 → size ps ≤ roomOf m → Reads (savedOf ps) m ps
   unfolding savedOf
   pairs-back m lengths few room =
       let h = savedOf ps in
@@ -38,11 +40,10 @@ module _ (ps : Pairs) (ruled : Ruled 0 ps) (ends : endsBy largest ps ≡ true) w
       let frame : frameNumber kindOne h ≡ 0 = frame-back kindOne (bytesOf ps) (omega arith) (omega arith) in
       let body : length (bodyOf h) ≡ 16 * size ps = ap length (body-back kindOne (bytesOf ps)) ∙ l in
       let order : inOrder 0 (savedPairs h) ≡ true = rw saved-pairs (order-ruled 0 ps ruled) in
-      let r = reads-done h m (number-none h m lengths frame (omega arith) order (omega arith)) in
-      record { accepted = r .0; left = r .1 ∙ ap (lent (roomOf m)) saved-pairs }
+      rw saved-pairs at (reads h m (number-none h m lengths frame (omega arith) order (omega arith)))
 
 module _ (l out m : List ℕ) (n : ℕ) (e : writeSaved l out ≡ Bytes n) (ends : endsBy largest (pairsOf l) ≡ true) where
-  reads-saved : lengthWrong m ≡ false → size (pairsOf l) ≤ roomOf m → Reads (take n (savedWritten l out)) (pairsOf l) m
+  reads-saved : lengthWrong m ≡ false → size (pairsOf l) ≤ roomOf m → Reads (take n (savedWritten l out)) m (pairsOf l)
   unfolding obeys
   reads-saved lengths room =
       let w = written l out n e in

@@ -5,16 +5,12 @@ use mathlib.Core.Bool.{true, false}
 use mathlib.Core.List.{List, [], _∷_, _++_}
 use lib.ListN.{length, take, drop}
 use Rattle.octets.specs.Digits.{Below}
-use Rattle.ledger.specs.Pairs.{Pairs, none, pair, size, endsBy}
-use Rattle.ledger.specs.Ledger.{lengthWrong, roomOf, obeys, pairsOf, lent}
+use Rattle.ledger.specs.Pairs.{none, pair, size, endsBy}
+use Rattle.ledger.specs.Ledger.{lengthWrong, roomOf, obeys, pairsOf}
 use Rattle.savedledgers.specs.Saved.{savedNumber, readSaved, savedLeft, savedOf, writeSaved, savedWritten}
+use Rattle.savedledgers.specs.SavedReading.{Reads}
 use Rattle.ledger.specs.declared.answer.Loaded.the-variants.{Done}
 use Rattle.ledger.specs.declared.answer.Written.the-variants.{Bytes}
-
--- the saved bytes are read into the ledger m, which then holds these pairs and zeros after them
-pub record Reads (saved : List ℕ) (ps : Pairs) (m : List ℕ) : Type 0 where
-  pub accepted : readSaved saved m ≡ Done
-  pub left : savedLeft saved m ≡ lent (roomOf m) ps
 
 -- the ledger l is written as the bytes h, before what else is lent
 pub record Rewrites (h l : List ℕ) : Type 0 where
@@ -25,7 +21,7 @@ pub record Rewrites (h l : List ℕ) : Type 0 where
 pub record SavedTrip : Type 0 where
   -- the n bytes that the writer says it wrote are read into any ledger m that has room for the pairs of l, whatever m holds
   pub reads-what-was-saved : (l out m : List ℕ) (n : ℕ) → writeSaved l out ≡ Bytes n → endsBy 18446744073709551615 (pairsOf l) ≡ true
-      → lengthWrong m ≡ false → size (pairsOf l) ≤ roomOf m → Reads (take n (savedWritten l out)) (pairsOf l) m
+      → lengthWrong m ≡ false → size (pairsOf l) ≤ roomOf m → Reads (take n (savedWritten l out)) m (pairsOf l)
   -- and into one of its own length as l again
   pub reads-the-same : (l out m : List ℕ) (n : ℕ) → writeSaved l out ≡ Bytes n → endsBy 18446744073709551615 (pairsOf l) ≡ true
       → length m ≡ length l → (readSaved (take n (savedWritten l out)) m ≡ Done) × (savedLeft (take n (savedWritten l out)) m ≡ l)
