@@ -68,6 +68,13 @@ width-fits n = by-depth n n (le-refl n)
         go (yes l) ih = rw (width-small n l) l
         go (no l) ih = rw (width-step n (omega arith), pow-suc 10 (width (n / 10))) (omega (arith, ih (omega arith)))
 
+pub width-some : (n : ℕ) → 1 ≤ width n
+width-some n = go (decLt n 10)
+  where
+    go : Dec (n < 10) → 1 ≤ width n
+    go (yes h) = omega (arith, width-small n h)
+    go (no h) = omega (arith, width-step n (omega arith))
+
 width-le : (w n : ℕ) → n < 10 ^ suc w → width n ≤ suc w
 width-le zero n h = omega (arith, width-small n h)
 width-le (suc w) n h = go (decLt n (10 ^ suc w)) (width-le w n)
@@ -80,9 +87,13 @@ width-le (suc w) n h = go (decLt n (10 ^ suc w)) (width-le w n)
 pub width-20 : (n : ℕ) → n < 18446744073709551616 → width n ≤ 20
 width-20 n h = width-le 19 n (omega arith)
 
+pub length-inDigits : (w n : ℕ) → length (inDigits w n) ≡ w
+unfolding inDigits
+length-inDigits w n = length-map (toBig 10 w n) digitByte ∙ length-toBig 10 w n
+
 pub length-decimal : (n : ℕ) → length (decimal n) ≡ width n
-unfolding decimal inDigits
-length-decimal n = length-map (toBig 10 (width n) n) digitByte ∙ length-toBig 10 (width n) n
+unfolding decimal
+length-decimal n = length-inDigits (width n) n
 
 -- ---- one digit more
 
@@ -167,18 +178,6 @@ numberOf-above text i limit h =
     let w : fromBig 10 (map digitValue (take i text)) ≤ fromBig 10 (map digitValue text) =
     rw (← map-append digitValue (take i text) (drop i text), take-append-drop i text) at g in
     lt-leb (fromBig 10 (map digitValue text)) limit (omega arith)
-
-pub readOf-spoilt : (text : List ℕ) (limit : ℕ) → digitsOnly text ≡ false → readOf text limit ≡ Nothing
-unfolding readOf
-readOf-spoilt text limit e = rw (e, and-false (ltb 0 (length text)))
-
-pub readOf-above : (text : List ℕ) (limit : ℕ) → leb (numberOf text) limit ≡ false → readOf text limit ≡ Nothing
-unfolding readOf
-readOf-above text limit e = rw (e, and-false (digitsOnly text), and-false (ltb 0 (length text)))
-
-pub readOf-value : (text : List ℕ) (limit : ℕ) → 0 < length text → digitsOnly text ≡ true → numberOf text ≤ limit → readOf text limit ≡ Value (numberOf text)
-unfolding readOf
-readOf-value text limit h d l = rw (lt-ltb 0 (length text) h, d, le-leb (numberOf text) limit l)
 
 -- ---- there and back
 

@@ -1,4 +1,5 @@
 pub mod Digits
 pub mod Decimals
+pub mod Readings
 mod Turn
 pub mod RoundTrips

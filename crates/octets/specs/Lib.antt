@@ -1,4 +1,5 @@
 pub mod Digits
 pub mod Decimal
+pub mod Reading
 pub mod RoundTrip
 pub mod Cases

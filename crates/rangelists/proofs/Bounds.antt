@@ -4,23 +4,25 @@ use mathlib.Core.Path.{_≡_, refl}
 use mathlib.Core.Bool.{Bool, true, false, cond, _&&_, and-true, and-false, and-eq-true-iff}
 use mathlib.Core.List.{List}
 use native.Mathlib.Omega.{arith}
-use borrow.Author.Tests.{le-leb, lt-leb, leb-true, eq-eqb, ne-eqb}
+use borrow.Author.Tests.{le-leb, lt-leb, leb-true, eq-eqb, ne-eqb, eqb-true}
 use lib.Dec.{leb, eqb}
 use lib.ListN.{length, getD, take, drop, List·getD-eq-default}
 use Rattle.octets.specs.Decimal.{digitRun, digitsOnly, numberOf, readOf}
 use Rattle.octets.specs.declared.decimal.Number.the-variants.{Value, Nothing}
-use Rattle.rangelists.specs.RangeText.{endLimit, bound, boundOf, rangeOf}
+use Rattle.octets.proofs.Readings.{digits-at, at-digits}
+use Rattle.rangelists.specs.RangeText.{endLimit, digitLimit, bound, boundOf, rangeOf}
+use Rattle.rangelists.specs.OneRange.{Bound}
 use Rattle.rangelists.specs.declared.ranges.Range.the-variants.{Places, Malformed}
 
 -- ---- a number
 
-pub bound-long : (text : List ℕ) → 20 < length text → boundOf text ≡ Nothing
+pub bound-long : (text : List ℕ) → digitLimit < length text → boundOf text ≡ Nothing
 unfolding bound boundOf
-bound-long text h = rw (lt-leb (length text) 20 h, and-false (leb 1 (length text)))
+bound-long text h = rw (lt-leb (length text) digitLimit h, and-false (leb 1 (length text)))
 
-pub bound-read : (text : List ℕ) → length text ≤ 20 → boundOf text ≡ readOf text endLimit
+pub bound-read : (text : List ℕ) → length text ≤ digitLimit → boundOf text ≡ readOf text endLimit
 unfolding bound boundOf readOf
-bound-read text h = rw (le-leb (length text) 20 h, and-true (leb 1 (length text)))
+bound-read text h = rw (le-leb (length text) digitLimit h, and-true (leb 1 (length text)))
 
 pub bound-nothing : (text : List ℕ) → boundOf text ≡ Nothing → bound text ≡ false
 unfolding boundOf
@@ -38,12 +40,30 @@ bound-value text n h = go (bound text) h
     go true e = (refl, cc)
     go false e = let z : _≡_ {A = ℕ} 0 1 = cc in absurd (omega arith)
 
-pub bound-le : (text : List ℕ) → bound text ≡ true → numberOf text ≤ endLimit
+-- taken apart, and put together
+pub bound-is : (text : List ℕ) → bound text ≡ true → Bound text (numberOf text)
 unfolding bound
-bound-le text h =
-    let p = and-eq-true-iff (leb 1 (length text) && leb (length text) 20) (digitsOnly text && leb (numberOf text) endLimit) .0 h in
+bound-is text h =
+    let p = and-eq-true-iff (leb 1 (length text) && leb (length text) digitLimit) (digitsOnly text && leb (numberOf text) endLimit) .0 h in
+    let l = and-eq-true-iff (leb 1 (length text)) (leb (length text) digitLimit) .0 (p .0) in
     let q = and-eq-true-iff (digitsOnly text) (leb (numberOf text) endLimit) .0 (p .1) in
-    leb-true (numberOf text) endLimit (q .1)
+    record {
+      shortest = leb-true 1 (length text) (l .0);
+      longest = omega (arith, leb-true (length text) digitLimit (l .1));
+      digits = at-digits text (q .0);
+      says = refl;
+      most = omega (arith, leb-true (numberOf text) endLimit (q .1));
+    }
+
+pub is-bound : (text : List ℕ) (value : ℕ) → Bound text value → bound text ≡ true
+unfolding bound
+is-bound text value h =
+    rw (
+      le-leb 1 (length text) (h .shortest),
+      le-leb (length text) digitLimit (omega (arith, h .longest)),
+      digits-at text (h .digits),
+      le-leb (numberOf text) endLimit (omega (arith, h .says, h .most)),
+    )
 
 -- ---- a range
 
@@ -76,23 +96,40 @@ module _ (text : List ℕ) where
       range-places l =
           rw (a, eq-eqb (getD text (digitRun text) 0) 45 h, b, le-leb (numberOf (take (digitRun text) text)) (numberOf (drop (suc (digitRun text)) text)) l)
 
--- a range holds a place
-pub range-some : (text : List ℕ) (s e : ℕ) → rangeOf text ≡ Places s e → s < e
+-- ---- what was read as places
+
+pub record Sound (text : List ℕ) (s e : ℕ) : Type 0 where
+  pub start : bound (take (digitRun text) text) ≡ true
+  pub hyphen : getD text (digitRun text) 0 ≡ 45
+  pub end : bound (drop (suc (digitRun text)) text) ≡ true
+  pub rising : numberOf (take (digitRun text) text) ≤ numberOf (drop (suc (digitRun text)) text)
+  pub start-is : numberOf (take (digitRun text) text) ≡ s
+  pub end-is : e ≡ suc (numberOf (drop (suc (digitRun text)) text))
+
+pub range-sound : (text : List ℕ) (s e : ℕ) → rangeOf text ≡ Places s e → Sound text s e
 unfolding rangeOf
-range-some text s e h = go (bound a) (eqb (getD text (digitRun text) 0) 45) (bound b) (leb (numberOf a) (numberOf b)) refl h
+range-sound text s e h = go (bound a) (eqb (getD text k 0) 45) (bound b) (leb (numberOf a) (numberOf b)) refl refl refl refl h
   where
+    k : ℕ
+    k = digitRun text
+
     a : List ℕ
-    a = take (digitRun text) text
+    a = take k text
 
     b : List ℕ
-    b = drop (suc (digitRun text)) text
+    b = drop (suc k) text
 
-    go : (p q r t : Bool) → leb (numberOf a) (numberOf b) ≡ t → cond (p && (q && (r && t))) (Places (numberOf a) (suc (numberOf b))) Malformed ≡ Places s e → s < e
-    go true true true true l k =
-        let x : numberOf a ≡ s = cc in
-        let y : suc (numberOf b) ≡ e = cc in
-        omega (arith, leb-true (numberOf a) (numberOf b) l)
-    go true true true false l k = let z : _≡_ {A = ℕ} 0 1 = cc in absurd (omega arith)
-    go true true false t l k = let z : _≡_ {A = ℕ} 0 1 = cc in absurd (omega arith)
-    go true false r t l k = let z : _≡_ {A = ℕ} 0 1 = cc in absurd (omega arith)
-    go false q r t l k = let z : _≡_ {A = ℕ} 0 1 = cc in absurd (omega arith)
+    go : (p q r t : Bool) → bound a ≡ p → eqb (getD text k 0) 45 ≡ q → bound b ≡ r → leb (numberOf a) (numberOf b) ≡ t
+        → cond (p && (q && (r && t))) (Places (numberOf a) (suc (numberOf b))) Malformed ≡ Places s e → Sound text s e
+    go true true true true p q r t x =
+        record { start = p; hyphen = eqb-true (getD text k 0) 45 q; end = r; rising = leb-true (numberOf a) (numberOf b) t; start-is = cc; end-is = cc }
+    go true true true false p q r t x = let z : _≡_ {A = ℕ} 0 1 = cc in absurd (omega arith)
+    go true true false t p q r t₂ x = let z : _≡_ {A = ℕ} 0 1 = cc in absurd (omega arith)
+    go true false r t p q r₂ t₂ x = let z : _≡_ {A = ℕ} 0 1 = cc in absurd (omega arith)
+    go false q r t p q₂ r₂ t₂ x = let z : _≡_ {A = ℕ} 0 1 = cc in absurd (omega arith)
+
+-- a range holds a place
+pub range-some : (text : List ℕ) (s e : ℕ) → rangeOf text ≡ Places s e → s < e
+range-some text s e h =
+    let r = range-sound text s e h in
+    omega (arith, r .rising, r .start-is, r .end-is)

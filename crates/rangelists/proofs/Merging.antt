@@ -25,20 +25,20 @@ use Rattle.rangelists.proofs.Bounds.{range-some}
 added-on : (r : ℕ) (ps qs : Pairs) (x : Range) (on : Pairs → Merged) → added r ps x merged ≡ merged qs → added r ps x on ≡ on qs
 unfolding added
 added-on r ps qs Malformed on h = let z : _≡_ {A = ℕ} 0 1 = cc in absurd (omega arith)
-added-on r ps qs (Places s e) on h = go (ltb r (size (join s e ps))) h
+added-on r ps qs (Places s e) on h = go _ (ltb r (size (join s e ps))) h
   where
-    go : (t : Bool) → cond t (trouble 52) (merged (join s e ps)) ≡ merged qs → cond t (trouble 52) (on (join s e ps)) ≡ on qs
-    go true k = let z : _≡_ {A = ℕ} 0 1 = cc in absurd (omega arith)
-    go false k = let q : join s e ps ≡ qs = cc in ap on q
+    go : (n : ℕ) (t : Bool) → cond t (trouble n) (merged (join s e ps)) ≡ merged qs → cond t (trouble n) (on (join s e ps)) ≡ on qs
+    go n true k = let z : _≡_ {A = ℕ} 0 1 = cc in absurd (omega arith)
+    go n false k = let q : join s e ps ≡ qs = cc in ap on q
 
 added-stop : (r k : ℕ) (ps : Pairs) (x : Range) (on : Pairs → Merged) → added r ps x merged ≡ trouble k → added r ps x on ≡ trouble k
 unfolding added
 added-stop r k ps Malformed on h = h
-added-stop r k ps (Places s e) on h = go (ltb r (size (join s e ps))) h
+added-stop r k ps (Places s e) on h = go _ (ltb r (size (join s e ps))) h
   where
-    go : (t : Bool) → cond t (trouble 52) (merged (join s e ps)) ≡ trouble k → cond t (trouble 52) (on (join s e ps)) ≡ trouble k
-    go true q = q
-    go false q = let z : _≡_ {A = ℕ} 0 1 = cc in absurd (omega arith)
+    go : (n : ℕ) (t : Bool) → cond t (trouble n) (merged (join s e ps)) ≡ trouble k → cond t (trouble n) (on (join s e ps)) ≡ trouble k
+    go n true q = q
+    go n false q = let z : _≡_ {A = ℕ} 0 1 = cc in absurd (omega arith)
 
 merged-on : (r : ℕ) (ps qs : Pairs) (t : List ℕ) (ts : List (List ℕ)) → added r ps (rangeOf t) merged ≡ merged qs → mergedFrom r ps (t ∷ ts) ≡ mergedFrom r qs ts
 unfolding mergedFrom

@@ -1,26 +1,32 @@
 -- The text of a ledger, read back.
-use Prim.Native.Nat.{ℕ, suc, _+_, _-_, _%_, _≤_, _<_}
+use Prim.Native.Nat.{ℕ, suc, _+_, _-_, _≤_, _<_}
 use mathlib.Core.Path.{_≡_, refl, sym, ap, _∙_}
-use mathlib.Core.Bool.{true, and-eq-true-iff}
-use mathlib.Core.List.{List, [], _∷_, _++_, append-nil, append-assoc}
+use mathlib.Core.Bool.{true, false, and-eq-true-iff}
+use mathlib.Core.List.{List, [], _∷_, _++_}
 use native.Mathlib.Omega.{arith}
-use native.Mathlib.Decide.{decLt}
-use native.Mathlib.Numerals.{add-one}
-use borrow.Author.Tests.{lt-ltb, le-ltb, le-leb, leb-true, ne-eqb}
+use borrow.Author.Tests.{lt-ltb, le-ltb, leb-true}
 use lib.Dec.{leb}
-use lib.ListN.{length, drop, length-append}
-use lib.Seq.{take-append-seam, getD-append-seam, drop-append-add}
-use Rattle.octets.specs.Decimal.{isDigit, digitRun, digitsOnly, numberOf, width, decimal}
-use Rattle.octets.proofs.Decimals.{width-small, width-step, digitsOnly-inDigits, decimal-reads-back, digit-bounds, length-decimal, width-20}
+use lib.ListN.{length, take, drop}
+use lib.Seq.{take-at}
+use Rattle.octets.specs.Cases.{AllHold}
+use Rattle.octets.specs.Decimal.{digitsOnly, width, decimal}
+use Rattle.octets.proofs.Decimals.{width-some, digitsOnly-inDigits, decimal-reads-back, length-decimal, width-20}
+use Rattle.octets.proofs.Readings.{at-digits}
 use Rattle.ledger.specs.Pairs.{Pairs, none, pair, size, Ruled, join, endsBy}
-use Rattle.ledger.specs.Ledger.{entryLimit, largest, obeys, pairsOf, roomOf}
+use Rattle.ledger.specs.Ledger.{largest, lengthWrong, obeys, pairsOf, roomOf}
 use Rattle.ledger.proofs.Lents.{rule-ruled, lent-pairsOf, size-pairsOf}
-use Rattle.ledger.proofs.Sizes.{length-right}
-use Rattle.rangelists.specs.RangeText.{endLimit, bound, rangeOf, parts, commaRun, merged, added, mergedFrom, rangesOf, readRanges, rangesLeft, rangeText, rangesText}
+use Rattle.ledger.proofs.Sizes.{length-right, length-fits}
+use Rattle.rangelists.specs.RangeText.{rangeOf, parts, merged, added, mergedFrom, rangesOf, readRanges, rangesLeft, rangeText, rangesText, writeRanges, rangesWritten}
+use Rattle.rangelists.specs.OneRange.{Bound}
+use Rattle.rangelists.specs.Parts.{withCommas, NoComma}
+use Rattle.rangelists.specs.RangeReading.{Reads}
 use Rattle.ledger.specs.declared.answer.Loaded.the-variants.{Done}
+use Rattle.ledger.specs.declared.answer.Written.the-variants.{Bytes}
 use Rattle.rangelists.specs.declared.ranges.Range.the-variants.{Places}
-use Rattle.rangelists.proofs.Answered.{reads-merged}
-use Rattle.rangelists.proofs.Commas.{parts-last, parts-next}
+use Rattle.rangelists.proofs.Answered.{written}
+use Rattle.rangelists.proofs.OneRanges.{range-reads}
+use Rattle.rangelists.proofs.RangeRead.{reads}
+use Rattle.rangelists.proofs.Parted.{no-comma-cons, no-comma-append, parts-only}
 
 -- ---- one range
 
@@ -28,96 +34,60 @@ digits-decimal : (n : ℕ) → digitsOnly (decimal n) ≡ true
 unfolding decimal
 digits-decimal n = digitsOnly-inDigits (width n) n
 
-width-some : (n : ℕ) → 1 ≤ width n
-width-some n = go (decLt n 10)
-  where
-    go : Dec (n < 10) → 1 ≤ width n
-    go (yes h) = omega (arith, width-small n h)
-    go (no h) = omega (arith, width-step n (omega arith))
-
-bound-decimal : (n : ℕ) → n ≤ endLimit → bound (decimal n) ≡ true
-unfolding bound
+bound-decimal : (n : ℕ) → n ≤ 18446744073709551614 → Bound (decimal n) n
 bound-decimal n h =
-    rw (
-      length-decimal n,
-      le-leb 1 (width n) (width-some n),
-      le-leb (width n) 20 (width-20 n (omega arith)),
-      digits-decimal n,
-      decimal-reads-back n,
-      le-leb n endLimit h,
-    )
-
--- the digits before a hyphen are those that the text begins with
-digitRun-over : (ds es : List ℕ) → digitsOnly ds ≡ true → digitRun (ds ++ (45 ∷ es)) ≡ length ds
-unfolding digitRun digitsOnly
-digitRun-over [] es h = refl
-digitRun-over (d ∷ ds) es h =
-    let p = and-eq-true-iff (isDigit d) (digitsOnly ds) .0 h in
-    rw (p .0, digitRun-over ds es (p .1))
-
-range-of : (ds es : List ℕ) → digitsOnly ds ≡ true → bound ds ≡ true → bound es ≡ true → numberOf ds ≤ numberOf es
-    → rangeOf (ds ++ (45 ∷ es)) ≡ Places (numberOf ds) (suc (numberOf es))
-unfolding rangeOf
-range-of ds es d a b l =
-    let r : drop (suc (length ds)) (ds ++ (45 ∷ es)) ≡ es = rw (← add-one (length ds)) (drop-append-add ds (45 ∷ es) 1) in
-    rw (
-      digitRun-over ds es d,
-      take-append-seam ds (45 ∷ es),
-      getD-append-seam ds 45 es 0,
-      r,
-      a,
-      b,
-      le-leb (numberOf ds) (numberOf es) l,
-    )
+    let l = length-decimal n in
+    record {
+      shortest = omega (arith, width-some n);
+      longest = omega (arith, width-20 n (omega arith));
+      digits = at-digits (decimal n) (digits-decimal n);
+      says = decimal-reads-back n;
+      most = h;
+    }
 
 pub range-reads-back : (a b : ℕ) → a < b → b ≤ largest → rangeOf (rangeText a b) ≡ Places a b
 unfolding rangeText
 range-reads-back a b h l =
     let e : suc (b - 1) ≡ b = omega arith in
-    range-of (decimal a) (decimal (b - 1)) (digits-decimal a) (bound-decimal a (omega arith)) (bound-decimal (b - 1) (omega arith))
-    (rw (decimal-reads-back a, decimal-reads-back (b - 1)) (omega arith))
-    ∙ rw (decimal-reads-back a, decimal-reads-back (b - 1), e)
+    let start = bound-decimal a (omega arith) in
+    let end = bound-decimal (b - 1) (omega arith) in
+    range-reads (rangeText a b) a (b - 1)
+    (record { before = decimal a; after = decimal (b - 1); hyphen = refl; start = start; end = end; rising = omega arith })
+    ∙ rw e
 
 -- ---- the texts between the commas
 
-commaRun-over : (ds es : List ℕ) → digitsOnly ds ≡ true → commaRun (ds ++ es) ≡ length ds + commaRun es
-unfolding commaRun digitsOnly
-commaRun-over [] es h = omega arith
-commaRun-over (d ∷ ds) es h =
-    let p = and-eq-true-iff (isDigit d) (digitsOnly ds) .0 h in
-    rw (ne-eqb d 44 (λ e. omega (arith, digit-bounds d (p .0)))) (omega (arith, commaRun-over ds es (p .1)))
+decimal-no-comma : (n : ℕ) → NoComma (decimal n)
+decimal-no-comma n i h e = omega (arith, e, at-digits (decimal n) (digits-decimal n) i h)
 
-range-run : (a b : ℕ) (es : List ℕ) → commaRun (rangeText a b ++ es) ≡ length (rangeText a b) + commaRun es
-unfolding rangeText commaRun
-range-run a b es =
-    let d = decimal a in
-    let f = decimal (b - 1) in
-    rw (append-assoc d (45 ∷ f) es)
-    (omega (arith, commaRun-over d (45 ∷ (f ++ es)) (digits-decimal a), commaRun-over f es (digits-decimal (b - 1)), length-append d (45 ∷ f)))
-
-range-alone : (a b : ℕ) → parts (rangeText a b) ≡ rangeText a b ∷ []
-unfolding commaRun
-range-alone a b = parts-last (rangeText a b) (omega (arith, rw (append-nil (rangeText a b)) at (range-run a b [])))
-
-range-first : (a b : ℕ) (u : List ℕ) → parts (rangeText a b ++ (44 ∷ u)) ≡ rangeText a b ∷ parts u
-unfolding commaRun
-range-first a b u =
-    let t = rangeText a b in
-    let e : commaRun (t ++ (44 ∷ u)) ≡ length t = omega (arith, range-run a b (44 ∷ u)) in
-    let r : drop (suc (length t)) (t ++ (44 ∷ u)) ≡ u = rw (← add-one (length t)) (drop-append-add t (44 ∷ u) 1) in
-    parts-next (t ++ (44 ∷ u)) (omega (arith, e, length-append t (44 ∷ u))) ∙ rw (e, take-append-seam t (44 ∷ u), r)
+range-no-comma : (a b : ℕ) → NoComma (rangeText a b)
+unfolding rangeText
+range-no-comma a b =
+    no-comma-append (decimal a) (45 ∷ decimal (b - 1)) (decimal-no-comma a) (no-comma-cons 45 (decimal (b - 1)) (λ e. omega arith) (decimal-no-comma (b - 1)))
 
 -- the text of each pair
 unfoldable textsOf : Pairs → List (List ℕ)
 textsOf none = []
 textsOf (pair a b ps) = rangeText a b ∷ textsOf ps
 
+texts-no-comma : (ps : Pairs) → AllHold NoComma (textsOf ps)
+unfolding textsOf
+texts-no-comma none = tt
+texts-no-comma (pair a b ps) = (range-no-comma a b, texts-no-comma ps)
+
+texts-joined : (ps : Pairs) → rangesText ps ≡ withCommas (textsOf ps)
+unfolding rangesText textsOf withCommas
+texts-joined none = refl
+texts-joined (pair a b none) = refl
+texts-joined (pair a b (pair c d ps)) = ap (λ (t : List ℕ). rangeText a b ++ (44 ∷ t)) (texts-joined (pair c d ps))
+
+length-texts : (ps : Pairs) → length (textsOf ps) ≡ size ps
+unfolding textsOf size
+length-texts none = refl
+length-texts (pair a b ps) = ap suc (length-texts ps)
+
 parts-texts : (ps : Pairs) → 0 < size ps → parts (rangesText ps) ≡ textsOf ps
-unfolding rangesText textsOf size
-parts-texts none h = absurd (omega arith)
-parts-texts (pair a b none) h = range-alone a b
-parts-texts (pair a b (pair c d ps)) h =
-    range-first a b (rangesText (pair c d ps)) ∙ ap (λ (ts : List (List ℕ)). rangeText a b ∷ ts) (parts-texts (pair c d ps) (omega arith))
+parts-texts ps h = rw (texts-joined ps) (parts-only (textsOf ps) (omega (arith, length-texts ps)) (texts-no-comma ps))
 
 -- ---- ascending ranges joined one by one
 
@@ -169,13 +139,28 @@ merged-chain r qs (pair a b ps) c n f =
     rw (range-reads-back a b (i .1) (leb-true b largest (q .0)), j, le-ltb r (size (chain qs (pair a b none))) k)
     (merged-chain r (chain qs (pair a b none)) ps (rw e c) (rw e n) (q .1) ∙ rw e)
 
-pub reads-back : (l m : List ℕ) → length l % 2 ≡ 0 → length l ≤ entryLimit → obeys l ≡ true → 0 < size (pairsOf l)
-    → endsBy largest (pairsOf l) ≡ true → length m ≡ length l
-    → (readRanges (rangesText (pairsOf l)) m ≡ Done) × (rangesLeft (rangesText (pairsOf l)) m ≡ l)
-unfolding rangesOf obeys chain
-reads-back l m n h o s f e =
-    let w = length-right m (omega arith) (omega arith) in
-    let c : rangesOf (roomOf m) (rangesText (pairsOf l)) ≡ merged (pairsOf l) =
-    rw (parts-texts (pairsOf l) s) (merged-chain (roomOf m) none (pairsOf l) (rule-ruled 0 l o) (omega (arith, size-pairsOf l)) f) in
-    let r = reads-merged (rangesText (pairsOf l)) m w (pairsOf l) c in
-    (sym (r .0), sym (r .1) ∙ sym (lent-pairsOf (roomOf m) 0 l o (omega arith)))
+-- ---- the text that the writer left
+
+text-back : (ps : Pairs) (m : List ℕ) → 0 < size ps → Ruled 0 ps → endsBy largest ps ≡ true → lengthWrong m ≡ false → size ps ≤ roomOf m
+    → Reads (rangesText ps) m ps
+unfolding rangesOf chain
+text-back ps m some ruled ends lengths room =
+    reads (rangesText ps) m lengths ps (rw (parts-texts ps some) (merged-chain (roomOf m) none ps ruled room ends))
+
+pub reads-back : (l out m : List ℕ) (n : ℕ) → writeRanges l out ≡ Bytes n → endsBy largest (pairsOf l) ≡ true → lengthWrong m ≡ false → size (pairsOf l) ≤ roomOf m
+    → Reads (take n (rangesWritten l out)) m (pairsOf l)
+unfolding obeys
+reads-back l out m n e ends lengths room =
+    let w = written l out n e in
+    let text = rangesText (pairsOf l) in
+    rw (w .left, take-at text (drop (length text) out) n (w .bytes)) (text-back (pairsOf l) m (w .some) (rule-ruled 0 l (w .ruled)) ends lengths room)
+
+pub reads-same : (l out m : List ℕ) (n : ℕ) → writeRanges l out ≡ Bytes n → endsBy largest (pairsOf l) ≡ true → length m ≡ length l
+    → (readRanges (take n (rangesWritten l out)) m ≡ Done) × (rangesLeft (take n (rangesWritten l out)) m ≡ l)
+unfolding obeys
+reads-same l out m n e ends same =
+    let w = written l out n e in
+    let f = length-fits l (w .lengths) in
+    let lengths : lengthWrong m ≡ false = length-right m (omega (arith, f .0)) (omega (arith, f .1)) in
+    let r = reads-back l out m n e ends lengths (omega (arith, size-pairsOf l)) in
+    (r .accepted, r .left ∙ sym (lent-pairsOf (roomOf m) 0 l (w .ruled) (omega (arith, f .0))))

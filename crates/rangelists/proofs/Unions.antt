@@ -26,12 +26,12 @@ union r ps qs (t ∷ ts) c n h = go (rangeOf t) refl h (λ ps c n h. union r ps 
         → ((ps : Pairs) → Ruled 0 ps → size ps ≤ r → mergedFrom r ps ts ≡ merged qs → Union r ps ts qs)
         → Ruled 0 qs × (size qs ≤ r) × ((p : ℕ) → holds p qs ≡ max (holds p ps) (max (heldBy p (rangeOf t)) (namedBy p ts)))
     go Malformed x k i = let z : _≡_ {A = ℕ} 0 1 = cc in absurd (omega arith)
-    go (Places s e) x k i = test (ltb r (size (join s e ps))) refl k
+    go (Places s e) x k i = test _ (ltb r (size (join s e ps))) refl k
       where
-        test : (b : Bool) → ltb r (size (join s e ps)) ≡ b → cond b (trouble 52) (mergedFrom r (join s e ps) ts) ≡ merged qs
+        test : (j : ℕ) (b : Bool) → ltb r (size (join s e ps)) ≡ b → cond b (trouble j) (mergedFrom r (join s e ps) ts) ≡ merged qs
             → Ruled 0 qs × (size qs ≤ r) × ((p : ℕ) → holds p qs ≡ max (holds p ps) (max (heldBy p (rangeOf t)) (namedBy p ts)))
-        test true y k = let z : _≡_ {A = ℕ} 0 1 = cc in absurd (omega arith)
-        test false y k =
+        test j true y k = let z : _≡_ {A = ℕ} 0 1 = cc in absurd (omega arith)
+        test j false y k =
             let l = range-some t s e x in
             let u = i (join s e ps) (join-ruled s e 0 ps l (omega arith) c) (ltb-false r (size (join s e ps)) y) k in
             (u .0, u .1, λ p. rw x (omega (arith, u .2 p, join-holds s e 0 p ps l c)))

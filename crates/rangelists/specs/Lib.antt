@@ -1,3 +1,7 @@
 pub mod RangeText
+pub mod OneRange
+pub mod Parts
 pub mod RangeLists
+pub mod RangeReading
+pub mod RangeWriting
 pub mod RangeCases

@@ -1,20 +1,24 @@
 -- Restart range lists and the ledger: what reading and writing them means.
-use Prim.Native.Nat.{ℕ, _%_, _≤_, _<_}
+use Prim.Native.Nat.{ℕ, _≤_}
 use mathlib.Core.Path.{_≡_}
-use mathlib.Core.Bool.{true}
+use mathlib.Core.Bool.{true, false}
 use mathlib.Core.List.{List}
-use lib.ListN.{length}
+use lib.ListN.{length, take}
 use Rattle.ledger.specs.Pairs.{Pairs, size, holds, Ruled, endsBy}
-use Rattle.ledger.specs.Ledger.{entryLimit, largest, obeys, pairsOf}
-use Rattle.rangelists.specs.RangeText.{parts, merged, rangesOf, namedBy, readRanges, rangesLeft, rangesText}
+use Rattle.ledger.specs.Ledger.{lengthWrong, pairsOf, roomOf}
+use Rattle.rangelists.specs.RangeText.{parts, merged, rangesOf, namedBy, readRanges, rangesLeft, writeRanges, rangesWritten}
+use Rattle.rangelists.specs.RangeReading.{Reads}
 use Rattle.ledger.specs.declared.answer.Loaded.the-variants.{Done}
+use Rattle.ledger.specs.declared.answer.Written.the-variants.{Bytes}
 
 pub record RangeLists : Type 0 where
   -- the merged set of accepted text obeys the ledger rule, needs no more pairs than there are, and holds exactly the places of the ranges
   -- read, in whatever order they stand
   pub reads-the-union : (r : ℕ) (text : List ℕ) (ps : Pairs) → rangesOf r text ≡ merged ps
       → Ruled 0 ps × (size ps ≤ r) × ((p : ℕ) → holds p ps ≡ namedBy p (parts text))
-  -- the text of a ledger with a pair or more is read back as the same ledger, whatever stood in the lent one
-  pub reads-what-was-written : (l m : List ℕ) → length l % 2 ≡ 0 → length l ≤ entryLimit → obeys l ≡ true → 0 < size (pairsOf l)
-      → endsBy largest (pairsOf l) ≡ true → length m ≡ length l
-      → (readRanges (rangesText (pairsOf l)) m ≡ Done) × (rangesLeft (rangesText (pairsOf l)) m ≡ l)
+  -- the n bytes that the writer says it wrote are read into any ledger m that has room for the pairs of l, whatever m holds
+  pub reads-what-was-written : (l out m : List ℕ) (n : ℕ) → writeRanges l out ≡ Bytes n → endsBy 18446744073709551615 (pairsOf l) ≡ true
+      → lengthWrong m ≡ false → size (pairsOf l) ≤ roomOf m → Reads (take n (rangesWritten l out)) m (pairsOf l)
+  -- and into one of its own length as l again
+  pub reads-the-same : (l out m : List ℕ) (n : ℕ) → writeRanges l out ≡ Bytes n → endsBy 18446744073709551615 (pairsOf l) ≡ true
+      → length m ≡ length l → (readRanges (take n (rangesWritten l out)) m ≡ Done) × (rangesLeft (take n (rangesWritten l out)) m ≡ l)

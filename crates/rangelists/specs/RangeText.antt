@@ -21,11 +21,15 @@ use Rattle.rangelists.specs.declared.ranges.Range.the-variants.{Places, 
 abbrev pub endLimit : ℕ
 endLimit = 18446744073709551614
 
+-- the most digits that a number may have, leading zeros counted
+abbrev pub digitLimit : ℕ
+digitLimit = 20
+
 -- ---- one range
 
 -- a number of 1 to 20 digits, at most the largest end
 unfoldable pub bound : List ℕ → Bool
-bound text = (leb 1 (length text) && leb (length text) 20) && (digitsOnly text && leb (numberOf text) endLimit)
+bound text = (leb 1 (length text) && leb (length text) digitLimit) && (digitsOnly text && leb (numberOf text) endLimit)
 
 -- what reading such a number answers
 unfoldable pub boundOf : List ℕ → Number

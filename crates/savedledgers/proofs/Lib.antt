@@ -3,4 +3,6 @@ pub mod Bodies
 pub mod Frames
 pub mod Loads
 pub mod Saves
+pub mod SavedReadings
+pub mod SavedWritings
 pub mod SavedTrips

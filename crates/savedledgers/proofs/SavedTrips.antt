@@ -4,19 +4,24 @@ use mathlib.Core.Path.{_≡_, refl, sym, ap, _∙_}
 use mathlib.Core.Bool.{true, false}
 use mathlib.Core.List.{List}
 use native.Mathlib.Omega.{arith}
-use lib.ListN.{length}
+use lib.ListN.{length, take, drop}
+use lib.Seq.{take-at}
 use Rattle.octets.specs.Digits.{Below, toLittle}
 use Rattle.octets.proofs.Digits.{below-drop}
 use Rattle.ledger.specs.Pairs.{Pairs, size, Ruled, endsBy}
 use Rattle.ledger.specs.Ledger.{largest, lengthWrong, roomOf, obeys, pairsOf, lent}
 use Rattle.ledger.proofs.Lents.{length-lent, pairsOf-lent, rule-lent, rule-ruled, lent-pairsOf, size-pairsOf}
 use Rattle.ledger.proofs.Sizes.{length-right, length-fits}
-use Rattle.savedledgers.specs.Saved.{kindOne, bytesOf, framed, bodyOf, frameNumber, savedPairs, savedNumber, savedLeft, savedOf, inOrder}
-use Rattle.savedledgers.specs.SavedTrip.{Savable, Reloads, Rewrites, SavedTrip}
+use Rattle.savedledgers.specs.Saved.{kindOne, bytesOf, framed, bodyOf, frameNumber, savedPairs, savedNumber, readSaved, savedLeft, savedOf, writeSaved, savedWritten, inOrder}
+use Rattle.savedledgers.specs.SavedReading.{Reads}
+use Rattle.savedledgers.specs.SavedTrip.{Rewrites, SavedTrip}
+use Rattle.ledger.specs.declared.answer.Loaded.the-variants.{Done}
+use Rattle.ledger.specs.declared.answer.Written.the-variants.{Bytes}
 use Rattle.savedledgers.proofs.Bodies.{order-ruled, ruled-order, size-pairsIn, length-bytesOf, pairsIn-bytesOf, bytesOf-pairsIn}
 use Rattle.savedledgers.proofs.Frames.{body-back, frame-back, framed-same}
 use Rattle.savedledgers.proofs.Loads.{Sound, number-sound, number-none, reads-done}
-use Rattle.savedledgers.proofs.Saves.{save-none, length-savedOf, writes-done}
+use Rattle.savedledgers.proofs.SavedReadings.{reads}
+use Rattle.savedledgers.proofs.Saves.{save-none, length-savedOf, writes-done, written}
 
 -- ---- saved and read
 
@@ -27,29 +32,33 @@ module _ (ps : Pairs) (ruled : Ruled 0 ps) (ends : endsBy largest ps ≡ true) w
       let n : length (bytesOf ps) / 16 ≡ size ps = omega (arith, length-bytesOf ps) in
       rw (body-back kindOne (bytesOf ps), n) (pairsIn-bytesOf 0 ps ruled ends)
 
-  reloads : (m : List ℕ) → lengthWrong m ≡ false → size ps ≤ 4096 → size ps ≤ roomOf m → Reloads ps m
+  pairs-back : (m : List ℕ) → lengthWrong m ≡ false → size ps ≤ 4096 → size ps ≤ roomOf m → Reads (savedOf ps) m ps
   unfolding savedOf
-  reloads m lengths few room =
+  pairs-back m lengths few room =
       let h = savedOf ps in
       let l = length-bytesOf ps in
       let frame : frameNumber kindOne h ≡ 0 = frame-back kindOne (bytesOf ps) (omega arith) (omega arith) in
       let body : length (bodyOf h) ≡ 16 * size ps = ap length (body-back kindOne (bytesOf ps)) ∙ l in
       let order : inOrder 0 (savedPairs h) ≡ true = rw saved-pairs (order-ruled 0 ps ruled) in
-      let r = reads-done h m (number-none h m lengths frame (omega arith) order (omega arith)) in
-      record { accepted = r .0; left = r .1 ∙ ap (lent (roomOf m)) saved-pairs }
+      rw saved-pairs at (reads h m (number-none h m lengths frame (omega arith) order (omega arith)))
 
-reads-saved : (l m : List ℕ) → Savable l → lengthWrong m ≡ false → size (pairsOf l) ≤ roomOf m → Reloads (pairsOf l) m
-unfolding obeys
-reads-saved l m s lengths room =
-    let few : size (pairsOf l) ≤ 4096 = omega (arith, size-pairsOf l, length-fits l (s .lengths)) in
-    reloads (pairsOf l) (rule-ruled 0 l (s .ruled)) (s .ends) m lengths few room
+module _ (l out m : List ℕ) (n : ℕ) (e : writeSaved l out ≡ Bytes n) (ends : endsBy largest (pairsOf l) ≡ true) where
+  reads-saved : lengthWrong m ≡ false → size (pairsOf l) ≤ roomOf m → Reads (take n (savedWritten l out)) m (pairsOf l)
+  unfolding obeys
+  reads-saved lengths room =
+      let w = written l out n e in
+      let saved = savedOf (pairsOf l) in
+      let few : size (pairsOf l) ≤ 4096 = omega (arith, size-pairsOf l, length-fits l (w .lengths)) in
+      rw (w .left, take-at saved (drop (length saved) out) n (w .bytes)) (pairs-back (pairsOf l) (rule-ruled 0 l (w .ruled)) ends m lengths few room)
 
-reads-same : (l m : List ℕ) → Savable l → length m ≡ length l → savedLeft (savedOf (pairsOf l)) m ≡ l
-unfolding obeys
-reads-same l m s e =
-    let f = length-fits l (s .lengths) in
-    let lengths : lengthWrong m ≡ false = length-right m (omega (arith, f .0)) (omega (arith, f .1)) in
-    reads-saved l m s lengths (omega (arith, size-pairsOf l)) .left ∙ sym (lent-pairsOf (roomOf m) 0 l (s .ruled) (omega (arith, f .0)))
+  reads-same : length m ≡ length l → (readSaved (take n (savedWritten l out)) m ≡ Done) × (savedLeft (take n (savedWritten l out)) m ≡ l)
+  unfolding obeys
+  reads-same same =
+      let w = written l out n e in
+      let f = length-fits l (w .lengths) in
+      let lengths : lengthWrong m ≡ false = length-right m (omega (arith, f .0)) (omega (arith, f .1)) in
+      let r = reads-saved lengths (omega (arith, size-pairsOf l)) in
+      (r .accepted, r .left ∙ sym (lent-pairsOf (roomOf m) 0 l (w .ruled) (omega (arith, f .0))))
 
 -- ---- read and saved
 

@@ -1,12 +1,13 @@
 -- What the writer of a saved ledger answers and leaves, case by case.
 use Prim.Native.Nat.{ℕ, _+_, _*_, _-_, _≤_, _<_}
-use mathlib.Core.Path.{_≡_, sym, ap, _∙_}
-use mathlib.Core.Bool.{true, false}
+use mathlib.Core.Path.{_≡_, refl, sym, ap, _∙_}
+use mathlib.Core.Bool.{Bool, true, false, cond, not}
 use mathlib.Core.List.{List, _++_, append-assoc}
 use native.Mathlib.Omega.{arith}
 use native.Mathlib.Nat.{sub-zero}
 use borrow.Author.Tests.{lt-ltb, le-ltb}
 use borrow.Rule.Slice.PartMut.{putMid}
+use lib.Dec.{ltb}
 use lib.ListN.{length, take, drop, length-append}
 use lib.Seq.{take-at, drop-at, drop-drop}
 use Rattle.ledger.specs.Pairs.{Pairs, size}
@@ -54,6 +55,30 @@ module _ (ledger out : List ℕ) where
       pub save-none : 6 + 16 * size (pairsOf ledger) ≤ length out → saveNumber ledger out ≡ 0
       unfolding saveNumber
       save-none h = rw (lengths, obeyed, length-savedOf (pairsOf ledger), le-ltb (length out) (6 + 16 * size (pairsOf ledger)) h)
+
+-- what a writer that writes n bytes has tested, and what it leaves
+pub record Written (ledger out : List ℕ) (n : ℕ) : Type 0 where
+  pub lengths : lengthWrong ledger ≡ false
+  pub ruled : obeys ledger ≡ true
+  pub bytes : length (savedOf (pairsOf ledger)) ≡ n
+  pub left : savedWritten ledger out ≡ savedOf (pairsOf ledger) ++ drop (length (savedOf (pairsOf ledger))) out
+
+pub written : (ledger out : List ℕ) (n : ℕ) → writeSaved ledger out ≡ Bytes n → Written ledger out n
+unfolding writeSaved savedWritten saveNumber
+written ledger out n h = go (lengthWrong ledger) (obeys ledger) (ltb (length out) (length saved)) refl refl refl h
+  where
+    saved : List ℕ
+    saved = savedOf (pairsOf ledger)
+
+    number : Bool → Bool → Bool → ℕ
+    number w o l = cond w 53 (cond (not o) 1 (cond l 55 0))
+
+    go : (w o l : Bool) → lengthWrong ledger ≡ w → obeys ledger ≡ o → ltb (length out) (length saved) ≡ l
+        → cond (ltb 0 (number w o l)) (Refused (number w o l)) (Bytes (length saved)) ≡ Bytes n → Written ledger out n
+    go false true false w o l e = record { lengths = w; ruled = o; bytes = cc; left = rw (w, o, l) }
+    go true o l w o₂ l₂ e = let x : _≡_ {A = ℕ} 0 1 = cc in absurd (omega arith)
+    go false false l w o l₂ e = let x : _≡_ {A = ℕ} 0 1 = cc in absurd (omega arith)
+    go false true true w o l e = let x : _≡_ {A = ℕ} 0 1 = cc in absurd (omega arith)
 
 -- ---- the bytes
 

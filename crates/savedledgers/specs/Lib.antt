@@ -1,3 +1,5 @@
 pub mod Numbers
 pub mod Saved
+pub mod SavedReading
+pub mod SavedWriting
 pub mod SavedTrip

@@ -9,7 +9,8 @@ use lib.ListN.{length, getD, take}
 use lib.Seq.{take-all}
 use Rattle.octets.specs.Digits.{fromBig, fromLittle}
 use Rattle.octets.specs.Decimal.{isDigit, digitsOnly, numberOf, digitValue, readOf}
-use Rattle.octets.proofs.Decimals.{digit-bounds, digitsOnly-not, digitsOnly-more, numberOf-more, numberOf-above, readOf-spoilt, readOf-above, readOf-value}
+use Rattle.octets.proofs.Decimals.{digit-bounds, digitsOnly-not, digitsOnly-more, numberOf-more, numberOf-above}
+use Rattle.octets.proofs.Readings.{readOf-spoilt, readOf-above, readOf-value}
 use Rattle.octets.proofs.decimal.read.Statement.{statement}
 use Rattle.octets.proofs.decimal.read.Tie as tie
 

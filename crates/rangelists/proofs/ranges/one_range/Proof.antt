@@ -8,7 +8,7 @@ use lib.ListN.{length, getD, take, drop, length-drop, length-take}
 use lib.Seq.{take-all}
 use Rattle.octets.specs.Decimal.{digitRun, numberOf}
 use Rattle.rangelists.specs.RangeText.{bound, boundOf}
-use Rattle.rangelists.proofs.Bounds.{bound-nothing, bound-value, bound-le, range-no-hyphen, range-short, range-no-start, range-no-end, range-falling, range-places}
+use Rattle.rangelists.proofs.Bounds.{bound-nothing, bound-value, bound-is, range-no-hyphen, range-short, range-no-start, range-no-end, range-falling, range-places}
 use Rattle.rangelists.proofs.ranges.one_range.Statement.{statement}
 use Rattle.rangelists.proofs.ranges.one_range.Tie as tie
 
@@ -115,7 +115,7 @@ add-t17 : tie.Need-add-t17
 add-t17 c =
     let b = c .before .before in
     let s = b .before .before .before .before .before .before .before .before .before .before .before .before .before .before .args .text .now in
-    omega (arith, end-value b .1, bound-le (drop (suc (digitRun s)) s) (end-value b .0))
+    omega (arith, end-value b .1, bound-is (drop (suc (digitRun s)) s) (end-value b .0) .most)
 
 returns-6 : tie.Need-returns-6
 returns-6 c =

@@ -4,10 +4,11 @@ use mathlib.Core.Bool.{true, false}
 use native.Mathlib.Omega.{arith}
 use borrow.Author.Needs.{needs}
 use borrow.Author.Tests.{not-true, not-false}
-use Rattle.ledger.specs.Ledger.{lengthWrong, obeys}
+use Rattle.ledger.specs.Ledger.{lengthWrong, obeys, pairsOf}
 use Rattle.ledger.proofs.Sizes.{length-fits, obeys-fits}
 use Rattle.ledger.specs.declared.answer.Written.the-variants.{Bytes}
 use Rattle.rangelists.proofs.Answered.{number-53, number-1, number-54, number-55, number-0, writes-refused, writes-text}
+use Rattle.rangelists.proofs.RangeTexts.{text-empty, text-some}
 use Rattle.rangelists.proofs.ranges.write.Statement.{statement}
 use Rattle.rangelists.proofs.ranges.write.Tie as tie
 
@@ -49,7 +50,7 @@ returns-3 c =
     let d = c .before .before .before in
     let x = d .before .before .before .before .before .args in
     writes-refused (x .ledger .now) (x .out .now) 54
-    (number-54 (x .ledger .now) (x .out .now) (right (d .before)) (obeyed (c .before .before)) (sym (c .before .list-length .ensures) ∙ c .if3 .taken)) (omega arith)
+    (number-54 (x .ledger .now) (x .out .now) (right (d .before)) (obeyed (c .before .before)) (text-empty (pairsOf (x .ledger .now)) (sym (c .before .list-length .ensures) ∙ c .if3 .taken))) (omega arith)
 
 returns-4 : tie.Need-returns-4
 returns-4 c =
@@ -57,7 +58,7 @@ returns-4 c =
     let x = b .before .before .before .before .before .before .before .args in
     let n = b .list-length .ensures in
     writes-refused (x .ledger .now) (x .out .now) 55
-    (number-55 (x .ledger .now) (x .out .now) (right (b .before .before .before)) (obeyed (b .before)) (λ z. c .before .if3 .left (n ∙ z)) (omega arith))
+    (number-55 (x .ledger .now) (x .out .now) (right (b .before .before .before)) (obeyed (b .before)) (text-some (pairsOf (x .ledger .now)) (λ z. c .before .if3 .left (n ∙ z))) (omega arith))
     (omega arith)
 
 put-list-requires : tie.Need-put-list-requires
@@ -72,7 +73,7 @@ returns-5 c =
     let x = b .before .before .before .before .before .before .before .args in
     let n = b .list-length .ensures in
     let w = writes-text (x .ledger .now) (x .out .now)
-    (number-0 (x .ledger .now) (x .out .now) (right (b .before .before .before)) (obeyed (b .before)) (λ z. c .before .before .before .before .before .if3 .left (n ∙ z)) (omega arith)) in
+    (number-0 (x .ledger .now) (x .out .now) (right (b .before .before .before)) (obeyed (b .before)) (text-some (pairsOf (x .ledger .now)) (λ z. c .before .before .before .before .before .if3 .left (n ∙ z))) (omega arith)) in
     (ap Bytes n ∙ w .0, c .before .before .put-list .ensures ∙ w .1)
 
 pub write-spec : {M : Type 1} → statement M

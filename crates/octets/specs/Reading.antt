@@ -1,0 +1,27 @@
+-- What the readers of numbers answer, row by row: bytes in both orders, and decimal digits.
+use Prim.Native.Nat.{ℕ, _+_, _*_, _-_, _≤_, _<_}
+use mathlib.Core.Path.{_≡_}
+use mathlib.Core.Logic.{_⊎_}
+use mathlib.Core.List.{List, [], _∷_, _++_}
+use lib.ListN.{length, getD}
+use Rattle.octets.specs.Digits.{fromLittle, fromBig}
+use Rattle.octets.specs.Decimal.{numberOf, readOf}
+use Rattle.octets.specs.declared.decimal.Number.the-variants.{Value, Nothing}
+
+pub record Reading : Type 0 where
+  -- bytes, the most significant first: a byte more at the end
+  pub big-none : fromBig 256 [] ≡ 0
+  pub big-more : (bytes : List ℕ) (b : ℕ) → fromBig 256 (bytes ++ (b ∷ [])) ≡ fromBig 256 bytes * 256 + b
+  -- bytes, the least significant first: a byte more in front
+  pub little-none : fromLittle 256 [] ≡ 0
+  pub little-more : (bytes : List ℕ) (b : ℕ) → fromLittle 256 (b ∷ bytes) ≡ fromLittle 256 bytes * 256 + b
+  -- the number that decimal digits say: a digit more at the end
+  pub digits-none : numberOf [] ≡ 0
+  pub digits-more : (text : List ℕ) (b : ℕ) → numberOf (text ++ (b ∷ [])) ≡ numberOf text * 10 + (b - 48)
+  -- a text of one digit or more, each from 48 to 57, that says at most the limit is read
+  pub value : (text : List ℕ) (limit : ℕ) → 0 < length text → ((i : ℕ) → i < length text → (48 ≤ getD text i 0) × (getD text i 0 ≤ 57))
+      → numberOf text ≤ limit → readOf text limit ≡ Value (numberOf text)
+  -- nothing is read where there is no byte, where one is no digit, and where the text says more than the limit
+  pub no-byte : (limit : ℕ) → readOf [] limit ≡ Nothing
+  pub no-digit : (text : List ℕ) (limit i : ℕ) → i < length text → (getD text i 0 < 48) ⊎ (57 < getD text i 0) → readOf text limit ≡ Nothing
+  pub above-limit : (text : List ℕ) (limit : ℕ) → limit < numberOf text → readOf text limit ≡ Nothing
