@@ -1,9 +1,9 @@
 -- A host-port (document 01, "Control lines"): six decimal numbers with commas between.
 use Prim.Native.Nat.{ℕ, zero, suc, _+_, _*_}
-use mathlib.Core.Bool.{Bool, cond, _&&_}
+use mathlib.Core.Bool.{cond, _&&_}
 use mathlib.Core.List.{List}
 use lib.Dec.{leb, eqb}
-use lib.ListN.{length, getD, take, drop}
+use lib.ListN.{getD, take, drop}
 use Rattle.octets.specs.Decimal.{digitRun, numberOf}
 use Rattle.hostports.specs.declared.hosts.Step.{Step}
 use Rattle.hostports.specs.declared.hosts.Step.the-variants.{Host, Malformed}
@@ -29,7 +29,3 @@ moreAt (suc n) text (Host v at) = moreAt n text (cond (eqb (getD text at 0) 44) 
 -- six numbers, which make address * 65,536 + port
 unfoldable pub hostPortAt : List ℕ → ℕ → Step
 hostPortAt text at = moreAt 5 text (numberAt text at)
-
--- a place behind the last byte, or past it
-unfoldable pub atEnd : List ℕ → ℕ → Bool
-atEnd text at = leb (length text) at
