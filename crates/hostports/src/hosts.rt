@@ -5,7 +5,7 @@ ghost use Rattle.hostports.specs.HostPort.{numberAt, hostPortAt};
 
 const COMMA: u8 = 44;
 
-// What stands at a place of the text: a number and the place behind it, or nothing that is well formed.
+// What is at a place of the text: a number and the place after it, or nothing that is well formed.
 pub enum Step {
     Host { value: u64, next: usize },
     Malformed,
