@@ -81,16 +81,16 @@ record MoreAt (n : ℕ) (text : List ℕ) (v at w next : ℕ) : Type 0 where
   no-digit : NoDigit rest
   on : moreAt n text (Host (v * 256 + a .value) (at + 1 + length (a .text))) ≡ Host w next
 
--- a byte that is no 0 is in the text
-comma-there : (text : List ℕ) (at : ℕ) → getD text at 0 ≡ 44 → drop at text ≡ 44 ∷ drop (at + 1) text
-comma-there text at e = go (ltb at (length text)) refl
+-- a byte that is not 0 is in the text
+pub byte-there : (text : List ℕ) (at b : ℕ) → 1 ≤ b → getD text at 0 ≡ b → drop at text ≡ b ∷ drop (at + 1) text
+byte-there text at b h e = go (ltb at (length text)) refl
   where
-    go : (t : Bool) → ltb at (length text) ≡ t → drop at text ≡ 44 ∷ drop (at + 1) text
-    go true h =
-        let inside : at < length text = ltb-true at (length text) h in
+    go : (t : Bool) → ltb at (length text) ≡ t → drop at text ≡ b ∷ drop (at + 1) text
+    go true i =
+        let inside : at < length text = ltb-true at (length text) i in
         rw (add-one at, drop-cons text at 0, e)
-    go false h =
-        let z : getD text at 0 ≡ 0 = List·getD-eq-default text 0 (ltb-false at (length text) h) in
+    go false o =
+        let z : getD text at 0 ≡ 0 = List·getD-eq-default text 0 (ltb-false at (length text) o) in
         absurd (omega arith)
 
 more-read : (n : ℕ) (text : List ℕ) (v at w next : ℕ) → moreAt (suc n) text (Host v at) ≡ Host w next → MoreAt n text v at w next
@@ -105,7 +105,7 @@ more-read n text v at w next = go (eqb (getD text at 0) comma) refl (numberAt te
         record {
           a = m .a;
           rest = m .rest;
-          there = comma-there text at (eqb-true (getD text at 0) comma c) ∙ ap (λ (l : List ℕ). 44 ∷ l) (m .there);
+          there = byte-there text at 44 (omega arith) (eqb-true (getD text at 0) comma c) ∙ ap (λ (l : List ℕ). 44 ∷ l) (m .there);
           no-digit = m .no-digit;
           on = rw (← m .says, ← m .place) h;
         }
