@@ -1,14 +1,16 @@
 -- `HostLists` and `Filling` hold.
-use Prim.Native.Nat.{ℕ, _-_, _≤_, _<_}
+use Prim.Native.Nat.{ℕ, _-_, _≤_}
 use mathlib.Core.Path.{_≡_, refl, sym, subst, _∙_}
 use mathlib.Core.Logic.{_⊎_, inl, inr}
 use mathlib.Core.List.{List, [], _∷_, _++_}
 use native.Mathlib.Omega.{arith}
 use borrow.Author.Tests.{lt-ltb, le-ltb}
+use mathlib.Core.Bool.{false}
+use lib.Dec.{ltb}
 use lib.ListN.{length, replicate}
 use Rattle.hostports.specs.HostPorts.{HostPortText}
 use Rattle.hostlists.specs.HostList.{hostLimit, Listed, listed, trouble, hostsOf, answered, filled, fillOf, leftBy, number, count}
-use Rattle.hostlists.specs.HostLists.{spaced, values, ListText, LongerText, HostLists, Filling}
+use Rattle.hostlists.specs.HostLists.{spaced, values, ListText, LongerText, TooShort, HostLists, Filling}
 use Rattle.hostlists.proofs.ListTexts.{reads-list, eachSpaced, each-spaced, reads-longer, ReadList, ReadLonger, Read, read-list}
 
 -- ---- what a text is read as
@@ -97,28 +99,35 @@ host-lists =
 
 -- ---- what filling a lent list answers and leaves
 
-refused : (text list : List ℕ) (k : ℕ) → 64 ≤ length list → hostsOf text ≡ trouble k → (number (fillOf text list) ≡ k) × (leftBy text list ≡ replicate (length list) 0)
-unfolding fillOf leftBy number answered filled
-refused text list k h e = (rw (le-ltb (length list) hostLimit h, e), rw (le-ltb (length list) hostLimit h, e))
+short : (text list : List ℕ) → TooShort list → (number (fillOf text list) ≡ 43) × (count (fillOf text list) ≡ 0) × (leftBy text list ≡ list)
+unfolding fillOf leftBy number count
+short text list h =
+    let test = lt-ltb (length list) hostLimit h in
+    (rw test, rw test, rw test)
 
-short : (text list : List ℕ) → length list < 64 → (number (fillOf text list) ≡ 43) × (leftBy text list ≡ list)
-unfolding fillOf leftBy number
-short text list h = (rw (lt-ltb (length list) hostLimit h), rw (lt-ltb (length list) hostLimit h))
+module _ (text list : List ℕ) (h : TooShort list → ⊥) where
+  long-enough : ltb (length list) hostLimit ≡ false
+  long-enough = le-ltb (length list) hostLimit (omega arith)
 
-accepted : (text list : List ℕ) → 64 ≤ length list → (l : ListText text)
-    → (number (fillOf text list) ≡ 0) × (count (fillOf text list) ≡ length (l .hosts)) × (leftBy text list ≡ values (l .hosts) ++ replicate (length list - length (l .hosts)) 0)
-unfolding fillOf leftBy number count answered filled
-accepted text list h l =
-    let e = reads text l in
-    let n = length-values (l .hosts) in
-    let room = le-ltb (length list) hostLimit h in
-    (rw (room, e), rw (room, e) n, rw (room, e, n))
+  refused : (k : ℕ) → hostsOf text ≡ trouble k → (number (fillOf text list) ≡ k) × (count (fillOf text list) ≡ 0) × (leftBy text list ≡ replicate (length list) 0)
+  unfolding fillOf leftBy number count answered filled
+  refused k e = (rw (long-enough, e), rw (long-enough, e), rw (long-enough, e))
+
+  accepted : (l : ListText text)
+      → (number (fillOf text list) ≡ 0)
+      × (count (fillOf text list) ≡ length (l .hosts))
+      × (leftBy text list ≡ values (l .hosts) ++ replicate (length list - length (l .hosts)) 0)
+  unfolding fillOf leftBy number count answered filled
+  accepted l =
+      let e = reads text l in
+      let n = length-values (l .hosts) in
+      (rw (long-enough, e), rw (long-enough, e) n, rw (long-enough, e, n))
 
 pub filling : Filling
 filling =
     record {
       number-43 = short;
-      number-41 = λ text list h no-list no-longer. refused text list 41 h (others text no-list no-longer);
-      number-42 = λ text list h l. refused text list 42 h (longer text l);
+      number-41 = λ text list h no-list no-longer. refused text list h 41 (others text no-list no-longer);
+      number-42 = λ text list h l. refused text list h 42 (longer text l);
       number-0 = accepted;
     }

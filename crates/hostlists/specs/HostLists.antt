@@ -50,11 +50,21 @@ pub record HostLists : Type 0 where
   pub others-41 : (text : List ℕ) → (ListText text → ⊥) → (LongerText text → ⊥) → hostsOf text ≡ trouble 41
   pub no-other-trouble : (text : List ℕ) (k : ℕ) → hostsOf text ≡ trouble k → (k ≡ 41) ⊎ (k ≡ 42)
 
+-- a list lent with fewer than 64 entries
+abbrev pub TooShort : List ℕ → Type 0
+TooShort list = length list < 64
+
 -- what filling a lent list answers, and what it leaves there: 43 first, then what the text is
 pub record Filling : Type 0 where
-  pub number-43 : (text list : List ℕ) → length list < 64 → (number (fillOf text list) ≡ 43) × (leftBy text list ≡ list)
-  pub number-41 : (text list : List ℕ) → 64 ≤ length list → (ListText text → ⊥) → (LongerText text → ⊥)
-      → (number (fillOf text list) ≡ 41) × (leftBy text list ≡ replicate (length list) 0)
-  pub number-42 : (text list : List ℕ) → 64 ≤ length list → LongerText text → (number (fillOf text list) ≡ 42) × (leftBy text list ≡ replicate (length list) 0)
-  pub number-0 : (text list : List ℕ) → 64 ≤ length list → (l : ListText text)
-      → (number (fillOf text list) ≡ 0) × (count (fillOf text list) ≡ length (l .hosts)) × (leftBy text list ≡ values (l .hosts) ++ replicate (length list - length (l .hosts)) 0)
+  -- 43: a list lent with fewer than 64 entries stays as it is
+  pub number-43 : (text list : List ℕ) → TooShort list → (number (fillOf text list) ≡ 43) × (count (fillOf text list) ≡ 0) × (leftBy text list ≡ list)
+  -- 41 and 42: the whole list is zero
+  pub number-41 : (text list : List ℕ) → (TooShort list → ⊥) → (ListText text → ⊥) → (LongerText text → ⊥)
+      → (number (fillOf text list) ≡ 41) × (count (fillOf text list) ≡ 0) × (leftBy text list ≡ replicate (length list) 0)
+  pub number-42 : (text list : List ℕ) → (TooShort list → ⊥) → LongerText text
+      → (number (fillOf text list) ≡ 42) × (count (fillOf text list) ≡ 0) × (leftBy text list ≡ replicate (length list) 0)
+  -- else how many host-ports there are, and the list has them and then zeros
+  pub number-0 : (text list : List ℕ) → (TooShort list → ⊥) → (l : ListText text)
+      → (number (fillOf text list) ≡ 0)
+      × (count (fillOf text list) ≡ length (l .hosts))
+      × (leftBy text list ≡ values (l .hosts) ++ replicate (length list - length (l .hosts)) 0)

@@ -14,12 +14,13 @@ numbered-0 : (s : Step) (v next : ℕ) → s ≡ Host v next → (number s ≡ 0
 unfolding number valueOf placeAfter
 numbered-0 s v next e = (rw e, rw e, rw e)
 
-numbered-41 : (text : List ℕ) (at : ℕ) → ((h : HostPortText) → WrittenAt text at h → ⊥) → number (hostPortAt text at) ≡ 41
-unfolding number
+numbered-41 : (text : List ℕ) (at : ℕ) → ((h : HostPortText) → WrittenAt text at h → ⊥)
+    → (number (hostPortAt text at) ≡ 41) × (valueOf (hostPortAt text at) ≡ 0) × (placeAfter (hostPortAt text at) ≡ 0)
+unfolding number valueOf placeAfter
 numbered-41 text at none = go (hostPortAt text at) refl
   where
-    go : (s : Step) → hostPortAt text at ≡ s → number s ≡ 41
-    go Malformed e = refl
+    go : (s : Step) → hostPortAt text at ≡ s → (number s ≡ 41) × (valueOf s ≡ 0) × (placeAfter s ≡ 0)
+    go Malformed e = (refl, refl, refl)
     go (Host v next) e = let f = six-read text at v next e in absurd (none (f .0) (f .1))
 
 pub host-ports : HostPorts

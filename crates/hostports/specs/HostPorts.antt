@@ -59,7 +59,8 @@ pub record HostPorts : Type 0 where
   -- the number is 0 where a host-port is written at the place, with its values
   pub number-0 : (text : List ℕ) (at : ℕ) (h : HostPortText) → WrittenAt text at h
       → (number (hostPortAt text at) ≡ 0) × (valueOf (hostPortAt text at) ≡ address h * 65536 + port h) × (placeAfter (hostPortAt text at) ≡ at + length (written h))
-  -- the number is 41 where none is, an empty one included
-  pub number-41 : (text : List ℕ) (at : ℕ) → ((h : HostPortText) → WrittenAt text at h → ⊥) → number (hostPortAt text at) ≡ 41
+  -- the number is 41 where none is, an empty one included, and the values are 0
+  pub number-41 : (text : List ℕ) (at : ℕ) → ((h : HostPortText) → WrittenAt text at h → ⊥)
+      → (number (hostPortAt text at) ≡ 41) × (valueOf (hostPortAt text at) ≡ 0) × (placeAfter (hostPortAt text at) ≡ 0)
   -- whatever text it is read from, a host-port fits 48 bits
   pub fits-48-bits : (text : List ℕ) (at v next : ℕ) → hostPortAt text at ≡ Host v next → v < 2 ^ 48
