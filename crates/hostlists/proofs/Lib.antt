@@ -1,1 +1,3 @@
-pub mod Lists
+pub mod HostList
+pub mod ListTexts
+pub mod HostLists

@@ -15,6 +15,10 @@ use Rattle.hostlists.specs.declared.list.Hosts.the-variants.{Count, Refu
 abbrev pub hostLimit : ℕ
 hostLimit = 64
 
+-- the byte between two host-ports
+abbrev pub space : ℕ
+space = 32
+
 -- ---- the text
 
 -- what a text says: host-ports, or the number of the first trouble in reading order
@@ -31,9 +35,9 @@ unfoldable pub continued : List ℕ → Step → (ℕ → Listed) → Listed
 continued text Malformed on = trouble 41
 continued text (Host v next) on =
     cond (eqb next (length text)) (listed (v ∷ []))
-    (cond (eqb (getD text next 0) 32) (before v (on (next + 1))) (trouble 41))
+    (cond (eqb (getD text next 0) space) (before v (on (next + 1))) (trouble 41))
 
--- from a place on, with room for n host-ports. Where there is none a space stands before the place: the end is a host-port that is
+-- from a place on, with room for n host-ports. Where there is none a space is before the place: the end is a host-port that is
 -- empty, and any further byte one too many.
 unfoldable pub listAt : ℕ → List ℕ → ℕ → Listed
 listAt zero text at = cond (eqb at (length text)) (trouble 41) (trouble 42)
@@ -68,7 +72,7 @@ fillOf text list = cond (ltb (length list) hostLimit) (Refused 43) (answered (ho
 unfoldable pub leftBy : List ℕ → List ℕ → List ℕ
 leftBy text list = cond (ltb (length list) hostLimit) list (filled (length list) (hostsOf text))
 
--- what reading a text answers while its host-ports are stored, and that they stand in front of the list
+-- what reading a text answers while its host-ports are stored, and that the list begins with them
 pub record Stored (text : List ℕ) (answer : Hosts) (list : List ℕ) : Type 0 where
   pub says : answer ≡ answered (hostsOf text)
   pub holds : take (length (hostPorts (hostsOf text))) list ≡ hostPorts (hostsOf text)
@@ -77,3 +81,8 @@ pub record Stored (text : List ℕ) (answer : Hosts) (list : List ℕ) : Type 0 
 unfoldable pub number : Hosts → ℕ
 number (Count n) = 0
 number (Refused k) = k
+
+-- how many host-ports there are, 0 where the text is refused
+unfoldable pub count : Hosts → ℕ
+count (Count n) = n
+count (Refused k) = 0

@@ -1,3 +1,5 @@
 mod Held
+pub mod HostPort
+pub mod WrittenReads
+pub mod ReadsWritten
 pub mod HostPorts
-pub mod Written

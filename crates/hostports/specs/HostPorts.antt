@@ -6,7 +6,7 @@ use mathlib.Core.List.{List, [], _∷_, _++_}
 use lib.ListN.{length, drop}
 use Rattle.octets.specs.Decimal.{isDigit, digitsOnly, numberOf}
 use Rattle.hostports.specs.declared.hosts.Step.the-variants.{Host}
-use Rattle.hostports.specs.HostPort.{hostPortAt}
+use Rattle.hostports.specs.HostPort.{hostPortAt, number, valueOf, placeAfter}
 
 -- a number of at most 255, written in 1 to 3 digits, leading zeros being fine
 pub record Numeral : Type 0 where
@@ -23,21 +23,44 @@ abbrev pub NoDigit : List ℕ → Type 0
 NoDigit [] = Unit {0}
 NoDigit (b ∷ bs) = isDigit b ≡ false
 
+-- the six numbers of a host-port: four of address, two of port
+pub record HostPortText : Type 0 where
+  pub a : Numeral
+  pub b : Numeral
+  pub c : Numeral
+  pub d : Numeral
+  pub e : Numeral
+  pub f : Numeral
+
 -- six numbers, commas between
-unfoldable pub written : Numeral → Numeral → Numeral → Numeral → Numeral → Numeral → List ℕ
-written a b c d e f = a .text ++ 44 ∷ (b .text ++ 44 ∷ (c .text ++ 44 ∷ (d .text ++ 44 ∷ (e .text ++ 44 ∷ f .text))))
+unfoldable pub written : HostPortText → List ℕ
+written h = h .a .text ++ 44 ∷ (h .b .text ++ 44 ∷ (h .c .text ++ 44 ∷ (h .d .text ++ 44 ∷ (h .e .text ++ 44 ∷ h .f .text))))
 
 -- the address of the first four numbers, and the port of the last two
-abbrev pub address : Numeral → Numeral → Numeral → Numeral → ℕ
-address a b c d = ((a .value * 256 + b .value) * 256 + c .value) * 256 + d .value
+abbrev pub address : HostPortText → ℕ
+address h = ((h .a .value * 256 + h .b .value) * 256 + h .c .value) * 256 + h .d .value
 
-abbrev pub port : Numeral → Numeral → ℕ
-port e f = e .value * 256 + f .value
+abbrev pub port : HostPortText → ℕ
+port h = h .e .value * 256 + h .f .value
+
+-- a host-port is written at a place of the text, and no digit follows it
+pub record WrittenAt (text : List ℕ) (at : ℕ) (h : HostPortText) : Type 0 where
+  pub rest : List ℕ
+  pub there : drop at text ≡ written h ++ rest
+  pub no-digit : NoDigit rest
 
 pub record HostPorts : Type 0 where
-  -- six numbers with commas between, at any place of a text, with nothing or a byte that is no digit behind them, are a host-port:
-  -- address * 65,536 + port, and the place behind it
-  pub written-reads : (text : List ℕ) (at : ℕ) (a b c d e f : Numeral) (rest : List ℕ) → drop at text ≡ written a b c d e f ++ rest → NoDigit rest
-      → hostPortAt text at ≡ Host (address a b c d * 65536 + port e f) (at + length (written a b c d e f))
+  -- six numbers with commas between, at any place of a text, with nothing or a byte that is no digit after them, are a host-port:
+  -- address * 65,536 + port, and the place after it
+  pub written-reads : (text : List ℕ) (at : ℕ) (h : HostPortText) → WrittenAt text at h → hostPortAt text at ≡ Host (address h * 65536 + port h) (at + length (written h))
+  -- whatever reads as a host-port is written so
+  pub reads-written : (text : List ℕ) (at v next : ℕ) → hostPortAt text at ≡ Host v next
+      → (h : HostPortText) × WrittenAt text at h × (v ≡ address h * 65536 + port h) × (next ≡ at + length (written h))
+  -- the number is 0 where a host-port is written at the place, with its values
+  pub number-0 : (text : List ℕ) (at : ℕ) (h : HostPortText) → WrittenAt text at h
+      → (number (hostPortAt text at) ≡ 0) × (valueOf (hostPortAt text at) ≡ address h * 65536 + port h) × (placeAfter (hostPortAt text at) ≡ at + length (written h))
+  -- the number is 41 where none is, an empty one included, and the values are 0
+  pub number-41 : (text : List ℕ) (at : ℕ) → ((h : HostPortText) → WrittenAt text at h → ⊥)
+      → (number (hostPortAt text at) ≡ 41) × (valueOf (hostPortAt text at) ≡ 0) × (placeAfter (hostPortAt text at) ≡ 0)
   -- whatever text it is read from, a host-port fits 48 bits
   pub fits-48-bits : (text : List ℕ) (at v next : ℕ) → hostPortAt text at ≡ Host v next → v < 2 ^ 48

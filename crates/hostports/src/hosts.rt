@@ -1,11 +1,11 @@
 // One host-port at a place of a text, and the reader that keeps hold of the text.
 use octets::decimal;
 ghost use mathlib.Core.Path.{_≡_};
-ghost use Rattle.hostports.specs.HostPort.{numberAt, hostPortAt, atEnd};
+ghost use Rattle.hostports.specs.HostPort.{numberAt, hostPortAt};
 
 const COMMA: u8 = 44;
 
-// What stands at a place of the text: a number and the place behind it, or nothing that is well formed.
+// What is at a place of the text: a number and the place after it, or nothing that is well formed.
 pub enum Step {
     Host { value: u64, next: usize },
     Malformed,
@@ -71,10 +71,18 @@ pub struct Reader<'a> {
     pub at: usize,
 }
 
+// A reader at the start of a text.
 pub fn new<'a>(text: &'a [u8]) -> Reader<'a>
     ensures { λ r. ⌜ (r .text ≡ text .entry) × (r .at ≡ 0) ⌝ }
 {
     Reader { text, at: 0 }
+}
+
+// The reader handed back at another place of its text.
+pub fn moved<'a>(r: Reader<'a>, at: usize) -> Reader<'a>
+    ensures { λ q. ⌜ (q .text ≡ r .entry .text) × (q .at ≡ at) ⌝ }
+{
+    Reader { text: r.text, at }
 }
 
 // The host-port at the reader's place.
@@ -84,15 +92,9 @@ pub fn next<'a>(r: Reader<'a>) -> Step
     host_port_at(r.text, r.at)
 }
 
-pub fn at_end<'a>(r: Reader<'a>) -> bool
-    ensures { λ b. ⌜ b ≡ atEnd (now (r .entry .text)) (r .entry .at) ⌝ }
-{
-    r.text.len() <= r.at
-}
-
-// The host-port at a place of a text.
+// The host-port at a place of a text, for a caller that keeps hold of no reader.
 pub fn step_at(text: &[u8], at: usize) -> Step
     ensures { λ s. ⌜ s ≡ hostPortAt (now (text .entry)) at ⌝ }
 {
-    next(Reader { text, at })
+    next(moved(new(text), at))
 }

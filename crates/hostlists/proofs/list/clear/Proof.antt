@@ -1,6 +1,6 @@
 -- `list::clear`.
 use borrow.Author.Needs.{needs}
-use Rattle.hostlists.proofs.Lists.{cleared-part, cleared-none}
+use Rattle.hostlists.proofs.HostList.{cleared-part, cleared-none}
 use Rattle.hostlists.proofs.list.clear.Statement.{statement}
 use Rattle.hostlists.proofs.list.clear.Tie as tie
 

@@ -1,4 +1,4 @@
--- `list::store`: the host-ports stored, and what comes behind them, are what the text says.
+-- `list::store`: the host-ports stored, and what comes after them, are what the text says.
 use Prim.Native.Nat.{suc, _+_, _-_, _≤_}
 use mathlib.Core.Path.{_≡_, refl, sym, _∙_}
 use native.Mathlib.Omega.{arith}
@@ -7,8 +7,8 @@ use lib.ListN.{length, take, length-set}
 use Rattle.hostports.specs.HostPort.{hostPortAt}
 use Rattle.hostlists.specs.HostList.{hostLimit, listAt, hostsOf}
 use Rattle.hostports.specs.declared.hosts.Step.the-variants.{Host}
-use Rattle.hostports.proofs.HostPorts.{host-port-place}
-use Rattle.hostlists.proofs.Lists.{list-malformed, list-ends, list-broken, list-goes-on, list-empty, list-full, following, following-more, stored-trouble, stored-last}
+use Rattle.hostports.proofs.HostPort.{host-port-place}
+use Rattle.hostlists.proofs.HostList.{list-malformed, list-ends, list-broken, list-goes-on, list-empty, list-full, following, following-more, stored-trouble, stored-last}
 use Rattle.hostlists.proofs.list.store.Statement.{statement}
 use Rattle.hostlists.proofs.list.store.Tie as tie
 
@@ -31,7 +31,7 @@ step-is : (c : tie.After-found Inv-loop μ-loop) → let l = c .before .before .
     hostPortAt (l .before .before .before .args .text .now) (l .loop .at) ≡ Host (c .found .given .0 .0) (c .found .given .0 .1 .0)
 step-is c = sym (c .before .before .step-at .ensures) ∙ c .found .given .1
 
--- the place behind a host-port is in the text or at its end
+-- the place after a host-port is in the text or at its end
 place-within : (c : tie.After-found Inv-loop μ-loop) → c .found .given .0 .1 .0 ≤ length (c .before .before .before .before .before .before .before .args .text .now)
 place-within c =
     let l = c .before .before .before .before in

@@ -1,4 +1,4 @@
--- `hosts::host_port_at`: the numbers read, and those that are to come behind them, make the host-port.
+-- `hosts::host_port_at`: the numbers read, and those that are to come after them, make the host-port.
 use Prim.Native.Nat.{suc, _+_, _-_, _^_, _≤_, _<_}
 use mathlib.Core.Path.{_≡_, sym, _∙_}
 use native.Mathlib.Omega.{arith}
@@ -6,7 +6,7 @@ use borrow.Author.Needs.{needs}
 use lib.ListN.{List·getD-eq-default}
 use Rattle.hostports.specs.HostPort.{numberAt, moreAt, hostPortAt}
 use Rattle.hostports.specs.declared.hosts.Step.the-variants.{Host}
-use Rattle.hostports.proofs.HostPorts.{first-malformed, no-comma, more-refused, one-more, has-room, grows, number-bound}
+use Rattle.hostports.proofs.HostPort.{first-malformed, no-comma, more-refused, one-more, has-room, grows, number-bound}
 use Rattle.hostports.proofs.hosts.host_port_at.Statement.{statement}
 use Rattle.hostports.proofs.hosts.host_port_at.Tie as tie
 

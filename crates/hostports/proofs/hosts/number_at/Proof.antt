@@ -6,7 +6,8 @@ use borrow.Author.Needs.{needs}
 use lib.ListN.{length, take, drop, length-drop}
 use lib.Seq.{length-take-le}
 use Rattle.octets.specs.Decimal.{digitRun, readOf}
-use Rattle.hostports.proofs.HostPorts.{run-within, rest-is, stepOf, number-past, number-long, number-short}
+use Rattle.hostports.specs.HostPort.{valueLimit}
+use Rattle.hostports.proofs.HostPort.{run-within, rest-is, stepOf, number-past, number-long, number-short}
 use Rattle.hostports.proofs.hosts.number_at.Statement.{statement}
 use Rattle.hostports.proofs.hosts.number_at.Tie as tie
 
@@ -17,7 +18,7 @@ run-is c =
     c .run .ensures ∙ rw (rest-is (x .text .now) (x .at))
 
 read-is : (c : tie.After-read) → let x = c .before .before .before .before .before .before .before .args in let s = drop (x .at) (x .text .now) in
-    c .read .result ≡ readOf (take (digitRun s) s) 255
+    c .read .result ≡ readOf (take (digitRun s) s) valueLimit
 read-is c =
     let r = c .before .before .before in
     let x = r .before .before .before .before .args in

@@ -1,23 +1,19 @@
--- A list of host-ports: what each step of reading it says, and what stands in a lent list meanwhile; `HostLists` holds.
-use Prim.Native.Nat.{ℕ, zero, suc, _+_, _-_, _≤_, _<_}
-use mathlib.Core.Path.{_≡_, refl, sym, ap, subst, _∙_}
-use mathlib.Core.Bool.{Bool, true, false, cond}
+-- A list of host-ports: what each step of reading it says, and what a lent list holds meanwhile.
+use Prim.Native.Nat.{ℕ, suc, _+_, _-_, _≤_, _<_}
+use mathlib.Core.Path.{_≡_, refl, sym, ap, _∙_}
 use mathlib.Core.List.{List, [], _∷_, _++_, append-nil}
 use native.Mathlib.Omega.{arith}
 use native.Mathlib.Nat.{sub-zero}
 use native.Mathlib.Numerals.{add-one}
 use borrow.Author.Tests.{lt-ltb, le-ltb, eq-eqb, ne-eqb}
 use borrow.Rule.Slice.PartMut.{putMid}
-use lib.Dec.{eqb}
 use lib.ListN.{length, getD, set, take, drop, replicate, length-append, length-take, length-drop, drop-of-length-le}
 use lib.Seq.{length-take-le, take-all, take-suc-set}
-use Rattle.hostports.specs.declared.hosts.Step.{Step}
 use Rattle.hostports.specs.declared.hosts.Step.the-variants.{Host, Malformed}
 use Rattle.hostlists.specs.declared.list.Hosts.{Hosts}
 use Rattle.hostlists.specs.declared.list.Hosts.the-variants.{Count, Refused}
 use Rattle.hostports.specs.HostPort.{hostPortAt}
-use Rattle.hostlists.specs.HostList.{hostLimit, Listed, listed, trouble, before, continued, listAt, hostsOf, answered, hostPorts, Stored, emptied, filled, fillOf, leftBy}
-use Rattle.hostlists.specs.HostLists.{HostLists}
+use Rattle.hostlists.specs.HostList.{hostLimit, space, count, Listed, listed, trouble, before, continued, listAt, hostsOf, answered, hostPorts, Stored, emptied, filled, fillOf, leftBy}
 
 -- ---- clearing a list from an entry on
 
@@ -47,13 +43,13 @@ module _ (n : ℕ) (text : List ℕ) (at v next : ℕ) (e : hostPortAt text at �
   unfolding listAt continued
   list-ends h = rw (e, eq-eqb next (length text) h)
 
-  pub list-broken : (next ≡ length text → ⊥) → (getD text next 0 ≡ 32 → ⊥) → listAt (suc n) text at ≡ trouble 41
+  pub list-broken : (next ≡ length text → ⊥) → (getD text next 0 ≡ space → ⊥) → listAt (suc n) text at ≡ trouble 41
   unfolding listAt continued
-  list-broken h g = rw (e, ne-eqb next (length text) h, ne-eqb (getD text next 0) 32 g)
+  list-broken h g = rw (e, ne-eqb next (length text) h, ne-eqb (getD text next 0) space g)
 
-  pub list-goes-on : (next ≡ length text → ⊥) → getD text next 0 ≡ 32 → listAt (suc n) text at ≡ before v (listAt n text (next + 1))
+  pub list-goes-on : (next ≡ length text → ⊥) → getD text next 0 ≡ space → listAt (suc n) text at ≡ before v (listAt n text (next + 1))
   unfolding listAt continued
-  list-goes-on h g = rw (e, ne-eqb next (length text) h, eq-eqb (getD text next 0) 32 g)
+  list-goes-on h g = rw (e, ne-eqb next (length text) h, eq-eqb (getD text next 0) space g)
 
 pub list-empty : (n : ℕ) (text : List ℕ) (at : ℕ) → n ≡ 0 → at ≡ length text → listAt n text at ≡ trouble 41
 unfolding listAt
@@ -63,42 +59,7 @@ pub list-full : (n : ℕ) (text : List ℕ) (at : ℕ) → n ≡ 0 → (at ≡ l
 unfolding listAt
 list-full n text at z e = rw (z, ne-eqb at (length text) e)
 
--- ---- how many
-
--- one host-port or more, and no more than there was room for
-abbrev pub Sized : ℕ → Listed → Type 0
-Sized n (listed vs) = (1 ≤ length vs) × (length vs ≤ n)
-Sized n (trouble k) = Unit {0}
-
-sized-before : (n v : ℕ) (r : Listed) → Sized n r → Sized (suc n) (before v r)
-unfolding before
-sized-before n v (listed vs) h = (omega arith, omega arith)
-sized-before n v (trouble k) h = tt
-
-sized-continued : (n : ℕ) (text : List ℕ) (s : Step) (on : ℕ → Listed) → ((at : ℕ) → Sized n (on at)) → Sized (suc n) (continued text s on)
-unfolding continued
-sized-continued n text Malformed on h = tt
-sized-continued n text (Host v next) on h = go (eqb next (length text)) (eqb (getD text next 0) 32)
-  where
-    go : (ends space : Bool) → Sized (suc n) (cond ends (listed (v ∷ [])) (cond space (before v (on (next + 1))) (trouble 41)))
-    go true space = (omega arith, omega arith)
-    go false true = sized-before n v (on (next + 1)) (h (next + 1))
-    go false false = tt
-
-sized-list : (n : ℕ) (text : List ℕ) (at : ℕ) → Sized n (listAt n text at)
-unfolding listAt
-sized-list zero text at = go (eqb at (length text))
-  where
-    go : (ends : Bool) → Sized 0 (cond ends (trouble 41) (trouble 42))
-    go true = tt
-    go false = tt
-sized-list (suc n) text at = sized-continued n text (hostPortAt text at) (listAt n text) (sized-list n text)
-
-pub sized-hosts : (text : List ℕ) → Sized hostLimit (hostsOf text)
-unfolding hostsOf
-sized-hosts text = sized-list hostLimit text 0
-
--- ---- the host-ports read so far, and what comes behind them
+-- ---- the host-ports read so far, and what comes after them
 
 unfoldable pub following : List ℕ → Listed → Listed
 following [] r = r
@@ -119,7 +80,7 @@ unfolding following
 following-snoc [] v r = refl
 following-snoc (u ∷ vs) v r = rw (following-snoc vs v r)
 
--- a host-port more is stored behind those read
+-- a host-port more is stored after those read
 pub following-more : (list : List ℕ) (n v : ℕ) (r : Listed) → n < length list → following (take (n + 1) (set list n v)) r ≡ following (take n list) (before v r)
 following-more list n v r h = rw (add-one n, take-suc-set list n v) (following-snoc (take n list) v r)
 
@@ -139,15 +100,10 @@ stored-last text list n v r h e g =
 
 -- ---- the lent list
 
--- how many host-ports an answer leaves
-abbrev pub counted : Hosts → ℕ
-counted (Count n) = n
-counted (Refused k) = 0
-
-counted-is : (r : Listed) → counted (answered r) ≡ length (hostPorts r)
-unfolding answered hostPorts
-counted-is (listed vs) = refl
-counted-is (trouble k) = refl
+count-is : (r : Listed) → count (answered r) ≡ length (hostPorts r)
+unfolding answered hostPorts count
+count-is (listed vs) = refl
+count-is (trouble k) = refl
 
 filled-is : (n : ℕ) (r : Listed) → filled n r ≡ hostPorts r ++ replicate (n - length (hostPorts r)) 0
 unfolding filled hostPorts
@@ -158,15 +114,12 @@ pub fills-short : (text list : List ℕ) → length list < hostLimit → (Refuse
 unfolding fillOf leftBy
 fills-short text list h = (rw (lt-ltb (length list) hostLimit h), rw (lt-ltb (length list) hostLimit h))
 
--- a list that the text's host-ports were stored in, cleared behind them
-pub fills : (text list kept : List ℕ) (r : Hosts) (n : ℕ) → hostLimit ≤ length list → length kept ≡ length list → Stored text r kept → counted r ≡ n
+-- a list that the text's host-ports were stored in, cleared after them
+pub fills : (text list kept : List ℕ) (r : Hosts) (n : ℕ) → hostLimit ≤ length list → length kept ≡ length list → Stored text r kept → count r ≡ n
     → (r ≡ fillOf text list) × (emptied n kept ≡ leftBy text list)
 unfolding fillOf leftBy emptied
 fills text list kept r n h e s c =
-    let m : n ≡ length (hostPorts (hostsOf text)) = sym c ∙ ap counted (s .says) ∙ counted-is (hostsOf text) in (
+    let m : n ≡ length (hostPorts (hostsOf text)) = sym c ∙ ap count (s .says) ∙ count-is (hostsOf text) in (
       rw (le-ltb (length list) hostLimit h) (s .says),
       rw (le-ltb (length list) hostLimit h, filled-is (length list) (hostsOf text), e, m, s .holds),
     )
-
-pub host-lists : HostLists
-host-lists = record { one-to-64 = λ text vs e. subst (Sized hostLimit) e (sized-hosts text) }

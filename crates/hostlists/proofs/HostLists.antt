@@ -1,0 +1,133 @@
+-- `HostLists` and `Filling` hold.
+use Prim.Native.Nat.{ℕ, _-_, _≤_}
+use mathlib.Core.Path.{_≡_, refl, sym, subst, _∙_}
+use mathlib.Core.Logic.{_⊎_, inl, inr}
+use mathlib.Core.List.{List, [], _∷_, _++_}
+use native.Mathlib.Omega.{arith}
+use borrow.Author.Tests.{lt-ltb, le-ltb}
+use mathlib.Core.Bool.{false}
+use lib.Dec.{ltb}
+use lib.ListN.{length, replicate}
+use Rattle.hostports.specs.HostPorts.{HostPortText}
+use Rattle.hostlists.specs.HostList.{hostLimit, Listed, listed, trouble, hostsOf, answered, filled, fillOf, leftBy, number, count}
+use Rattle.hostlists.specs.HostLists.{spaced, values, ListText, LongerText, TooShort, HostLists, Filling}
+use Rattle.hostlists.proofs.ListTexts.{reads-list, eachSpaced, each-spaced, reads-longer, ReadList, ReadLonger, Read, read-list}
+
+-- ---- what a text is read as
+
+read-hosts : (text : List ℕ) → Read hostLimit text 0 (hostsOf text)
+unfolding hostsOf
+read-hosts text = read-list hostLimit text 0 (omega arith)
+
+reads : (text : List ℕ) (l : ListText text) → hostsOf text ≡ listed (values (l .hosts))
+unfolding hostsOf
+reads text l = go (l .hosts) (l .one-or-more) (l .at-most-64) (l .says)
+  where
+    go : (hosts : List HostPortText) → 1 ≤ length hosts → length hosts ≤ 64 → text ≡ spaced hosts → hostsOf text ≡ listed (values hosts)
+    go [] a b e = absurd (omega arith)
+    go (h ∷ hs) a b e = reads-list hostLimit text 0 h hs (omega arith) e
+
+only : (text vs : List ℕ) → hostsOf text ≡ listed vs → (l : ListText text) × (vs ≡ values (l .hosts))
+only text vs e =
+    let r : ReadList hostLimit text 0 vs = subst (Read hostLimit text 0) e (read-hosts text) in
+    (record { hosts = r .h ∷ r .hs; one-or-more = omega arith; at-most-64 = omega arith; says = r .there }, r .are-values)
+
+longer : (text : List ℕ) → LongerText text → hostsOf text ≡ trouble 42
+unfolding hostsOf
+longer text l = go (l .hosts) (l .are-64) (l .says)
+  where
+    go : (hosts : List HostPortText) → length hosts ≡ 64 → text ≡ spaced hosts ++ (32 ∷ l .further ∷ l .rest) → hostsOf text ≡ trouble 42
+    go [] a e = absurd (omega arith)
+    go (h ∷ hs) a e = reads-longer hostLimit text 0 (h ∷ hs) (l .further) (l .rest) (omega arith) (e ∙ sym (each-spaced h hs (l .further ∷ l .rest)))
+
+longer-text : (text : List ℕ) → ReadLonger hostLimit text 0 → LongerText text
+longer-text text r = go (r .hs) (r .are) (r .there)
+  where
+    go : (hosts : List HostPortText) → length hosts ≡ hostLimit → text ≡ eachSpaced hosts (r .further ∷ r .rest) → LongerText text
+    go [] a e = absurd (omega arith)
+    go (h ∷ hs) a e = record { hosts = h ∷ hs; further = r .further; rest = r .rest; are-64 = omega arith; says = e ∙ each-spaced h hs (r .further ∷ r .rest) }
+
+-- the two numbers of a trouble
+which : (text : List ℕ) (k : ℕ) → hostsOf text ≡ trouble k → (k ≡ 41) ⊎ ((k ≡ 42) × LongerText text)
+which text k e = go (subst (Read hostLimit text 0) e (read-hosts text))
+  where
+    go : Read hostLimit text 0 (trouble k) → (k ≡ 41) ⊎ ((k ≡ 42) × LongerText text)
+    go (inl z) = inl z
+    go (inr m) = inr (m .0, longer-text text (m .1))
+
+only-longer-text : (text : List ℕ) → hostsOf text ≡ trouble 42 → LongerText text
+only-longer-text text e = go (which text 42 e)
+  where
+    go : (_≡_ {A = ℕ} 42 41) ⊎ ((_≡_ {A = ℕ} 42 42) × LongerText text) → LongerText text
+    go (inl z) = absurd (omega arith)
+    go (inr m) = m .1
+
+others : (text : List ℕ) → (ListText text → ⊥) → (LongerText text → ⊥) → hostsOf text ≡ trouble 41
+others text no-list no-longer = go (hostsOf text) refl
+  where
+    one : (k : ℕ) → (k ≡ 41) ⊎ ((k ≡ 42) × LongerText text) → trouble k ≡ trouble 41
+    one k (inl z) = rw z
+    one k (inr m) = absurd (no-longer (m .1))
+
+    go : (r : Listed) → hostsOf text ≡ r → r ≡ trouble 41
+    go (listed vs) e = absurd (no-list (only text vs e .0))
+    go (trouble k) e = one k (which text k e)
+
+length-values : (hs : List HostPortText) → length (values hs) ≡ length hs
+unfolding values
+length-values [] = refl
+length-values (h ∷ hs) = rw (length-values hs)
+
+pub host-lists : HostLists
+host-lists =
+    record {
+      one-to-64 = λ text vs e. sized text vs (only text vs e);
+      list-reads = reads;
+      only-lists = only;
+      longer-42 = longer;
+      only-longer = only-longer-text;
+      others-41 = others;
+      no-other-trouble = λ text k e. first (which text k e);
+    }
+  where
+    sized : (text vs : List ℕ) → (l : ListText text) × (vs ≡ values (l .hosts)) → (1 ≤ length vs) × (length vs ≤ 64)
+    sized text vs o = rw (o .1, length-values (o .0 .hosts)) (o .0 .one-or-more, o .0 .at-most-64)
+
+    first : {A : Type 0} {k : ℕ} → (k ≡ 41) ⊎ ((k ≡ 42) × A) → (k ≡ 41) ⊎ (k ≡ 42)
+    first (inl z) = inl z
+    first (inr m) = inr (m .0)
+
+-- ---- what filling a lent list answers and leaves
+
+short : (text list : List ℕ) → TooShort list → (number (fillOf text list) ≡ 43) × (count (fillOf text list) ≡ 0) × (leftBy text list ≡ list)
+unfolding fillOf leftBy number count
+short text list h =
+    let test = lt-ltb (length list) hostLimit h in
+    (rw test, rw test, rw test)
+
+module _ (text list : List ℕ) (h : TooShort list → ⊥) where
+  long-enough : ltb (length list) hostLimit ≡ false
+  long-enough = le-ltb (length list) hostLimit (omega arith)
+
+  refused : (k : ℕ) → hostsOf text ≡ trouble k → (number (fillOf text list) ≡ k) × (count (fillOf text list) ≡ 0) × (leftBy text list ≡ replicate (length list) 0)
+  unfolding fillOf leftBy number count answered filled
+  refused k e = (rw (long-enough, e), rw (long-enough, e), rw (long-enough, e))
+
+  accepted : (l : ListText text)
+      → (number (fillOf text list) ≡ 0)
+      × (count (fillOf text list) ≡ length (l .hosts))
+      × (leftBy text list ≡ values (l .hosts) ++ replicate (length list - length (l .hosts)) 0)
+  unfolding fillOf leftBy number count answered filled
+  accepted l =
+      let e = reads text l in
+      let n = length-values (l .hosts) in
+      (rw (long-enough, e), rw (long-enough, e) n, rw (long-enough, e, n))
+
+pub filling : Filling
+filling =
+    record {
+      number-43 = short;
+      number-41 = λ text list h no-list no-longer. refused text list h 41 (others text no-list no-longer);
+      number-42 = λ text list h l. refused text list h 42 (longer text l);
+      number-0 = accepted;
+    }
