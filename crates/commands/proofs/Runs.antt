@@ -1,7 +1,7 @@
 -- How many bytes of a kind a text begins with, and texts that are printable.
 use Prim.Native.Nat.{ℕ, zero, suc, _+_, _≤_, _<_}
-use mathlib.Core.Path.{_≡_, refl, sym}
-use mathlib.Core.Logic.{_≢_}
+use mathlib.Core.Path.{_≡_, refl, sym, ap}
+use mathlib.Core.Logic.{_⊎_, inl, inr, _≢_}
 use mathlib.Core.Bool.{Bool, true, false, _&&_, and-assoc, and-eq-true-iff}
 use mathlib.Core.List.{List, [], _∷_, _++_}
 use native.Mathlib.Omega.{arith}
@@ -133,14 +133,15 @@ unfolding leading
 no-space [] n = refl
 no-space (b ∷ bs) n = rw (ne-eqb b 32 n)
 
-pub space-first : (text : List ℕ) → 0 < length text → getD text 0 32 ≡ 32 → 0 < spaceRun text
+pub space-first : (text : List ℕ) → 0 < length text → (text ≡ []) ⊎ (getD text 0 0 ≡ 32) → 0 < spaceRun text
 unfolding leading
-space-first [] h e = absurd (omega arith)
-space-first (b ∷ bs) h e = rw (eq-eqb b 32 e) (omega arith)
+space-first text h (inl e) = absurd (omega (arith, ap length e))
+space-first [] h (inr e) = absurd (omega arith)
+space-first (b ∷ bs) h (inr e) = rw (eq-eqb b 32 e) (omega arith)
 
 pub first-no-space : (text : List ℕ) → spaceRun text ≡ 0 → getD text 0 0 ≢ 32
 unfolding leading
 first-no-space [] z e = omega arith
 first-no-space (b ∷ bs) z e =
-    let s = space-first (b ∷ bs) (omega arith) e in
+    let s = space-first (b ∷ bs) (omega arith) (inr e) in
     omega arith
