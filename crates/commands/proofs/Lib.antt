@@ -1,3 +1,4 @@
+pub mod Letters
 mod Runs
 mod Printables
 mod Verbs
