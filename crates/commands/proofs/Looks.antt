@@ -12,8 +12,8 @@ use lib.Seq.{drop-at, drop-drop, drop-append-add}
 use Rattle.commands.specs.Line.{isSpace, printable, letterRun, spaceRun, isBare, textOf, endsInCrLf, verbOf, afterVerb, verbStands, argumentAt, argumentStands, readOf, partOf, number, verb}
 use Rattle.commands.specs.Accepted.{Bare, Looks, Lines}
 use Rattle.commands.specs.Refused.{Begins}
-use Rattle.commands.proofs.Runs.{leading-within, leading-rest, letters-printable, spaces-over, spaces-printable, no-space, space-first, first-no-space, printable-append, printable-drop}
-use Rattle.commands.proofs.Printables.{printable-at, each-printable}
+use Rattle.commands.proofs.Runs.{leading-within, leading-rest, spaces-over, no-space, space-first, first-no-space}
+use Rattle.commands.proofs.Printables.{printable-append, printable-drop, letters-printable, spaces-printable, printable-at, each-printable}
 use Rattle.commands.proofs.Refusals.{accepted-passed}
 use Rattle.commands.proofs.Verbs.{bare-true, bare-false, bare-or-not}
 use Rattle.commands.proofs.Begins.{run-is, after-is, verb-is, begins-stands, stands-begins}

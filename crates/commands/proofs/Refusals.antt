@@ -2,7 +2,7 @@
 use Prim.Native.Nat.{ℕ, _+_, _≤_, _<_}
 use mathlib.Core.Path.{_≡_, refl, sym, ap, _∙_}
 use mathlib.Core.Logic.{_⊎_, inl, inr, _≢_}
-use mathlib.Core.Bool.{Bool, true, false}
+use mathlib.Core.Bool.{Bool, true, false, true≢false, not-eq-not}
 use mathlib.Core.List.{List, [], _++_, append-nil}
 use native.Mathlib.Omega.{arith}
 use borrow.Author.Tests.{ltb-true, ltb-false, le-ltb, eqb-false, ne-eqb}
@@ -20,10 +20,6 @@ use Rattle.commands.proofs.Answers.{after-length, reads-31, reads-32, r
 use Rattle.commands.proofs.Verbs.{bare-true, bare-false, bare-or-not}
 use Rattle.commands.proofs.Begins.{run-is, after-is, verb-is, begins-stands, stands-begins}
 
--- a test that is true is not false
-both : {t : Bool} → t ≡ true → t ≡ false → ⊥
-both p q = let z : _≡_ {A = ℕ} 0 1 = cc in omega arith
-
 -- ---- the argument
 
 missing : (text word : List ℕ) (v spaces : ℕ) → Begins text word (replicate spaces 32) v → (Bare v → ⊥) → argumentStands text ≡ false
@@ -38,9 +34,9 @@ present : (text word rest : List ℕ) (v : ℕ) → Begins text word rest v → 
 unfolding argumentStands
 present text word rest v b p h = rw (verb-is text word rest v b, bare-true v p, after-is text word rest v b) (ne-eqb (length rest) 0 (omega arith))
 
-module _ (line : List ℕ) where
-  -- ---- the number of a row is the answer's
+-- ---- the number of a row is the answer's
 
+module _ (line : List ℕ) where
   abbrev Answer : ℕ → Type 0
   Answer k = (number (readOf line) ≡ k) × (verb (readOf line) ≡ 0) × (partOf (readOf line) line ≡ [])
 
@@ -49,11 +45,7 @@ module _ (line : List ℕ) where
   answer k e = (ap number e, ap verb e, ap (λ a. partOf a line) e)
 
   not-ended : ((text : List ℕ) → line ≢ text ++ crLf) → endsInCrLf line ≡ false
-  not-ended n = go (endsInCrLf line) refl
-    where
-      go : (b : Bool) → endsInCrLf line ≡ b → endsInCrLf line ≡ false
-      go true e = absurd (n (textOf line) (ends-whole line e))
-      go false e = e
+  not-ended n = not-eq-not {b = false} .0 (λ e. n (textOf line) (ends-whole line e))
 
   module _ (text : List ℕ) (e : line ≡ text ++ crLf) where
     ends : endsInCrLf line ≡ true
@@ -63,11 +55,7 @@ module _ (line : List ℕ) where
     text-is = ap textOf e ∙ ended-text text
 
     not-begun : ((word rest : List ℕ) (v : ℕ) → Begins text word rest v → ⊥) → verbStands (textOf line) ≡ false
-    not-begun n = ap verbStands text-is ∙ go (verbStands text) refl
-      where
-        go : (b : Bool) → verbStands text ≡ b → verbStands text ≡ false
-        go true s = absurd (n _ _ _ (stands-begins text s))
-        go false s = s
+    not-begun n = ap verbStands text-is ∙ not-eq-not {b = false} .0 (λ s. n _ _ _ (stands-begins text s))
 
     module _ (l : length line ≤ 2048) (p : Printable text) where
       plain : printable (textOf line) ≡ true
@@ -83,8 +71,10 @@ module _ (line : List ℕ) where
   refused-only _ (by-34 text l e p n) = answer 34 (reads-34 line l (ends text e) (plain text e l p) (not-begun text e n))
   refused-only _ (by-35-missing text word v spaces l e p b n) = wrong text e l p word (replicate spaces 32) v b (missing text word v spaces b n)
   refused-only _ (by-35-present text word rest v l e p b q h) = wrong text e l p word rest v b (present text word rest v b q h)
-      -- ---- every line has a row, or passes every test
 
+-- ---- every line has a row, or passes every test
+
+module _ (line : List ℕ) where
   -- the line is refused, by the number of its row
   record Row : Type 0 where
     k : ℕ
@@ -101,7 +91,7 @@ module _ (line : List ℕ) where
       k = 34;
       positive = omega arith;
       reads = reads-34 line l e p s;
-      row = by-34 text l (ends-whole line e) (printable-at text p) (λ word rest v b. both (begins-stands text word rest v b) s);
+      row = by-34 text l (ends-whole line e) (printable-at text p) (λ word rest v b. true≢false (sym (begins-stands text word rest v b) ∙ s));
     }
 
     -- nothing but spaces follows the verb
@@ -137,7 +127,7 @@ module _ (line : List ℕ) where
           inr (record { k = 31; positive = omega arith; reads = reads-31 line l; row = by-31 l })
       go false false c d e p q r s t =
           let l = ltb-false lineLimit (length line) p in
-          inr (record { k = 32; positive = omega arith; reads = reads-32 line l q; row = by-32 l (λ text w. both (ends text w) q) })
+          inr (record { k = 32; positive = omega arith; reads = reads-32 line l q; row = by-32 l (λ text w. true≢false (sym (ends line text w) ∙ q)) })
       go false true false d e p q r s t =
           let l = ltb-false lineLimit (length line) p in
           let u = unprintable-at (textOf line) r in
@@ -152,14 +142,14 @@ module _ (line : List ℕ) where
     where
       go : Passed line ⊎ Row → RefusedBy line (number (readOf line))
       go (inl p) = absurd (omega (arith, ap number (passed-accepted line p)))
-      go (inr r) = rw (answer (r .k) (r .reads) .0) (r .row)
+      go (inr r) = rw (answer line (r .k) (r .reads) .0) (r .row)
 
   pub accepted-passed : number (readOf line) ≡ 0 → Passed line
   accepted-passed z = go judged
     where
       go : Passed line ⊎ Row → Passed line
       go (inl p) = p
-      go (inr r) = absurd (omega (arith, answer (r .k) (r .reads) .0))
+      go (inr r) = absurd (omega (arith, answer line (r .k) (r .reads) .0))
 
 pub refusals : Refusals
 refusals = record { refused-is = refused-is; refused-only = refused-only }
