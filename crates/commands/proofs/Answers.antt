@@ -1,14 +1,14 @@
 -- What the reader answers, case by case: the laws that the functions' proofs use in place of the definitions' text.
-use Prim.Native.Nat.{ℕ, zero, suc, _+_, _-_, _≤_, _<_}
+use Prim.Native.Nat.{ℕ, _+_, _-_, _≤_, _<_}
 use mathlib.Core.Path.{_≡_, refl}
 use mathlib.Core.Bool.{Bool, true, false, cond, not, and-false}
 use mathlib.Core.List.{List, []}
 use native.Mathlib.Omega.{arith}
-use borrow.Author.Tests.{lt-ltb, le-ltb, eq-eqb, ne-eqb, ltb-false}
+use borrow.Author.Tests.{lt-ltb, le-ltb, eq-eqb, ne-eqb}
 use lib.Dec.{ltb}
 use lib.ListN.{length, getD, take, drop, length-take, length-drop, drop-of-length-le}
 use lib.Seq.{take-all, drop-cons}
-use Rattle.commands.specs.Line.{lineLimit, isLetter, isSpace, printable, letterRun, spaceRun, isBare, textOf, endsInCrLf, verbOf, afterVerb, verbStands, argumentAt, argumentStands, textReadOf, refusalOf, readOf, number}
+use Rattle.commands.specs.Line.{lineLimit, isLetter, isSpace, printable, letterRun, spaceRun, isBare, textOf, endsInCrLf, verbOf, afterVerb, verbStands, argumentAt, argumentStands, textReadOf, refusalOf, readOf}
 use Rattle.commands.specs.declared.line.Line.{Line}
 use Rattle.commands.specs.declared.line.Line.the-variants.{Command, Refused}
 use Rattle.commands.proofs.Runs.{leading-within}
@@ -119,6 +119,15 @@ module _ (line : List ℕ) where
           by-tests c true false = refl
           by-tests c true true = refl
 
+      module _ (p : printable (textOf line) ≡ true) where
+        pub reads-34 : verbStands (textOf line) ≡ false → readOf line ≡ Refused 34
+        unfolding readOf refusalOf
+        reads-34 v = rw (le-ltb lineLimit (length line) l, e, p, v)
+
+        pub reads-35 : verbStands (textOf line) ≡ true → argumentStands (textOf line) ≡ false → readOf line ≡ Refused 35
+        unfolding readOf refusalOf
+        reads-35 v a = rw (le-ltb lineLimit (length line) l, e, p, v, a)
+
   -- the places of an answer lie in the line
   pub reads-within : (v from to : ℕ) → readOf line ≡ Command v from to → (from ≤ to) × (to ≤ length line)
   unfolding readOf
@@ -145,25 +154,3 @@ pub record Passed (line : List ℕ) : Type 0 where
 pub passed-accepted : (line : List ℕ) → Passed line → readOf line ≡ Command (verbOf (textOf line)) (argumentAt (textOf line)) (length (textOf line))
 unfolding readOf refusalOf
 passed-accepted line p = rw (le-ltb lineLimit (length line) (p .short), p .ended, p .plain, p .named, p .argued)
-
-none-refuses : (a b c d e : Bool) → _≡_ {A = ℕ} (cond a 31 (cond (not b) 32 (cond (not c) 33 (cond (not d) 34 (cond (not e) 35 0))))) 0
-    → (a ≡ false) × (b ≡ true) × (c ≡ true) × (d ≡ true) × (e ≡ true)
-none-refuses true b c d e z = absurd (omega arith)
-none-refuses false false c d e z = absurd (omega arith)
-none-refuses false true false d e z = absurd (omega arith)
-none-refuses false true true false e z = absurd (omega arith)
-none-refuses false true true true false z = absurd (omega arith)
-none-refuses false true true true true z = (refl, refl, refl, refl, refl)
-
-number-zero : (k v from to : ℕ) → number (cond (ltb 0 k) (Refused k) (Command v from to)) ≡ 0 → k ≡ 0
-unfolding number
-number-zero zero v from to e = refl
-number-zero (suc k) v from to e = rw (lt-ltb 0 (suc k) (omega arith)) at e
-
-pub accepted-passed : (line : List ℕ) → number (readOf line) ≡ 0 → Passed line
-unfolding readOf refusalOf
-accepted-passed line e =
-    let text = textOf line in
-    let z = number-zero (refusalOf line) (verbOf text) (argumentAt text) (length text) e in
-    let p = none-refuses (ltb lineLimit (length line)) (endsInCrLf line) (printable text) (verbStands text) (argumentStands text) z in
-    record { short = ltb-false lineLimit (length line) (p .0); ended = p .1; plain = p .2; named = p .3; argued = p .4 }

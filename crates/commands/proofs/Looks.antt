@@ -1,20 +1,24 @@
 -- A line is accepted where it looks so, and nowhere else; `Lines` holds.
-use Prim.Native.Nat.{ℕ, zero, suc, _+_, _-_, _≤_, _<_}
+use Prim.Native.Nat.{ℕ, zero, suc, _+_, _<_}
 use mathlib.Core.Path.{_≡_, refl, sym, ap, _∙_}
-use mathlib.Core.Logic.{_≢_}
-use mathlib.Core.Bool.{Bool, true, false, cond, and-eq-true-iff}
-use mathlib.Core.List.{List, [], _++_, map, append-assoc}
+use mathlib.Core.Logic.{_⊎_, inl, inr, _≢_}
+use mathlib.Core.Bool.{true, cond}
+use mathlib.Core.List.{List, [], _++_, append-assoc}
 use native.Mathlib.Omega.{arith}
 use borrow.Author.Tests.{lt-ltb, ltb-true, eq-eqb, eqb-true}
 use lib.Dec.{ltb, eqb}
 use lib.ListN.{length, getD, take, drop, replicate, length-append, length-drop, length-replicate, drop-of-length-le}
-use lib.Seq.{take-at, drop-at, drop-drop, drop-append-add}
-use Rattle.commands.specs.Line.{isSpace, upper, printable, leading, letterRun, spaceRun, verbs, isBare, numbered, verbNumber, textOf, endsInCrLf, verbOf, afterVerb, verbStands, argumentAt, argumentStands, readOf, partOf, number, verb}
-use Rattle.commands.specs.Accepted.{Looks, Lines}
-use Rattle.commands.proofs.Runs.{leading-within, leading-rest, letters-over, letters-taken, letters-printable, spaces-over, spaces-printable, no-space, space-first, first-no-space, printable-append, printable-drop}
-use Rattle.commands.proofs.Verbs.{numbered-names, own-number}
+use lib.Seq.{drop-at, drop-drop, drop-append-add}
+use Rattle.commands.specs.Line.{isSpace, printable, letterRun, spaceRun, isBare, textOf, endsInCrLf, verbOf, afterVerb, verbStands, argumentAt, argumentStands, readOf, partOf, number, verb}
+use Rattle.commands.specs.Accepted.{Bare, Looks, Lines}
+use Rattle.commands.specs.Refused.{Begins}
+use Rattle.commands.proofs.Runs.{leading-within, leading-rest, spaces-over, no-space, space-first, first-no-space}
+use Rattle.commands.proofs.Printables.{printable-append, printable-drop, letters-printable, spaces-printable, printable-at, each-printable}
+use Rattle.commands.proofs.Refusals.{accepted-passed}
+use Rattle.commands.proofs.Verbs.{bare-true, bare-false, bare-or-not}
+use Rattle.commands.proofs.Begins.{run-is, after-is, verb-is, begins-stands, stands-begins}
 use Rattle.commands.proofs.Parts.{crLf, ends-whole, ended-text, ended-ends, part-is, text-whole}
-use Rattle.commands.proofs.Answers.{after-length, argument-past, argument-within, Passed, passed-accepted, accepted-passed}
+use Rattle.commands.proofs.Answers.{after-length, argument-past, argument-within, Passed, passed-accepted}
 
 regroup : (word spaces argument rest : List ℕ) → (word ++ (spaces ++ argument)) ++ rest ≡ word ++ (spaces ++ (argument ++ rest))
 regroup word spaces argument rest = simp append-assoc
@@ -38,35 +42,27 @@ module _ (line : List ℕ) (p : Passed line) where
   abbrev argument : List ℕ
   argument = drop (argumentAt text) text
 
-  verb-passed : (0 < v) × (getD (afterVerb text) 0 32 ≡ 32)
-  unfolding verbStands
-  verb-passed =
-      let q = and-eq-true-iff (ltb 0 v) (eqb (getD (afterVerb text) 0 32) 32) .0 (p .named) in
-      (ltb-true 0 v (q .0), eqb-true (getD (afterVerb text) 0 32) 32 (q .1))
+  begins : Begins text (take (letterRun text) text) (afterVerb text) v
+  begins = stands-begins text (p .named)
 
   whole : line ≡ take (letterRun text) text ++ (replicate (spaceRun (afterVerb text)) 32 ++ (argument ++ crLf))
   whole =
       ends-whole line (p .ended) ∙ ap (λ t. t ++ crLf) (text-whole text)
       ∙ regroup (take (letterRun text) text) (replicate (spaceRun (afterVerb text)) 32) argument crLf
 
-  listed-named : (0 < v) × (v ≤ 12) × (map upper (take (letterRun text) text) ≡ getD verbs (v - 1) [])
-  unfolding verbOf verbNumber
-  listed-named =
-      let q = numbered-names 1 verbs (map upper (take (letterRun text) text)) (verb-passed .0) in
-      (q .0, omega arith, q .2)
-
-  bare : isBare v ≡ true → (spaceRun (afterVerb text) ≡ 0) × (argument ≡ [])
+  bare : Bare v → (spaceRun (afterVerb text) ≡ 0) × (argument ≡ [])
   unfolding argumentStands
   bare b =
-      let n = eqb-true (length (afterVerb text)) 0 (rw b at (p .argued)) in
+      let n = eqb-true (length (afterVerb text)) 0 (rw (bare-true v b) at (p .argued)) in
       let s = leading-within isSpace (afterVerb text) in
       (omega arith, drop-of-length-le text {i = argumentAt text} (omega (arith, after-length text, argument-past text)))
 
-  argued : isBare v ≡ false → (0 < spaceRun (afterVerb text)) × (0 < length argument)
+  argued : (Bare v → ⊥) → (0 < spaceRun (afterVerb text)) × (0 < length argument)
   unfolding argumentStands
   argued b =
-      let n = ltb-true (argumentAt text) (length text) (rw b at (p .argued)) in
-      (space-first (afterVerb text) (omega (arith, after-length text, argument-past text)) (verb-passed .1), omega (arith, length-drop (argumentAt text) text))
+      let n = ltb-true (argumentAt text) (length text) (rw (bare-false v b) at (p .argued)) in
+      let s = space-first (afterVerb text) (omega (arith, after-length text, argument-past text)) (begins .followed) in
+      (s, omega (arith, length-drop (argumentAt text) text))
 
   first : getD argument 0 0 ≢ 32
   unfolding argumentAt afterVerb
@@ -76,10 +72,8 @@ module _ (line : List ℕ) (p : Passed line) where
   looks = record {
     whole = whole;
     short = p .short;
-    plain = printable-drop text (argumentAt text) (p .plain);
-    lettered = letters-taken text;
-    listed = (listed-named .0, listed-named .1);
-    named = listed-named .2;
+    plain = printable-at argument (printable-drop text (argumentAt text) (p .plain));
+    names = begins .names;
     bare = bare;
     argued = argued;
     first = first;
@@ -95,12 +89,10 @@ by-line line e =
 
 -- ---- a line that looks so
 
--- behind the word stands a space or nothing
-rest-first : (spaces : ℕ) (argument : List ℕ) → (spaces ≡ 0 → argument ≡ [])
-    → (letterRun (replicate spaces 32 ++ argument) ≡ 0) × (getD (replicate spaces 32 ++ argument) 0 32 ≡ 32)
-unfolding leading
-rest-first zero argument h = rw (h refl) (refl, refl)
-rest-first (suc n) argument h = (refl, refl)
+-- a space follows the word or nothing does
+rest-followed : (spaces : ℕ) (argument : List ℕ) → (spaces ≡ 0 → argument ≡ []) → (replicate spaces 32 ++ argument ≡ []) ⊎ (getD (replicate spaces 32 ++ argument) 0 0 ≡ 32)
+rest-followed zero argument h = inl (h refl)
+rest-followed (suc n) argument h = inr refl
 
 module _ (line word argument : List ℕ) (v spaces : ℕ) (k : Looks line word argument v spaces) where
   abbrev behind : List ℕ
@@ -115,55 +107,37 @@ module _ (line word argument : List ℕ) (v spaces : ℕ) (k : Looks line word a
   text-is : textOf line ≡ joined
   text-is = ap textOf line-is ∙ ended-text joined
 
-  behind-first : (letterRun behind ≡ 0) × (getD behind 0 32 ≡ 32)
-  behind-first = rest-first spaces argument (λ z. go (isBare v) refl z)
+  begun : Begins joined word behind v
+  begun = record { whole = refl; names = k .names; followed = rest-followed spaces argument (λ z. go (bare-or-not v) z) }
     where
-      go : (b : Bool) → isBare v ≡ b → spaces ≡ 0 → argument ≡ []
-      go true b z = k .bare b .1
-      go false b z = absurd (omega (arith, k .argued b .0))
+      go : Dec (Bare v) → spaces ≡ 0 → argument ≡ []
+      go (yes b) z = k .bare b .1
+      go (no b) z = absurd (omega (arith, k .argued b .0))
 
   behind-length : length behind ≡ spaces + length argument
   behind-length = simp (length-append, length-replicate)
 
-  run-is : letterRun joined ≡ length word
-  run-is = omega (arith, letters-over word behind (k .lettered), behind-first .0)
-
-  after-is : afterVerb joined ≡ behind
-  unfolding afterVerb
-  after-is = drop-at word behind (letterRun joined) (sym run-is)
-
-  verb-is : verbOf joined ≡ v
-  unfolding verbOf verbNumber
-  verb-is =
-      let l = k .listed in
-      let s : suc (v - 1) ≡ v = omega arith in
-      ap verbNumber (take-at word behind (letterRun joined) (sym run-is)) ∙ ap (numbered 1 verbs) (k .named) ∙ own-number (v - 1) (omega arith) ∙ s
-
   place-is : argumentAt joined ≡ length word + spaces
   unfolding argumentAt
-  place-is = rw after-is (omega (arith, run-is, spaces-over spaces argument, no-space argument (k .first)))
+  place-is = rw (after-is joined word behind v begun) (omega (arith, run-is joined word behind v begun, spaces-over spaces argument, no-space argument (k .first)))
 
   joined-printable : printable joined ≡ true
-  joined-printable = rw (printable-append word behind, printable-append (replicate spaces 32) argument, letters-printable word (k .lettered), spaces-printable spaces, k .plain)
-
-  joined-named : verbStands joined ≡ true
-  unfolding verbStands
-  joined-named = rw (verb-is, lt-ltb 0 v (k .listed .0), after-is, eq-eqb (getD behind 0 32) 32 (behind-first .1))
+  joined-printable = rw (printable-append word behind, printable-append (replicate spaces 32) argument, letters-printable word (k .names .lettered), spaces-printable spaces, each-printable argument (k .plain))
 
   joined-argued : argumentStands joined ≡ true
   unfolding argumentStands
-  joined-argued = rw (verb-is, after-is) (go (isBare v) refl)
+  joined-argued = rw (verb-is joined word behind v begun, after-is joined word behind v begun) (go (bare-or-not v))
     where
-      go : (b : Bool) → isBare v ≡ b → cond (isBare v) (eqb (length behind) 0) (ltb (argumentAt joined) (length joined)) ≡ true
-      go true b = rw (b, eq-eqb (length behind) 0 (omega (arith, behind-length, k .bare b .0, ap length (k .bare b .1))))
-      go false b = rw (b, lt-ltb (argumentAt joined) (length joined) (omega (arith, place-is, behind-length, length-append word behind, k .argued b .1)))
+      go : Dec (Bare v) → cond (isBare v) (eqb (length behind) 0) (ltb (argumentAt joined) (length joined)) ≡ true
+      go (yes b) = rw (bare-true v b, eq-eqb (length behind) 0 (omega (arith, behind-length, k .bare b .0, ap length (k .bare b .1))))
+      go (no b) = rw (bare-false v b, lt-ltb (argumentAt joined) (length joined) (omega (arith, place-is, behind-length, length-append word behind, k .argued b .1)))
 
   passed : Passed line
   passed = record {
     short = k .short;
     ended = ap endsInCrLf line-is ∙ ended-ends joined;
     plain = ap printable text-is ∙ joined-printable;
-    named = ap verbStands text-is ∙ joined-named;
+    named = ap verbStands text-is ∙ begins-stands joined word behind v begun;
     argued = ap argumentStands text-is ∙ joined-argued;
   }
 
@@ -174,7 +148,7 @@ module _ (line word argument : List ℕ) (v spaces : ℕ) (k : Looks line word a
   unfolding number verb
   accepted =
       let r = passed-accepted line passed in
-      (ap number r, ap verb r ∙ ap verbOf text-is ∙ verb-is, handed line passed ∙ ap (λ t. drop (argumentAt t) t) text-is ∙ joined-part)
+      (ap number r, ap verb r ∙ ap verbOf text-is ∙ verb-is joined word behind v begun, handed line passed ∙ ap (λ t. drop (argumentAt t) t) text-is ∙ joined-part)
 
 pub lines : Lines
 lines = record { accepted-looks = by-line; looks-accepted = accepted }

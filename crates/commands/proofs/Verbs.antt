@@ -1,6 +1,7 @@
--- Words compared letter by letter, and searched in the table of verbs.
+-- Words compared letter by letter, and searched in the table of verbs; the verbs that take no argument.
 use Prim.Native.Nat.{ℕ, zero, suc, _+_, _-_, _≤_, _<_}
 use mathlib.Core.Path.{_≡_, refl, ap}
+use mathlib.Core.Logic.{inl, inr, ⊎-elim}
 use mathlib.Core.Bool.{Bool, true, false, _&&_, and-eq-true-iff, and-false}
 use mathlib.Core.List.{List, [], _∷_}
 use native.Mathlib.Omega.{arith}
@@ -10,7 +11,8 @@ use borrow.Author.Tests.{eq-eqb, ne-eqb, eqb-true}
 use lib.Dec.{eqb}
 use lib.ListN.{length, getD, drop, drop-of-length-le}
 use lib.Seq.{drop-cons}
-use Rattle.commands.specs.Line.{verbs, same, numbered}
+use Rattle.commands.specs.Line.{verbs, isBare, same, numbered}
+use Rattle.commands.specs.Accepted.{Bare}
 
 -- ---- two words
 
@@ -99,3 +101,20 @@ four-letters v h = eqb-true (length (getD verbs v [])) 4 (each-below (λ v. eqb 
 pub own-number : (v : ℕ) → v < 12 → numbered 1 verbs (getD verbs v []) ≡ suc v
 unfolding allBelow numbered same
 own-number v h = eqb-true (numbered 1 verbs (getD verbs v [])) (suc v) (each-below (λ v. eqb (numbered 1 verbs (getD verbs v [])) (suc v)) 12 refl v h)
+
+-- ---- PASV and SPAS
+
+pub bare-true : (v : ℕ) → Bare v → isBare v ≡ true
+bare-true v (inl e) = rw e
+bare-true v (inr e) = rw e
+
+pub bare-false : (v : ℕ) → (Bare v → ⊥) → isBare v ≡ false
+bare-false v n = rw (ne-eqb v 2 (λ e. n (inl e)), ne-eqb v 7 (λ e. n (inr e)))
+
+pub bare-or-not : (v : ℕ) → Dec (Bare v)
+bare-or-not v = go (ℕ-discrete v 2) (ℕ-discrete v 7)
+  where
+    go : Dec (v ≡ 2) → Dec (v ≡ 7) → Dec (Bare v)
+    go (yes a) b = yes (inl a)
+    go (no a) (yes b) = yes (inr b)
+    go (no a) (no b) = no (⊎-elim a b)

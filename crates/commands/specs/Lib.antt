@@ -1,2 +1,4 @@
 pub mod Line
+pub mod Letters
 pub mod Accepted
+pub mod Refused

@@ -1,6 +1,7 @@
 -- What reader and writer answer, case by case: the laws that callers use in place of the definitions' text.
 use Prim.Native.Nat.{ℕ, _≤_, _<_}
 use mathlib.Core.Path.{_≡_}
+use mathlib.Core.Logic.{_⊎_, inl, inr}
 use mathlib.Core.Bool.{true, false}
 use mathlib.Core.List.{List, _++_}
 use native.Mathlib.Omega.{arith}
@@ -21,13 +22,10 @@ pub refusal-data : (d third : ℕ) → faultOf d ≡ 0 → has eodc d ≡ false 
 unfolding refusalOf
 refusal-data d third h e = rw (h, e)
 
-pub refusal-zero : (d third : ℕ) → faultOf d ≡ 0 → has eodc d ≡ true → third ≡ 0 → refusalOf d third ≡ 15
+pub refusal-15 : (d third : ℕ) → faultOf d ≡ 0 → has eodc d ≡ true → (third ≡ 0) ⊎ (countLimit < third) → refusalOf d third ≡ 15
 unfolding refusalOf
-refusal-zero d third h e z = rw (h, e, eq-eqb third 0 z)
-
-pub refusal-limit : (d third : ℕ) → faultOf d ≡ 0 → has eodc d ≡ true → countLimit < third → refusalOf d third ≡ 15
-unfolding refusalOf
-refusal-limit d third h e l = rw (h, e, ne-eqb third 0 (omega arith), lt-ltb countLimit third l)
+refusal-15 d third h e (inl z) = rw (h, e, eq-eqb third 0 z)
+refusal-15 d third h e (inr l) = rw (h, e, ne-eqb third 0 (omega arith), lt-ltb countLimit third l)
 
 pub refusal-count : (d third : ℕ) → faultOf d ≡ 0 → has eodc d ≡ true → 0 < third → third ≤ countLimit → refusalOf d third ≡ 0
 unfolding refusalOf
@@ -47,9 +45,9 @@ pub reads-21 : (h : List ℕ) → (length h ≡ headerLength → ⊥) → readOf
 unfolding readOf readNumber
 reads-21 h n = rw (ne-eqb (length h) headerLength n)
 
-pub reads-refused : (h : List ℕ) → length h ≡ headerLength → 0 < refusalOf (descriptorOf h) (thirdOf h) → readOf h ≡ Refused (refusalOf (descriptorOf h) (thirdOf h))
+pub reads-refused : (h : List ℕ) (k : ℕ) → length h ≡ headerLength → refusalOf (descriptorOf h) (thirdOf h) ≡ k → 0 < k → readOf h ≡ Refused k
 unfolding readOf readNumber
-reads-refused h n k = rw (eq-eqb (length h) headerLength n, lt-ltb 0 (refusalOf (descriptorOf h) (thirdOf h)) k)
+reads-refused h k n e l = rw (eq-eqb (length h) headerLength n, e, lt-ltb 0 k l)
 
 pub reads-meant : (h : List ℕ) → length h ≡ headerLength → refusalOf (descriptorOf h) (thirdOf h) ≡ 0 → readOf h ≡ meant (descriptorOf h) (secondOf h) (thirdOf h)
 unfolding readOf readNumber
@@ -58,9 +56,11 @@ reads-meant h n k = rw (eq-eqb (length h) headerLength n, k)
 -- ---- the writer, on arguments that it refuses, on too few bytes, and else
 
 module _ (d len third : ℕ) (out : List ℕ) where
-  pub writes-refused : 0 < refusalOf d third → (writeOf d third out ≡ NotWritten (refusalOf d third)) × (leftBy d len third out ≡ out)
+  pub writes-refused : (k : ℕ) → refusalOf d third ≡ k → 0 < k → (writeOf d third out ≡ NotWritten k) × (leftBy d len third out ≡ out)
   unfolding writeOf leftBy writeNumber
-  writes-refused k = (rw (lt-ltb 0 (refusalOf d third) k, lt-ltb 0 (refusalOf d third) k), rw (lt-ltb 0 (refusalOf d third) k, lt-ltb 0 (refusalOf d third) k))
+  writes-refused k e l =
+      let t = lt-ltb 0 k l in
+      (rw (e, t, t), rw (e, t, t))
 
   pub writes-short : refusalOf d third ≡ 0 → length out < headerLength → (writeOf d third out ≡ NotWritten 55) × (leftBy d len third out ≡ out)
   unfolding writeOf leftBy writeNumber

@@ -24,7 +24,7 @@ accepts d third out e = go (decLt 0 (refusalOf d third)) (decLt (length out) hea
   where
     go : Dec (0 < refusalOf d third) → Dec (length out < headerLength) → (refusalOf d third ≡ 0) × (headerLength ≤ length out)
     go (yes h) l =
-        let w = writes-refused d 0 third out h .0 in
+        let w = writes-refused d 0 third out (refusalOf d third) refl h .0 in
         let z : _≡_ {A = ℕ} 0 1 = cc in absurd (omega arith)
     go (no h) (yes l) =
         let w = writes-short d 0 third out (omega arith) l .0 in
@@ -73,7 +73,7 @@ sound h n = go (ℕ-discrete (length h) headerLength) (decLt 0 (refusalOf (descr
   where
     go : Dec (length h ≡ headerLength) → Dec (0 < refusalOf (descriptorOf h) (thirdOf h)) → (length h ≡ headerLength) × (refusalOf (descriptorOf h) (thirdOf h) ≡ 0)
     go (no l) r = absurd (n 21 (reads-21 h l))
-    go (yes l) (yes r) = absurd (n _ (reads-refused h l r))
+    go (yes l) (yes r) = absurd (n _ (reads-refused h _ l refl r))
     go (yes l) (no r) = (l, omega arith)
 
 -- the writer on the fields of bytes that are accepted, with what it puts into the second field

@@ -4,22 +4,22 @@ use mathlib.Core.Path.{_≡_}
 use mathlib.Core.List.{List, _++_}
 use lib.ListN.{length, take, drop}
 use Rattle.octets.specs.Digits.{Below}
-use Rattle.eblock.specs.Header.{headerLength, secondOf, meant, readOf, writeOf, leftBy}
+use Rattle.eblock.specs.Header.{secondOf, meant, readOf, writeOf, leftBy}
 use Rattle.eblock.specs.declared.header.Header.the-variants.{Data, Eodc}
 use Rattle.eblock.specs.declared.header.Written.the-variants.{Bytes}
 
 -- the writer accepts these arguments and leaves h in front of the lent bytes
 pub record Rewrites (h : List ℕ) (d len third : ℕ) (out : List ℕ) : Type 0 where
-  pub accepted : writeOf d third out ≡ Bytes headerLength
-  pub same : leftBy d len third out ≡ h ++ drop headerLength out
+  pub accepted : writeOf d third out ≡ Bytes 17
+  pub same : leftBy d len third out ≡ h ++ drop 17 out
 
 pub record RoundTrip : Type 0 where
   -- for every argument that the writer accepts, the reader gives what was meant
-  pub reads-what-was-written : (d len third : ℕ) (out : List ℕ) → len < 2 ^ 64 → third < 2 ^ 64 → writeOf d third out ≡ Bytes headerLength
-      → readOf (take headerLength (leftBy d len third out)) ≡ meant d len third
+  pub reads-what-was-written : (d len third : ℕ) (out : List ℕ) → len < 2 ^ 64 → third < 2 ^ 64 → writeOf d third out ≡ Bytes 17
+      → readOf (take 17 (leftBy d len third out)) ≡ meant d len third
   -- the writer on what the reader read of any bytes gives these bytes again
   pub writes-what-was-read : (h : List ℕ) → Below 256 h → (d len offset : ℕ) → readOf h ≡ Data d len offset
-      → (out : List ℕ) → headerLength ≤ length out → Rewrites h d len offset out
+      → (out : List ℕ) → 17 ≤ length out → Rewrites h d len offset out
   -- and likewise with EODC, whatever length it is handed, where the unused field was 0
   pub writes-the-count-read : (h : List ℕ) → Below 256 h → (d n : ℕ) → readOf h ≡ Eodc d n → secondOf h ≡ 0
-      → (len : ℕ) (out : List ℕ) → headerLength ≤ length out → Rewrites h d len n out
+      → (len : ℕ) (out : List ℕ) → 17 ≤ length out → Rewrites h d len n out

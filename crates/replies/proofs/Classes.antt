@@ -20,25 +20,25 @@ under first last code h = rw (lt-leb first code h)
 past : (first last code : ℕ) → last < code → among first last code ≡ false
 past first last code h = rw (lt-leb code last h) (and-false (leb first code))
 
-pub preliminary : (code : ℕ) → 100 ≤ code → code < 200 → classOf code ≡ Preliminary
+pub preliminary : (code : ℕ) → 100 ≤ code → code ≤ 199 → classOf code ≡ Preliminary
 unfolding classOf
-preliminary code h g = rw (inside 100 199 code h (omega arith))
+preliminary code h g = rw (inside 100 199 code h g)
 
-pub completion : (code : ℕ) → 200 ≤ code → code < 300 → classOf code ≡ Completion
+pub completion : (code : ℕ) → 200 ≤ code → code ≤ 299 → classOf code ≡ Completion
 unfolding classOf
-completion code h g = rw (past 100 199 code (omega arith), inside 200 299 code h (omega arith))
+completion code h g = rw (past 100 199 code (omega arith), inside 200 299 code h g)
 
-pub intermediate : (code : ℕ) → 300 ≤ code → code < 400 → classOf code ≡ Intermediate
+pub intermediate : (code : ℕ) → 300 ≤ code → code ≤ 399 → classOf code ≡ Intermediate
 unfolding classOf
 intermediate code h g =
-    rw (past 100 199 code (omega arith), past 200 299 code (omega arith), inside 300 399 code h (omega arith))
+    rw (past 100 199 code (omega arith), past 200 299 code (omega arith), inside 300 399 code h g)
 
-pub transient : (code : ℕ) → 400 ≤ code → code < 500 → classOf code ≡ Transient
+pub transient : (code : ℕ) → 400 ≤ code → code ≤ 499 → classOf code ≡ Transient
 unfolding classOf
 transient code h g =
-    rw (past 100 199 code (omega arith), past 200 299 code (omega arith), past 300 399 code (omega arith), inside 400 499 code h (omega arith))
+    rw (past 100 199 code (omega arith), past 200 299 code (omega arith), past 300 399 code (omega arith), inside 400 499 code h g)
 
-pub permanent : (code : ℕ) → 500 ≤ code → code < 600 → classOf code ≡ Permanent
+pub permanent : (code : ℕ) → 500 ≤ code → code ≤ 599 → classOf code ≡ Permanent
 unfolding classOf
 permanent code h g =
     rw (
@@ -46,7 +46,7 @@ permanent code h g =
       past 200 299 code (omega arith),
       past 300 399 code (omega arith),
       past 400 499 code (omega arith),
-      inside 500 599 code h (omega arith),
+      inside 500 599 code h g,
     )
 
 pub others : (code : ℕ) → (code < 100) ⊎ (599 < code) → classOf code ≡ Refused 36
@@ -68,6 +68,10 @@ others code (inr h) =
       past 500 599 code h,
     )
 
+others-refused : (code : ℕ) → (code < 100) ⊎ (599 < code) → (classOf code ≡ Refused 36) × (number (classOf code) ≡ 36) × (digit (classOf code) ≡ 0)
+unfolding number digit
+others-refused code h = let e = others code h in (e, ap number e, ap digit e)
+
 -- a class whose codes begin with this digit, and which refuses nothing
 hundreds : (code : ℕ) (k : Class) → classOf code ≡ k → number k ≡ 0 → digit k ≡ code / 100 → (digit (classOf code) ≡ code / 100) × (number (classOf code) ≡ 0)
 hundreds code k e n d = (ap digit e ∙ d, ap number e ∙ n)
@@ -77,11 +81,20 @@ unfolding digit number
 by-hundreds code h g = go (decLt code 200) (decLt code 300) (decLt code 400) (decLt code 500)
   where
     go : Dec (code < 200) → Dec (code < 300) → Dec (code < 400) → Dec (code < 500) → (digit (classOf code) ≡ code / 100) × (number (classOf code) ≡ 0)
-    go (yes a) b c d = hundreds code Preliminary (preliminary code h a) refl (omega arith)
-    go (no a) (yes b) c d = hundreds code Completion (completion code (omega arith) b) refl (omega arith)
-    go (no a) (no b) (yes c) d = hundreds code Intermediate (intermediate code (omega arith) c) refl (omega arith)
-    go (no a) (no b) (no c) (yes d) = hundreds code Transient (transient code (omega arith) d) refl (omega arith)
-    go (no a) (no b) (no c) (no d) = hundreds code Permanent (permanent code (omega arith) (omega arith)) refl (omega arith)
+    go (yes a) b c d = hundreds code Preliminary (preliminary code h (omega arith)) refl (omega arith)
+    go (no a) (yes b) c d = hundreds code Completion (completion code (omega arith) (omega arith)) refl (omega arith)
+    go (no a) (no b) (yes c) d = hundreds code Intermediate (intermediate code (omega arith) (omega arith)) refl (omega arith)
+    go (no a) (no b) (no c) (yes d) = hundreds code Transient (transient code (omega arith) (omega arith)) refl (omega arith)
+    go (no a) (no b) (no c) (no d) = hundreds code Permanent (permanent code (omega arith) g) refl (omega arith)
 
 pub classes : Classes
-classes = record { class-is-hundreds = by-hundreds; others-refused = others }
+classes =
+    record {
+      preliminary = preliminary;
+      completion = completion;
+      intermediate = intermediate;
+      transient = transient;
+      permanent = permanent;
+      class-is-hundreds = by-hundreds;
+      others-refused = others-refused;
+    }

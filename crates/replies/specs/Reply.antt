@@ -38,7 +38,12 @@ digit Permanent = 5
 digit (Refused k) = 0
 
 pub record Classes : Type 0 where
-  -- the class of a code is its hundreds
+  pub preliminary : (code : ℕ) → 100 ≤ code → code ≤ 199 → classOf code ≡ Preliminary
+  pub completion : (code : ℕ) → 200 ≤ code → code ≤ 299 → classOf code ≡ Completion
+  pub intermediate : (code : ℕ) → 300 ≤ code → code ≤ 399 → classOf code ≡ Intermediate
+  pub transient : (code : ℕ) → 400 ≤ code → code ≤ 499 → classOf code ≡ Transient
+  pub permanent : (code : ℕ) → 500 ≤ code → code ≤ 599 → classOf code ≡ Permanent
+  -- the digit of a code's class is its hundreds, and nothing is refused
   pub class-is-hundreds : (code : ℕ) → 100 ≤ code → code ≤ 599 → (digit (classOf code) ≡ code / 100) × (number (classOf code) ≡ 0)
-  -- every other code is refused
-  pub others-refused : (code : ℕ) → (code < 100) ⊎ (599 < code) → classOf code ≡ Refused 36
+  -- every other code is refused by 36 and has no class
+  pub others-refused : (code : ℕ) → (code < 100) ⊎ (599 < code) → (classOf code ≡ Refused 36) × (number (classOf code) ≡ 36) × (digit (classOf code) ≡ 0)

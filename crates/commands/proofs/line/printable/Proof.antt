@@ -6,7 +6,7 @@ use borrow.Author.Needs.{needs}
 use borrow.Author.Tests.{not-true, not-false}
 use lib.ListN.{length, drop}
 use Rattle.commands.specs.Line.{printable}
-use Rattle.commands.proofs.Runs.{printable-stops, printable-goes, printable-ends}
+use Rattle.commands.proofs.Printables.{printable-stops, printable-goes, printable-ends}
 use Rattle.commands.proofs.line.printable.Statement.{statement}
 use Rattle.commands.proofs.line.printable.Tie as tie
 

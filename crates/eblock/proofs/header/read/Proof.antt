@@ -6,7 +6,7 @@ use lib.Seq.{take-take}
 use borrow.Author.Needs.{needs}
 use Rattle.octets.specs.Digits.{fromBig}
 use Rattle.eblock.specs.Header.{descriptorOf, secondOf, thirdOf, refusalOf}
-use Rattle.eblock.specs.declared.header.Header.the-variants.{Eodc, Refused}
+use Rattle.eblock.specs.declared.header.Header.the-variants.{Eodc}
 use Rattle.eblock.proofs.Answers.{reads-21, reads-refused, reads-meant, meant-count, meant-data}
 use Rattle.eblock.proofs.header.read.Statement.{statement}
 use Rattle.eblock.proofs.header.read.Tie as tie
@@ -45,8 +45,7 @@ refusal-requires c κs = search needs
 returns-2 : tie.Need-returns-2
 returns-2 c =
     let s = c .before .before .before .before .before .before .before in
-    let n = number-is (c .before) in
-    ap Refused n ∙ sym (reads-refused (s .args .bytes .now) (c .before .before .before .before .before .if1 .left) (omega (arith, n)))
+    sym (reads-refused (s .args .bytes .now) (c .before .refusal .result) (c .before .before .before .before .before .if1 .left) (sym (number-is (c .before))) (c .if2 .taken))
 
 has-requires : tie.Need-has-requires
 has-requires c κs = search needs

@@ -1,11 +1,12 @@
 -- `header::refusal`.
 use mathlib.Core.Path.{_≡_, sym, _∙_}
+use mathlib.Core.Logic.{inl, inr}
 use mathlib.Core.Bool.{true}
 use native.Mathlib.Omega.{arith}
 use borrow.Author.Needs.{needs}
 use borrow.Author.Tests.{not-true, not-false}
 use Rattle.eblock.specs.Descriptor.{has, eodc, faultOf}
-use Rattle.eblock.proofs.Answers.{refusal-fault, refusal-data, refusal-zero, refusal-limit, refusal-count}
+use Rattle.eblock.proofs.Answers.{refusal-fault, refusal-data, refusal-15, refusal-count}
 use Rattle.eblock.proofs.header.refusal.Statement.{statement}
 use Rattle.eblock.proofs.header.refusal.Tie as tie
 
@@ -38,13 +39,13 @@ returns-3 : tie.Need-returns-3
 returns-3 c =
     let e = c .before in
     let x = e .before .before .before .before .args in
-    sym (refusal-zero (x .d) (x .third) (sound (e .before .before)) (counts e) (c .if3 .taken))
+    sym (refusal-15 (x .d) (x .third) (sound (e .before .before)) (counts e) (inl (c .if3 .taken)))
 
 returns-4 : tie.Need-returns-4
 returns-4 c =
     let e = c .before .before in
     let x = e .before .before .before .before .args in
-    sym (refusal-limit (x .d) (x .third) (sound (e .before .before)) (counts e) (c .if4 .taken))
+    sym (refusal-15 (x .d) (x .third) (sound (e .before .before)) (counts e) (inr (c .if4 .taken)))
 
 returns-5 : tie.Need-returns-5
 returns-5 c =

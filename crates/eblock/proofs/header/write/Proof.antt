@@ -1,11 +1,10 @@
 -- `header::write`.
-use mathlib.Core.Path.{_≡_, sym, ap, _∙_}
+use mathlib.Core.Path.{_≡_, sym, _∙_}
 use native.Mathlib.Omega.{arith}
 use lib.ListN.{length, set, take, drop, length-set, length-take, length-drop}
 use borrow.Author.Needs.{needs}
 use borrow.Rule.Slice.PartMut.{putMid}
 use Rattle.octets.specs.Digits.{toBig}
-use Rattle.eblock.specs.declared.header.Written.the-variants.{Refused}
 use Rattle.eblock.specs.Header.{secondField}
 use Rattle.eblock.proofs.Answers.{writes-refused, writes-short, writes-header}
 use Rattle.eblock.proofs.Placed.{placed}
@@ -18,9 +17,8 @@ refusal-requires c κs = search needs
 returns : tie.Need-returns
 returns c =
     let x = c .before .before .before .args in
-    let k = c .before .refusal .ensures in
-    let w = writes-refused (x .d) (x .length) (x .third) (x .out .now) (omega (arith, k)) in
-    (ap Refused k ∙ sym (w .0), sym (w .1))
+    let w = writes-refused (x .d) (x .length) (x .third) (x .out .now) (c .before .refusal .result) (sym (c .before .refusal .ensures)) (c .if1 .taken) in
+    (sym (w .0), sym (w .1))
 
 returns-2 : tie.Need-returns-2
 returns-2 c =

@@ -1,0 +1,62 @@
+-- The verb that a text begins with: `Begins` is what the test says.
+use Prim.Native.Nat.{ℕ, suc, _-_}
+use mathlib.Core.Path.{_≡_, refl, sym, ap, _∙_}
+use mathlib.Core.Logic.{_⊎_, inl, inr}
+use mathlib.Core.Bool.{true, and-eq-true-iff}
+use mathlib.Core.List.{List, [], _∷_, map}
+use native.Mathlib.Omega.{arith}
+use borrow.Author.Tests.{lt-ltb, ltb-true, eq-eqb, eqb-true}
+use lib.Dec.{ltb, eqb}
+use lib.ListN.{length, getD, take, take-append-drop}
+use lib.Seq.{take-at, drop-at}
+use Rattle.commands.specs.Line.{upper, leading, letterRun, verbs, verbNumber, verbOf, afterVerb, verbStands}
+use Rattle.commands.specs.Refused.{Begins}
+use Rattle.commands.proofs.Runs.{letters-over, letters-taken}
+use Rattle.commands.proofs.Verbs.{numbered-names, own-number}
+
+-- ---- a space follows, or nothing does
+
+followed-first : (rest : List ℕ) → (rest ≡ []) ⊎ (getD rest 0 0 ≡ 32) → (letterRun rest ≡ 0) × (getD rest 0 32 ≡ 32)
+unfolding leading
+followed-first [] f = (refl, refl)
+followed-first (b ∷ bs) (inl e) = absurd (let z : _≡_ {A = ℕ} 0 1 = cc in omega arith)
+followed-first (b ∷ bs) (inr e) = rw e (refl, refl)
+
+first-followed : (rest : List ℕ) → getD rest 0 32 ≡ 32 → (rest ≡ []) ⊎ (getD rest 0 0 ≡ 32)
+first-followed [] e = inl refl
+first-followed (b ∷ bs) e = inr e
+
+-- ---- a text that begins with a verb
+
+module _ (text word rest : List ℕ) (v : ℕ) (b : Begins text word rest v) where
+  pub run-is : letterRun text ≡ length word
+  run-is = ap letterRun (b .whole) ∙ omega (arith, letters-over word rest (b .names .lettered), followed-first rest (b .followed) .0)
+
+  pub after-is : afterVerb text ≡ rest
+  unfolding afterVerb
+  after-is = rw (run-is, b .whole) (drop-at word rest (length word) refl)
+
+  pub verb-is : verbOf text ≡ v
+  unfolding verbOf verbNumber
+  verb-is =
+      let n = b .names in
+      let s : suc (v - 1) ≡ v = omega (arith, n .listed) in
+      rw (run-is, b .whole, take-at word rest (length word) refl, n .named, own-number (v - 1) (omega (arith, n .listed))) s
+
+  pub begins-stands : verbStands text ≡ true
+  unfolding verbStands
+  begins-stands = rw (verb-is, lt-ltb 0 v (b .names .listed .0), after-is, eq-eqb (getD rest 0 32) 32 (followed-first rest (b .followed) .1))
+
+-- ---- and the other way round
+
+pub stands-begins : (text : List ℕ) → verbStands text ≡ true → Begins text (take (letterRun text) text) (afterVerb text) (verbOf text)
+unfolding verbStands afterVerb verbOf verbNumber
+stands-begins text h =
+    let word = take (letterRun text) text in
+    let q = and-eq-true-iff (ltb 0 (verbOf text)) (eqb (getD (afterVerb text) 0 32) 32) .0 h in
+    let n = numbered-names 1 verbs (map upper word) (ltb-true 0 (verbOf text) (q .0)) in
+    record {
+      whole = sym (take-append-drop (letterRun text) text);
+      names = record { lettered = letters-taken text; listed = (n .0, omega arith); named = n .2 };
+      followed = first-followed (afterVerb text) (eqb-true (getD (afterVerb text) 0 32) 32 (q .1));
+    }

@@ -1,0 +1,98 @@
+-- The reader's and the writer's answers, row by row: `ReadRows` and `WriteRows` hold.
+use Prim.Native.Nat.{ℕ, _≤_, _<_}
+use mathlib.Core.Path.{_≡_, refl, ap, _∙_}
+use mathlib.Core.Logic.{_⊎_, _≢_}
+use mathlib.Core.Bool.{Bool, true, false}
+use mathlib.Core.List.{List, [], _∷_, _++_, append-assoc}
+use native.Mathlib.Omega.{arith}
+use lib.ListN.{length, drop}
+use Rattle.octets.specs.Digits.{toBig}
+use Rattle.eblock.specs.Descriptor.{has, faultOf}
+use Rattle.eblock.specs.Header.{descriptorOf, secondOf, thirdOf, bytesOf, refusalOf, readOf, secondField, writeOf, leftBy, number, values, writtenNumber, writtenBytes}
+use Rattle.eblock.specs.HeaderRows.{Reads, Writes, ReadRows, WriteRows}
+use Rattle.eblock.specs.declared.header.Header.{Header}
+use Rattle.eblock.specs.declared.header.Header.the-variants.{Data, Eodc, Refused}
+use Rattle.eblock.specs.declared.header.Written.{Written}
+use Rattle.eblock.specs.declared.header.Written.the-variants.{Bytes, Refused as NotWritten}
+use Rattle.eblock.proofs.Answers as answers
+
+-- ---- the reader
+
+module _ (h : List ℕ) where
+  reads : (a : Header) → readOf h ≡ a → Reads h (number a) (values a)
+  reads a e = record { number-is = ap number e; values-are = ap values e }
+
+  reads-21 : length h ≢ 17 → Reads h 21 []
+  unfolding number values
+  reads-21 n = reads (Refused 21) (answers.reads-21 h n)
+
+  module _ (n : length h ≡ 17) where
+    reads-fault : 0 < faultOf (descriptorOf h) → Reads h (faultOf (descriptorOf h)) []
+    unfolding number values
+    reads-fault f = reads (Refused (faultOf (descriptorOf h))) (answers.reads-refused h _ n (answers.refusal-fault (descriptorOf h) (thirdOf h) f) f)
+
+    module _ (f : faultOf (descriptorOf h) ≡ 0) where
+      reads-15 : has 64 (descriptorOf h) ≡ true → (thirdOf h ≡ 0) ⊎ (64 < thirdOf h) → Reads h 15 []
+      unfolding number values
+      reads-15 e o = reads (Refused 15) (answers.reads-refused h 15 n (answers.refusal-15 (descriptorOf h) (thirdOf h) f e o) (omega arith))
+
+      reads-count : has 64 (descriptorOf h) ≡ true → 0 < thirdOf h → thirdOf h ≤ 64
+          → (readOf h ≡ Eodc (descriptorOf h) (thirdOf h)) × Reads h 0 (descriptorOf h ∷ thirdOf h ∷ [])
+      unfolding number values
+      reads-count e z l =
+          let r = answers.reads-meant h n (answers.refusal-count (descriptorOf h) (thirdOf h) f e z l) ∙ answers.meant-count (descriptorOf h) (secondOf h) (thirdOf h) e in
+          (r, reads (Eodc (descriptorOf h) (thirdOf h)) r)
+
+      reads-data : has 64 (descriptorOf h) ≡ false
+          → (readOf h ≡ Data (descriptorOf h) (secondOf h) (thirdOf h)) × Reads h 0 (descriptorOf h ∷ secondOf h ∷ thirdOf h ∷ [])
+      unfolding number values
+      reads-data e =
+          let r = answers.reads-meant h n (answers.refusal-data (descriptorOf h) (thirdOf h) f e) ∙ answers.meant-data (descriptorOf h) (secondOf h) (thirdOf h) e in
+          (r, reads (Data (descriptorOf h) (secondOf h) (thirdOf h)) r)
+
+pub read-rows : ReadRows
+read-rows = record { reads-21 = reads-21; reads-fault = reads-fault; reads-15 = reads-15; reads-count = reads-count; reads-data = reads-data }
+
+-- ---- the writer
+
+module _ (d len third : ℕ) (out : List ℕ) where
+  writes : (a : Written) (left : List ℕ) → (writeOf d third out ≡ a) × (leftBy d len third out ≡ left)
+      → Writes d len third out (writtenNumber a) (writtenBytes a) left
+  writes a left e = record { number-is = ap writtenNumber (e .0); bytes-are = ap writtenBytes (e .0); leaves = e .1 }
+
+  refused : (k : ℕ) → (writeOf d third out ≡ NotWritten k) × (leftBy d len third out ≡ out) → Writes d len third out k 0 out
+  unfolding writtenNumber writtenBytes
+  refused k e = writes (NotWritten k) out e
+
+  header : (second : ℕ) → refusalOf d third ≡ 0 → secondField d len ≡ second → 17 ≤ length out
+      → Writes d len third out 0 17 (d ∷ (toBig 256 8 second ++ (toBig 256 8 third ++ drop 17 out)))
+  unfolding writtenNumber writtenBytes bytesOf
+  header second r s l =
+      let w = answers.writes-header d len third out r l in
+      writes (Bytes 17) _ (w .0, w .1 ∙ rw s (ap (λ bs. d ∷ bs) (append-assoc (toBig 256 8 second) (toBig 256 8 third) (drop 17 out))))
+
+  writes-fault : 0 < faultOf d → Writes d len third out (faultOf d) 0 out
+  writes-fault f = refused (faultOf d) (answers.writes-refused d len third out (faultOf d) (answers.refusal-fault d third f) f)
+
+  module _ (f : faultOf d ≡ 0) where
+    writes-15 : has 64 d ≡ true → (third ≡ 0) ⊎ (64 < third) → Writes d len third out 15 0 out
+    writes-15 e o = refused 15 (answers.writes-refused d len third out 15 (answers.refusal-15 d third f e o) (omega arith))
+
+    writes-55 : (has 64 d ≡ true → (0 < third) × (third ≤ 64)) → length out < 17 → Writes d len third out 55 0 out
+    writes-55 n l = refused 55 (answers.writes-short d len third out (go (has 64 d) refl) l)
+      where
+        go : (b : Bool) → has 64 d ≡ b → refusalOf d third ≡ 0
+        go true e = answers.refusal-count d third f e (n e .0) (n e .1)
+        go false e = answers.refusal-data d third f e
+
+    writes-count : has 64 d ≡ true → 0 < third → third ≤ 64 → 17 ≤ length out
+        → Writes d len third out 0 17 (d ∷ (toBig 256 8 0 ++ (toBig 256 8 third ++ drop 17 out)))
+    unfolding secondField
+    writes-count e z m l = header 0 (answers.refusal-count d third f e z m) (rw e) l
+
+    writes-data : has 64 d ≡ false → 17 ≤ length out → Writes d len third out 0 17 (d ∷ (toBig 256 8 len ++ (toBig 256 8 third ++ drop 17 out)))
+    unfolding secondField
+    writes-data e l = header len (answers.refusal-data d third f e) (rw e) l
+
+pub write-rows : WriteRows
+write-rows = record { writes-fault = writes-fault; writes-15 = writes-15; writes-55 = writes-55; writes-count = writes-count; writes-data = writes-data }
