@@ -1,3 +1,4 @@
+pub mod VerbNames
 pub mod Letters
 mod Runs
 mod Printables

@@ -1,4 +1,5 @@
 pub mod Line
+pub mod VerbNames
 pub mod Letters
 pub mod Accepted
 pub mod Refused
