@@ -11,7 +11,7 @@ use Rattle.hostports.proofs.HostPort.{run-within, rest-is, stepOf, numb
 use Rattle.hostports.proofs.hosts.number_at.Statement.{statement}
 use Rattle.hostports.proofs.hosts.number_at.Tie as tie
 
--- what the code calls k is how many digits stand at the place
+-- what the code calls k is how many digits there are at the place
 run-is : (c : tie.After-run) → let x = c .before .before .before .before .args in c .run .result ≡ digitRun (drop (x .at) (x .text .now))
 run-is c =
     let x = c .before .before .before .before .args in
