@@ -1,5 +1,8 @@
 mod Shifted
 mod Sharing
 mod Spliced
-pub mod Claims
+mod Joining
+mod Merging
+mod Judgements
+pub mod ClaimLaws
 pub mod ProvedSets

@@ -1,2 +1,4 @@
 pub mod Claim
+pub mod ClaimLaws
+pub mod Shift
 pub mod ProvedSet
