@@ -11,7 +11,7 @@ ghost use Rattle.ledger.specs.Ledger.{obeys, pairsOf, lent, roomOf};
 ghost use Rattle.claims.specs.Claim.{spotOf, Judges, Puts, Joins};
 ghost use Rattle.claims.specs.Shift.{closed};
 
-// Where a range goes: the pairs that it becomes one with stand from `at` up to `past`, counted in pairs.
+// Where a range goes: the pairs that it becomes one with are those from `at` up to `past`, counted in pairs.
 pub struct Spot {
     pub at: usize,
     pub past: usize,
@@ -170,8 +170,8 @@ fn merge(ledger: &mut [u64], at: usize, past: usize, start: u64, end: u64)
     shift::insert(ledger, 2 * at, 2 * used, start, end);
 }
 
-// Claims the range from start to end at the spot that `judge` answered for it. What any other spot, a ledger that breaks the rule or an
-// empty range leaves is open: document 01 has no such call.
+// Claims the range from start to end at the spot that `judge` answered for it. For any other spot, a ledger that breaks the rule or an empty
+// range the entries are left open, but for their number: document 01 has no such call.
 pub fn put(ledger: &mut [u64], spot: Spot, start: u64, end: u64)
     ensures { λ _. ⌜ Puts spot start end (now (ledger .entry)) (now (ledger .exit)) ⌝ }
 {
@@ -188,7 +188,7 @@ pub fn put(ledger: &mut [u64], spot: Spot, start: u64, end: u64)
 }
 
 // Joins the range from start to end to the ledger, whatever it shares, or answers false and leaves it, where it has no pair for that. For a
-// ledger that breaks the rule, or an empty range, answer and entries are left open, but that false leaves it: document 01 has no such call.
+// ledger that breaks the rule, or an empty range, the rest is left open: document 01 has no such call.
 pub fn join(ledger: &mut [u64], start: u64, end: u64) -> bool
     ensures { λ r. ⌜ Joins start end (now (ledger .entry)) r (now (ledger .exit)) ⌝ }
 {
