@@ -1,5 +1,5 @@
 -- Searching a ledger by halving: what one pair of entries says of the number of pairs that start by a place, and what the last of these says
--- of a range that begins there. A ledger that obeys its rule may have an odd number of entries, as three zeros, so nothing here asks for an even one.
+-- of a range that begins there.
 use Prim.Native.Nat.{ℕ, zero, suc, _+_, _*_, _-_, _≤_, _<_}
 use mathlib.Core.Path.{_≡_, refl, _∙_}
 use mathlib.Core.Logic.{_⊎_, inl, inr, ⊎-elim}

@@ -1,4 +1,7 @@
 mod Shifted
 mod Sharing
 mod Spliced
-pub mod Claims
+mod Joining
+mod Merging
+mod Judgements
+pub mod ClaimLaws

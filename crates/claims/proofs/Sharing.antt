@@ -1,60 +1,79 @@
--- Sharing a place, as the code reads it: pair by pair, and in a ledger by the rule.
-use Prim.Native.Nat.{ℕ, zero, suc, _+_, _*_, _-_, _≤_, _<_}
-use mathlib.Core.Path.{_≡_, refl}
-use mathlib.Core.Bool.{false, _&&_, _||_, and-false}
-use mathlib.Core.List.{List, _∷_}
+-- Sharing a place, pair by pair, and in the pairs of a spot alone.
+use Prim.Native.Nat.{ℕ, zero, suc, _+_, _*_, _≤_, _<_}
+use mathlib.Core.Path.{_≡_, refl, sym, _∙_}
+use mathlib.Core.Bool.{true, false, _&&_, _||_, and-false}
+use mathlib.Core.List.{List}
 use native.Mathlib.Omega.{arith}
+use native.Mathlib.Numerals.{add-one}
 use native.Mathlib.Decide.{decLt, decLe}
 use borrow.Author.Tests.{le-ltb}
 use lib.Dec.{ltb}
-use lib.ListN.{getD, drop}
-use lib.Seq.{drop-drop, getD-drop}
+use lib.ListN.{length, getD}
 use Rattle.ledger.specs.Pairs.{Pairs, none, pair, size, Ruled, shares, below, upTo}
-use Rattle.ledger.specs.Ledger.{lent}
-use Rattle.ledger.proofs.Spots.{upTo-on, upTo-stops, below-on, below-stops}
-use Rattle.claims.specs.Claim.{sharesIn}
+use Rattle.ledger.specs.Ledger.{obeys, pairsOf, roomOf}
+use Rattle.ledger.proofs.Lents.{rule-ruled}
+use Rattle.ledger.proofs.Odd.{obeys-even}
+use Rattle.ledger.proofs.Rules.{start-is, end-is}
+use Rattle.ledger.proofs.Spots.{rest, startAt, endAt, upTo-le, upTo-on, upTo-stops, below-on, below-stops}
 
-pub shares-step : (s e n k : ℕ) (l : List ℕ)
-    → sharesIn s e (suc n) (drop (2 * k) l) ≡ ((ltb s (getD l (2 * k + 1) 0) && ltb (getD l (2 * k) 0) e) || sharesIn s e n (drop (2 * (k + 1)) l))
-unfolding sharesIn
-shares-step s e n k l =
-    let z : 2 * k + 0 ≡ 2 * k = omega arith in
-    let t : 2 * k + 2 ≡ 2 * (k + 1) = omega arith in
-    rw (getD-drop (2 * k) l 1 0, getD-drop (2 * k) l 0 0, z, drop-drop 2 (2 * k) l, t)
+-- the pairs that end below the start share nothing
+shares-below : (s e : ℕ) (ps : Pairs) → shares s e (rest (below s ps) ps) ≡ shares s e ps
+unfolding shares rest
+shares-below s e none = unfold below in refl
+shares-below s e (pair a b ps) = go (decLt b s) (shares-below s e ps)
+  where
+    go : Dec (b < s) → shares s e (rest (below s ps) ps) ≡ shares s e ps → shares s e (rest (below s (pair a b ps)) (pair a b ps)) ≡ ((ltb s b && ltb a e) || shares s e ps)
+    go (yes q) i = rw (below-on s a b ps q, i, le-ltb s b (omega arith))
+    go (no q) i = rw (below-stops s a b ps (omega arith))
 
--- the pairs that start above the end share nothing
+-- those that start above the end share nothing
 shares-beyond : (s e lo : ℕ) (ps : Pairs) → Ruled lo ps → e ≤ lo → shares s e ps ≡ false
 unfolding shares
 shares-beyond s e lo none c h = refl
 shares-beyond s e lo (pair a b ps) c h =
     rw (le-ltb a e (omega (arith, c .0)), and-false (ltb s b), shares-beyond s e (suc b) ps (c .2) (omega (arith, c .0, c .1)))
 
-shares-front : (s e r lo : ℕ) (ps : Pairs) → size ps ≤ r → Ruled lo ps → sharesIn s e (upTo e ps) (lent r ps) ≡ shares s e ps
-unfolding sharesIn shares lent size
-shares-front s e r lo none h c = unfold upTo in refl
-shares-front s e zero lo (pair a b ps) h c = absurd (omega arith)
-shares-front s e (suc r) lo (pair a b ps) h c = go (decLe a e) (shares-front s e r (suc b) ps (omega arith) (c .2))
+shares-past : (s e lo : ℕ) (ps : Pairs) → Ruled lo ps → shares s e (rest (upTo e ps) ps) ≡ false
+unfolding shares rest
+shares-past s e lo none c = unfold upTo in refl
+shares-past s e lo (pair a b ps) c = go (decLe a e) (shares-past s e (suc b) ps (c .2))
   where
-    go : Dec (a ≤ e) → sharesIn s e (upTo e ps) (lent r ps) ≡ shares s e ps
-        → sharesIn s e (upTo e (pair a b ps)) (a ∷ b ∷ lent r ps) ≡ ((ltb s b && ltb a e) || shares s e ps)
+    go : Dec (a ≤ e) → shares s e (rest (upTo e ps) ps) ≡ false → shares s e (rest (upTo e (pair a b ps)) (pair a b ps)) ≡ false
     go (yes q) i = rw (upTo-on e a b ps q, i)
     go (no q) i =
-        rw (upTo-stops e a b ps (omega arith), le-ltb a e (omega arith), and-false (ltb s b), shares-beyond s e (suc b) ps (c .2) (omega (arith, c .1)))
+        rw (upTo-stops e a b ps (omega arith)) (unfold shares in rw (le-ltb a e (omega arith), and-false (ltb s b), shares-beyond s e (suc b) ps (c .2) (omega (arith, c .1))))
 
-pub shares-spot : (s e r lo : ℕ) (ps : Pairs) → s < e → size ps ≤ r → Ruled lo ps
-    → sharesIn s e (upTo e ps - below s ps) (drop (2 * below s ps) (lent r ps)) ≡ shares s e ps
-unfolding shares lent size
-shares-spot s e r lo none h g c = unfold upTo below sharesIn in refl
-shares-spot s e zero lo (pair a b ps) h g c = absurd (omega arith)
-shares-spot s e (suc r) lo (pair a b ps) h g c = go (decLt b s) (shares-spot s e r (suc b) ps h (omega arith) (c .2))
-  where
-    go : Dec (b < s) → sharesIn s e (upTo e ps - below s ps) (drop (2 * below s ps) (lent r ps)) ≡ shares s e ps
-        → sharesIn s e (upTo e (pair a b ps) - below s (pair a b ps)) (drop (2 * below s (pair a b ps)) (a ∷ b ∷ lent r ps))
-        ≡ ((ltb s b && ltb a e) || shares s e ps)
-    go (yes q) i =
-        let m : suc (upTo e ps) - suc (below s ps) ≡ upTo e ps - below s ps = omega arith in
-        let d : 2 * suc (below s ps) ≡ suc (suc (2 * below s ps)) = omega arith in
-        rw (below-on s a b ps q, upTo-on e a b ps (omega (arith, c .1)), m, d, i, le-ltb s b (omega arith))
-    go (no q) i =
-        let z : upTo e (pair a b ps) - 0 ≡ upTo e (pair a b ps) = omega arith in
-        rw (below-stops s a b ps (omega arith), z) (shares-front s e (suc r) lo (pair a b ps) g c)
+-- the pair with the number k, and those after it
+rest-pair : (k : ℕ) (ps : Pairs) → k < size ps → rest k ps ≡ pair (startAt k ps) (endAt k ps) (rest (suc k) ps)
+unfolding rest startAt endAt size
+rest-pair k none h = absurd (omega arith)
+rest-pair zero (pair a b ps) h = refl
+rest-pair (suc k) (pair a b ps) h = rest-pair k ps (omega arith)
+
+shares-at : (s e k : ℕ) (l : List ℕ) → obeys l ≡ true → k < size (pairsOf l)
+    → shares s e (rest k (pairsOf l)) ≡ ((ltb s (getD l (2 * k + 1) 0) && ltb (getD l (2 * k) 0) e) || shares s e (rest (k + 1) (pairsOf l)))
+unfolding shares
+shares-at s e k l o h =
+    let n : length l ≡ 2 * roomOf l = omega (arith, obeys-even l o) in
+    rw (rest-pair k (pairsOf l) h, start-is (roomOf l) l n o k, end-is (roomOf l) l n o k, add-one k)
+
+-- ---- as the pairs of a spot are looked at, from `at` up to `past`
+
+module _ (s e at past k : ℕ) (l : List ℕ) (o : obeys l ≡ true) where
+  -- the pair with the number k shares none
+  pub shares-on : k < size (pairsOf l) → (ltb s (getD l (2 * k + 1) 0) && ltb (getD l (2 * k) 0) e) ≡ false
+      → shares s e (rest k (pairsOf l)) ≡ shares s e (rest at (pairsOf l)) → shares s e (rest (k + 1) (pairsOf l)) ≡ shares s e (rest at (pairsOf l))
+  shares-on h m i = rw (shares-at s e k l o h, m) at i
+
+  module _ (a : at ≡ below s (pairsOf l)) (p : past ≡ upTo e (pairsOf l)) (i : shares s e (rest k (pairsOf l)) ≡ shares s e (rest at (pairsOf l))) where
+    decides : shares s e (rest k (pairsOf l)) ≡ shares s e (pairsOf l)
+    decides = i ∙ rw a (shares-below s e (pairsOf l))
+
+    -- it shares one
+    pub shares-met : k < past → (ltb s (getD l (2 * k + 1) 0) && ltb (getD l (2 * k) 0) e) ≡ true → true ≡ shares s e (pairsOf l)
+    shares-met h m = rw (shares-at s e k l o (omega (arith, upTo-le e (pairsOf l))), m) at decides
+
+    -- none is left
+    pub shares-none : k ≡ past → false ≡ shares s e (pairsOf l)
+    unfolding obeys
+    shares-none q = sym (shares-past s e 0 (pairsOf l) (rule-ruled 0 l o)) ∙ (rw (q, p) at decides)

@@ -7,7 +7,7 @@ use native.Mathlib.Numerals.{add-one}
 use lib.ListN.{length, getD, set, take, drop, replicate, length-take, length-drop, length-append, take-append-drop, List·getD-append}
 use borrow.Rule.Slice.PartMut.{putMid}
 use lib.Seq.{sets-eq, take-append-le, take-take, drop-at, drop-cons, take-suc, set-at, getD-take, getD-drop, append-snoc, drop-drop, paste, paste-suc, length-paste, length-paste-head, take-paste, drop-paste, getD-append-add}
-use Rattle.claims.specs.Claim.{inserted, movedDown, closed}
+use Rattle.claims.specs.Shift.{inserted, movedDown, closed}
 
 -- ---- up by two: the entries from k to e have moved
 

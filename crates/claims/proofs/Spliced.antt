@@ -9,7 +9,7 @@ use lib.ListN.{length, set, take, drop, replicate, length-append, length-take, l
 use lib.Seq.{take-append-le, drop-append-le, take-at, drop-at, drop-set-lt, sets-eq, drop-drop}
 use Rattle.ledger.specs.Pairs.{Pairs, pair, size}
 use Rattle.ledger.specs.Ledger.{lent}
-use Rattle.claims.specs.Claim.{inserted, closed}
+use Rattle.claims.specs.Shift.{inserted, closed}
 use Rattle.ledger.proofs.Lents.{length-lent}
 use Rattle.ledger.proofs.Spots.{rest, splice}
 use Rattle.ledger.proofs.Flats.{flat, length-flat, lent-flat, flat-rest, flat-splice, size-rest, size-splice}

@@ -2,14 +2,16 @@
 use crate::shift;
 use ledger::rule;
 ghost use mathlib.Core.Path.{_≡_};
-ghost use mathlib.Core.Bool.{_&&_};
+ghost use mathlib.Core.Bool.{true, _&&_};
 ghost use lib.Dec.{ltb};
-ghost use Prim.Native.Nat.{_+_, _*_, _-_, _≤_, _<_, min, max};
-ghost use lib.ListN.{getD, set, drop};
-ghost use Rattle.ledger.specs.Ledger.{roomOf};
-ghost use Rattle.claims.specs.Claim.{placeIn, pastFrom, spotIn, sharesIn, isFull, judgedIn, closed, putOf, joinsIn, joinedIn};
+ghost use Prim.Native.Nat.{ℕ, _+_, _*_, _-_, _≤_, _<_, min, max};
+ghost use lib.ListN.{getD, set};
+ghost use Rattle.ledger.specs.Pairs.{size, join, shares, below, upTo};
+ghost use Rattle.ledger.specs.Ledger.{obeys, pairsOf, lent, roomOf};
+ghost use Rattle.claims.specs.Claim.{spotOf, Judges, Puts, Joins};
+ghost use Rattle.claims.specs.Shift.{closed};
 
-// Where a range goes: the pairs that it becomes one with stand from `at` up to `past`, counted in pairs.
+// Where a range goes: the pairs that it becomes one with are those from `at` up to `past`, counted in pairs.
 pub struct Spot {
     pub at: usize,
     pub past: usize,
@@ -22,9 +24,9 @@ pub enum Room {
     At(Spot),
 }
 
-// The place for a range: the number of used pairs that end below its start.
+// The place for a range: in a ledger by the rule, the number of pairs that end below its start.
 fn place(ledger: &[u64], start: u64) -> usize
-    ensures { λ r. ⌜ (r ≤ roomOf (now (ledger .entry))) × (r ≡ placeIn start (now (ledger .entry))) ⌝ }
+    ensures { λ r. ⌜ (r ≤ roomOf (now (ledger .entry))) × (obeys (now (ledger .entry)) ≡ true → r ≡ below start (pairsOf (now (ledger .entry)))) ⌝ }
 {
     let room = ledger.len() / 2;
     let mut k = 0;
@@ -41,10 +43,10 @@ fn place(ledger: &[u64], start: u64) -> usize
     k
 }
 
-// The first pair at `at` or behind it that is unused or starts above end.
+// The first pair that is unused or starts above end, looked for from `at` on: in a ledger by the rule, the number of pairs that start by end.
 fn reach(ledger: &[u64], at: usize, end: u64) -> usize
     requires { ⌜ at ≤ roomOf (now ledger) ⌝ }
-    ensures { λ r. ⌜ r ≡ pastFrom end at (now (ledger .entry)) ⌝ }
+    ensures { λ r. ⌜ (at ≤ r) × (r ≤ roomOf (now (ledger .entry))) × (obeys (now (ledger .entry)) ≡ true → at ≤ upTo end (pairsOf (now (ledger .entry))) → r ≡ upTo end (pairsOf (now (ledger .entry)))) ⌝ }
 {
     let room = ledger.len() / 2;
     let mut k = at;
@@ -62,7 +64,7 @@ fn reach(ledger: &[u64], at: usize, end: u64) -> usize
 
 // Where the range from start to end goes.
 fn locate(ledger: &[u64], start: u64, end: u64) -> Spot
-    ensures { λ r. ⌜ (r .at ≤ r .past) × (r .past ≤ roomOf (now (ledger .entry))) × (r ≡ spotIn start end (now (ledger .entry))) ⌝ }
+    ensures { λ r. ⌜ (r .at ≤ r .past) × (r .past ≤ roomOf (now (ledger .entry))) × (obeys (now (ledger .entry)) ≡ true → start < end → r ≡ spotOf start end (pairsOf (now (ledger .entry)))) ⌝ }
 {
     let at = place(ledger, start);
     let past = reach(ledger, at, end);
@@ -79,10 +81,10 @@ fn meets(a: u64, b: u64, start: u64, end: u64) -> bool
     a < end
 }
 
-// Whether one of the pairs from `at` up to `past` shares a byte with the range from start to end.
+// Whether one of the pairs from `at` up to `past` shares a byte with the range from start to end: where this is its spot, whether any does.
 fn overlaps(ledger: &[u64], at: usize, past: usize, start: u64, end: u64) -> bool
     requires { ⌜ (at ≤ past) × (past ≤ roomOf (now ledger)) ⌝ }
-    ensures { λ r. ⌜ r ≡ sharesIn start end (past - at) (drop (2 * at) (now (ledger .entry))) ⌝ }
+    ensures { λ r. ⌜ (obeys (now (ledger .entry)) ≡ true → at ≡ below start (pairsOf (now (ledger .entry))) → past ≡ upTo end (pairsOf (now (ledger .entry))) → r ≡ shares start end (pairsOf (now (ledger .entry)))) ⌝ }
 {
     let mut k = at;
     while k < past {
@@ -94,9 +96,9 @@ fn overlaps(ledger: &[u64], at: usize, past: usize, start: u64, end: u64) -> boo
     false
 }
 
-// Whether the ledger lacks a pair for a range that goes there.
+// Whether the ledger lacks a pair for the range that goes there. In a ledger by the rule the last pair is used only where all are.
 fn full(ledger: &[u64], spot: Spot) -> bool
-    ensures { λ r. ⌜ r ≡ isFull spot (now (ledger .entry)) ⌝ }
+    ensures { λ r. ⌜ ((s e : ℕ) → obeys (now (ledger .entry)) ≡ true → s < e → spot ≡ spotOf s e (pairsOf (now (ledger .entry))) → r ≡ ltb (roomOf (now (ledger .entry))) (size (join s e (pairsOf (now (ledger .entry)))))) ⌝ }
 {
     if spot.at != spot.past {
         return false;
@@ -108,9 +110,10 @@ fn full(ledger: &[u64], spot: Spot) -> bool
     0 < ledger[2 * room - 1]
 }
 
-// Whether the range from start to end can be claimed.
+// Whether the range from start to end can be claimed. For a ledger that breaks the rule, or an empty range, the answer is left open, but
+// that a spot lies inside the ledger: document 01 has no such call.
 pub fn judge(ledger: &[u64], start: u64, end: u64) -> Room
-    ensures { λ r. ⌜ r ≡ judgedIn start end (now (ledger .entry)) ⌝ }
+    ensures { λ r. ⌜ Judges start end (now (ledger .entry)) r ⌝ }
 {
     let spot = locate(ledger, start, end);
     let at = spot.at;
@@ -150,19 +153,12 @@ fn widen(ledger: &mut [u64], at: usize, past: usize, used: usize, start: u64, en
     shift::close(ledger, first + 2, behind, 2 * used);
 }
 
-// Puts the range from start to end there.
-pub fn put(ledger: &mut [u64], spot: Spot, start: u64, end: u64)
-    ensures { λ _. ⌜ now (ledger .exit) ≡ putOf spot start end (now (ledger .entry)) ⌝ }
+// Makes one pair of the range from start to end and the pairs from `at` up to `past`, or a pair of its own, where there is one for it.
+fn merge(ledger: &mut [u64], at: usize, past: usize, start: u64, end: u64)
+    requires { ⌜ (at ≤ past) × (past ≤ roomOf (now ledger)) ⌝ }
+    ensures { λ _. ⌜ (obeys (now (ledger .entry)) ≡ true → start < end → at ≡ below start (pairsOf (now (ledger .entry))) → past ≡ upTo end (pairsOf (now (ledger .entry))) → size (join start end (pairsOf (now (ledger .entry)))) ≤ roomOf (now (ledger .entry)) → now (ledger .exit) ≡ lent (roomOf (now (ledger .entry))) (join start end (pairsOf (now (ledger .entry))))) ⌝ }
 {
-    let at = spot.at;
-    let past = spot.past;
     let room = ledger.len() / 2;
-    if past < at {
-        return;
-    }
-    if room < past {
-        return;
-    }
     let used = reach(ledger, past, rule::LARGEST);
     if at != past {
         widen(ledger, at, past, used, start, end);
@@ -174,14 +170,32 @@ pub fn put(ledger: &mut [u64], spot: Spot, start: u64, end: u64)
     shift::insert(ledger, 2 * at, 2 * used, start, end);
 }
 
-// Joins the range from start to end to the ledger, whatever it shares, or answers false and leaves it, where it has no pair for that.
+// Claims the range from start to end at the spot that `judge` answered for it. For any other spot, a ledger that breaks the rule or an empty
+// range the entries are left open, but for their number: document 01 has no such call.
+pub fn put(ledger: &mut [u64], spot: Spot, start: u64, end: u64)
+    ensures { λ _. ⌜ Puts spot start end (now (ledger .entry)) (now (ledger .exit)) ⌝ }
+{
+    let at = spot.at;
+    let past = spot.past;
+    let room = ledger.len() / 2;
+    if past < at {
+        return;
+    }
+    if room < past {
+        return;
+    }
+    merge(ledger, at, past, start, end);
+}
+
+// Joins the range from start to end to the ledger, whatever it shares, or answers false and leaves it, where it has no pair for that. For a
+// ledger that breaks the rule, or an empty range, the rest is left open: document 01 has no such call.
 pub fn join(ledger: &mut [u64], start: u64, end: u64) -> bool
-    ensures { λ r. ⌜ (r ≡ joinsIn start end (now (ledger .entry))) × (now (ledger .exit) ≡ joinedIn start end (now (ledger .entry))) ⌝ }
+    ensures { λ r. ⌜ Joins start end (now (ledger .entry)) r (now (ledger .exit)) ⌝ }
 {
     let spot = locate(ledger, start, end);
     if full(ledger, spot) {
         return false;
     }
-    put(ledger, spot, start, end);
+    merge(ledger, spot.at, spot.past, start, end);
     true
 }

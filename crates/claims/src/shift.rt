@@ -3,7 +3,7 @@ use octets::entries;
 ghost use mathlib.Core.Path.{_≡_};
 ghost use Prim.Native.Nat.{_+_, _≤_};
 ghost use lib.ListN.{length};
-ghost use Rattle.claims.specs.Claim.{inserted, movedDown, closed};
+ghost use Rattle.claims.specs.Shift.{inserted, movedDown, closed};
 
 // Makes room for a pair and puts it there; the two entries from end on are given up.
 //

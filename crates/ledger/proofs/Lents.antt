@@ -1,5 +1,5 @@
 -- The lent form: a ledger that obeys its rule is its used pairs with zeros after them, and no other ledger of its length has these.
-use Prim.Native.Nat.{ℕ, zero, suc, _*_, _≤_, _<_}
+use Prim.Native.Nat.{ℕ, zero, suc, _*_, _%_, _≤_, _<_}
 use mathlib.Core.Path.{_≡_, refl, ap}
 use mathlib.Core.Bool.{Bool, true, false, cond, _&&_, and-eq-true-iff}
 use mathlib.Core.List.{List, [], _∷_}
@@ -31,7 +31,9 @@ zeros-lent (suc r) = zeros-lent r
 pub rule-lent : (r lo : ℕ) (ps : Pairs) → Ruled lo ps → rule lo (lent r ps) ≡ true
 unfolding lent rule
 rule-lent zero lo ps c = refl
-rule-lent (suc r) lo none c = zeros-lent r
+rule-lent (suc r) lo none c =
+    let n : length (lent r none) % 2 ≡ 0 = omega (arith, length-lent r none) in
+    rw (n, zeros-lent r)
 rule-lent (suc r) lo (pair a b ps) c =
     rw (ne-eqb b 0 (λ q. omega (arith, c .1)), le-leb lo a (c .0), lt-ltb a b (c .1), rule-lent r (suc b) ps (c .2))
 
@@ -48,8 +50,8 @@ rule-first lo a b rest h = go (eqb b 0) refl
   where
     go : (t : Bool) → eqb b 0 ≡ t → First lo a b rest
     go true e =
-        let q = and-eq-true-iff (eqb a 0) (zeros rest) .0 (rw e at h) in
-        unused (eqb-true a 0 (q .0)) (eqb-true b 0 e) (q .1)
+        let q = and-eq-true-iff (eqb a 0) _ .0 (rw e at h) in
+        unused (eqb-true a 0 (q .0)) (eqb-true b 0 e) (and-eq-true-iff (zeros rest) _ .0 (q .1) .0)
     go false e =
         let q = and-eq-true-iff (leb lo a) (ltb a b && rule (suc b) rest) .0 (rw e at h) in
         let k = and-eq-true-iff (ltb a b) (rule (suc b) rest) .0 (q .1) in

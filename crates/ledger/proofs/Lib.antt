@@ -1,3 +1,4 @@
+pub mod Odd
 pub mod Places
 pub mod Joined
 pub mod Unique

@@ -6,12 +6,16 @@ use Rattle.ledger.specs.Means.{Ledgers}
 use Rattle.ledger.proofs.Joined.{join-holds, join-ruled, join-size}
 use Rattle.ledger.proofs.Unique.{ruled-unique}
 use Rattle.ledger.proofs.Shared.{shares-none, none-shares, held-inside, inside-held, total-held, join-total}
+use Rattle.ledger.proofs.Sizes.{length-right, length-fits}
+use Rattle.ledger.proofs.Odd
 use Rattle.ledger.proofs.Rules
 
 pub ledgers : Ledgers
 ledgers =
     record {
+      lengths = λ l. (length-fits l, λ h. length-right l (h .0) (h .1));
       test-is-rule = Rules.test-is-rule;
+      odd-breaks = Odd.odd-breaks;
       holds-places = Rules.holds-places;
       only-one = Rules.only-one;
       bytes-are-places = λ f ps c h. total-held f 0 ps c h;

@@ -1,5 +1,5 @@
 -- The ledger rule in words, entry by entry, and the test: each gives the other. The places of the used pairs are those that the ledger holds.
-use Prim.Native.Nat.{ℕ, zero, suc, _+_, _*_, _≤_, _<_, max}
+use Prim.Native.Nat.{ℕ, zero, suc, _+_, _*_, _%_, _≤_, _<_, max}
 use mathlib.Core.Path.{_≡_, refl, sym, ap, _∙_}
 use mathlib.Core.Logic.{_↔_}
 use mathlib.Core.Bool.{true, cond, and-eq-true-iff, false≢true}
@@ -47,7 +47,8 @@ unfolding rule
 words-test lo r u [] n h f o a z = refl
 words-test lo r u (x ∷ []) n h f o a z = absurd (omega arith)
 words-test lo r zero (x ∷ y ∷ l) n h f o a z =
-    rw (z 0 (omega arith), z 1 (omega arith), at-zeros l (λ j. z (suc (suc j)) (omega arith)))
+    let even : length l % 2 ≡ 0 = omega arith in
+    rw (z 0 (omega arith), z 1 (omega arith), even, at-zeros l (λ j. z (suc (suc j)) (omega arith)))
 words-test lo zero (suc u) (x ∷ y ∷ l) n h f o a z = absurd (omega arith)
 words-test lo (suc r) (suc u) (x ∷ y ∷ l) n h f o a z =
     rw (ne-eqb y 0 (λ q. omega (arith, o 0 (omega arith))), le-leb lo x (f (omega arith)), lt-ltb x y (o 0 (omega arith)))

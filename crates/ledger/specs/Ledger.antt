@@ -26,13 +26,13 @@ zeros [] = true
 zeros (x ∷ xs) = eqb x 0 && zeros xs
 
 -- the ledger rule from the place lo on: used pairs first, each with start < end and its end less than the next start; then zeros.
--- A pair is used unless both entries are 0.
+-- A pair is used unless both entries are 0. The zeros are pairs too: an odd number of entries breaks the rule.
 unfoldable pub rule : ℕ → List ℕ → Bool
 rule lo [] = true
 rule lo (a ∷ []) = false
 rule lo (a ∷ b ∷ rest) =
     let behind = rule (suc b) rest in
-    cond (eqb b 0) (eqb a 0 && zeros rest) (leb lo a && (ltb a b && behind))
+    cond (eqb b 0) (eqb a 0 && (zeros rest && eqb (length rest % 2) 0)) (leb lo a && (ltb a b && behind))
 
 -- the pair (a, b) may stand behind one that ends at `end`, 0 where there is none before it
 abbrev pub follows : ℕ → ℕ → ℕ → Bool

@@ -1,12 +1,12 @@
 -- What a ledger means, a field for each sentence (document 01, "The ledger").
-use Prim.Native.Nat.{ℕ, zero, suc, _+_, _*_, _-_, _≤_, _<_, max}
+use Prim.Native.Nat.{ℕ, zero, suc, _+_, _*_, _-_, _%_, _≤_, _<_, max}
 use mathlib.Core.Path.{_≡_}
-use mathlib.Core.Logic.{_↔_}
+use mathlib.Core.Logic.{_↔_, _≢_}
 use mathlib.Core.Bool.{true, false}
 use mathlib.Core.List.{List}
 use lib.ListN.{length, getD}
 use Rattle.ledger.specs.Pairs.{Pairs, size, total, hit, holds, Ruled, join, shares, inside, endsBy}
-use Rattle.ledger.specs.Ledger.{obeys, pairsOf, Holds}
+use Rattle.ledger.specs.Ledger.{lengthWrong, obeys, pairsOf, Holds}
 
 -- the ledger rule in document 01's words, for a ledger of r pairs
 pub record Obeys (r : ℕ) (l : List ℕ) : Type 0 where
@@ -23,8 +23,12 @@ heldBelow zero ps = 0
 heldBelow (suc f) ps = holds f ps + heldBelow f ps
 
 pub record Ledgers : Type 0 where
+  -- a ledger's length is right where it is even and at most 8,192 entries
+  pub lengths : (l : List ℕ) → (lengthWrong l ≡ false) ↔ ((length l % 2 ≡ 0) × (length l ≤ 8192))
   -- the test is the rule
   pub test-is-rule : (r : ℕ) (l : List ℕ) → length l ≡ 2 * r → (obeys l ≡ true) ↔ Obeys r l
+  -- an odd number of entries breaks it, whatever they are
+  pub odd-breaks : (l : List ℕ) → length l % 2 ≢ 0 → obeys l ≡ false
   -- the places of the used pairs are those that the ledger holds
   pub holds-places : (p : ℕ) (l : List ℕ) → obeys l ≡ true → (holds p (pairsOf l) ≡ 1) ↔ Holds p l
   -- of all ledgers of its length that obey the rule it is the only one with its places

@@ -50,6 +50,9 @@ pub fn may_follow(end: u64, a: u64, b: u64) -> bool
 pub fn obeys(ledger: &[u64], limit: u64) -> bool
     ensures { λ r. ⌜ r ≡ (obeys (now (ledger .entry)) && endsBy limit (pairsOf (now (ledger .entry)))) ⌝ }
 {
+    if ledger.len() % 2 == 1 {
+        return false;
+    }
     let mut end: u64 = 0;
     let mut i = 0;
     while i + 1 < ledger.len() {
@@ -67,7 +70,7 @@ pub fn obeys(ledger: &[u64], limit: u64) -> bool
         end = b;
         i += 2;
     }
-    i == ledger.len()
+    true
 }
 
 // b - a, or 0 where b is less.

@@ -1,19 +1,20 @@
 -- Merging the ranges of a list, one by one.
 use Prim.Native.Nat.{ℕ, zero, suc, _*_, _/_, _%_, _<_}
 use mathlib.Core.Path.{_≡_, refl, sym, ap, _∙_}
-use mathlib.Core.Bool.{Bool, true, false, cond, not}
+use mathlib.Core.Bool.{Bool, true, false, cond, not, false≢true}
 use mathlib.Core.List.{List, [], _∷_}
 use native.Mathlib.Omega.{arith}
-use borrow.Author.Tests.{ltb-false, not-true, not-false}
+use native.Mathlib.Decide.{decLt}
+use borrow.Author.Tests.{lt-ltb, le-ltb, ltb-false}
 use lib.Dec.{ltb}
 use lib.ListN.{length, take, drop, replicate, length-replicate}
 use lib.Seq.{take-all}
-use Rattle.ledger.specs.Pairs.{Pairs, none, size, join, endsBy}
-use Rattle.ledger.specs.Ledger.{largest, obeys, pairsOf, lent, roomOf}
-use Rattle.claims.specs.Claim.{joinsIn, joinedIn}
+use Rattle.ledger.specs.Pairs.{Pairs, none, size, join}
+use Rattle.ledger.specs.Ledger.{obeys, pairsOf, lent, roomOf}
+use Rattle.claims.specs.Claim.{Joins}
 use Rattle.ledger.proofs.Joined.{join-ruled}
 use Rattle.ledger.proofs.Lents.{pairsOf-lent, rule-lent, rule-ruled, lent-pairsOf}
-use Rattle.claims.proofs.Claims.{joins-is, joined-is}
+use Rattle.ledger.proofs.Odd.{obeys-even}
 use Rattle.rangelists.specs.RangeText.{commaRun, parts, rangesOf, rangeOf, Merged, merged, trouble, added, mergedFrom, Says}
 use Rattle.rangelists.specs.declared.ranges.Range.{Range}
 use Rattle.rangelists.specs.declared.ranges.Range.the-variants.{Places, Malformed}
@@ -61,22 +62,28 @@ module _ (r : ℕ) (ps : Pairs) (t l : List ℕ) where
   unfolding added
   says-51 e = says-stopped _ 51 l (omega arith) (rw e)
 
-module _ (t l : List ℕ) (s e : ℕ) (h : rangeOf t ≡ Places s e) (n : length l % 2 ≡ 0) (o : obeys l ≡ true) where
-  joins : joinsIn s e l ≡ not (ltb (roomOf l) (size (join s e (pairsOf l))))
-  joins = joins-is (roomOf l) l o (omega arith) s e (range-some t s e h)
+module _ (t l : List ℕ) (s e : ℕ) (h : rangeOf t ≡ Places s e) (o : obeys l ≡ true) (done : Bool) (m : List ℕ) (j : Joins s e l done m) where
+  -- there is no pair for it exactly where it was not joined
+  lacks : (d : Bool) → done ≡ d → ltb (roomOf l) (size (join s e (pairsOf l))) ≡ not d
+  lacks true f = le-ltb (roomOf l) (size (join s e (pairsOf l))) (j .done-where o (range-some t s e h) .0 f)
+  lacks false f = go (decLt (roomOf l) (size (join s e (pairsOf l))))
+    where
+      go : Dec (roomOf l < size (join s e (pairsOf l))) → ltb (roomOf l) (size (join s e (pairsOf l))) ≡ true
+      go (yes x) = lt-ltb (roomOf l) (size (join s e (pairsOf l))) x
+      go (no x) = absurd (false≢true (sym f ∙ j .done-where o (range-some t s e h) .1 (omega arith)))
 
-  pub says-52 : (m : List ℕ) → joinsIn s e l ≡ false → Says (added (roomOf l) (pairsOf l) (rangeOf t) merged) 52 m
+  pub says-52 : done ≡ false → Says (added (roomOf l) (pairsOf l) (rangeOf t) merged) 52 m
   unfolding added
-  says-52 m f = says-stopped _ 52 m (omega arith) (rw (h, not-false (ltb (roomOf l) (size (join s e (pairsOf l)))) (sym joins ∙ f)))
+  says-52 f = says-stopped _ 52 m (omega arith) (rw (h, lacks false f))
 
-  pub says-joined : endsBy largest (pairsOf l) ≡ true → joinsIn s e l ≡ true → Says (added (roomOf l) (pairsOf l) (rangeOf t) merged) 0 (joinedIn s e l)
+  pub says-joined : done ≡ true → Says (added (roomOf l) (pairsOf l) (rangeOf t) merged) 0 m
   unfolding added obeys
-  says-joined b f =
+  says-joined f =
       let k = range-some t s e h in
-      let x = not-true (ltb (roomOf l) (size (join s e (pairsOf l)))) (sym joins ∙ f) in
+      let x = lacks true f in
       let w = join-ruled s e 0 (pairsOf l) k (omega arith) (rule-ruled 0 l o) in
       let z = ltb-false (roomOf l) (size (join s e (pairsOf l))) x in
-      rw (joined-is (roomOf l) l o (omega arith) s e k b f)
+      rw (j .by-rule o k f)
       (says-done _ (lent (roomOf l) (join s e (pairsOf l))) (rule-lent (roomOf l) 0 (join s e (pairsOf l)) w)
       (rw (h, x, pairsOf-lent (roomOf l) 0 (join s e (pairsOf l)) w z)))
 
@@ -110,7 +117,7 @@ module _ (l cleared : List ℕ) (n : length l % 2 ≡ 0) (c : cleared ≡ replic
   cleared-lent : cleared ≡ lent (roomOf l) none
   cleared-lent = let e : length l ≡ 2 * (length l / 2) = omega arith in c ∙ ap (λ (m : ℕ). replicate m 0) e ∙ zero-lent (roomOf l)
 
-  pub cleared-length : length cleared ≡ length l
+  cleared-length : length cleared ≡ length l
   cleared-length = ap length c ∙ length-replicate (length l) 0
 
   pub cleared-obeys : obeys cleared ≡ true
@@ -123,6 +130,6 @@ module _ (l cleared : List ℕ) (n : length l % 2 ≡ 0) (c : cleared ≡ replic
       let p : pairsOf cleared ≡ none = ap pairsOf cleared-lent ∙ pairsOf-lent (roomOf l) 0 none tt (omega arith) in
       rw (p, cleared-length)
 
-pub obeyed-lent : (l m : List ℕ) → length l % 2 ≡ 0 → length m ≡ length l → obeys m ≡ true → m ≡ lent (roomOf l) (pairsOf m)
+pub obeyed-lent : (l m : List ℕ) → length m ≡ length l → obeys m ≡ true → m ≡ lent (roomOf l) (pairsOf m)
 unfolding obeys
-obeyed-lent l m n e o = lent-pairsOf (roomOf l) 0 m o (omega arith)
+obeyed-lent l m e o = lent-pairsOf (roomOf l) 0 m o (omega (arith, obeys-even m o))

@@ -8,7 +8,7 @@ use octets::decimal::Number;
 use octets::entries;
 ghost use mathlib.Core.Path.{_≡_};
 ghost use mathlib.Core.Bool.{true};
-ghost use Prim.Native.Nat.{_+_, _%_, _≤_, _<_};
+ghost use Prim.Native.Nat.{_+_, _≤_, _<_};
 ghost use lib.ListN.{length};
 ghost use Rattle.ledger.specs.Ledger.{entryLimit, largest, obeys, pairsOf, roomOf};
 ghost use Rattle.rangelists.specs.RangeText.{boundOf, rangeOf, commaRun, added, mergedFrom, Says, merged, parts, readRanges, rangesLeft, comma, rangeText, rangesText, putAt, writeRanges, rangesWritten};
@@ -183,7 +183,7 @@ fn until_comma(text: &[u8]) -> usize
 
 // Joins the range that a text says to the ledger: 0, or the number of the trouble.
 fn join_text(text: &[u8], ledger: &mut [u64]) -> u8
-    requires { ⌜ (length (now ledger) % 2 ≡ 0) × (obeys (now ledger) ≡ true) ⌝ }
+    requires { ⌜ obeys (now ledger) ≡ true ⌝ }
     ensures { λ r. ⌜ Says (added (roomOf (now (ledger .entry))) (pairsOf (now (ledger .entry))) (rangeOf (now (text .entry))) merged) r (now (ledger .exit)) ⌝ }
 {
     let Range::Places { start, end } = one_range(text) else {
@@ -197,7 +197,7 @@ fn join_text(text: &[u8], ledger: &mut [u64]) -> u8
 
 // Joins the ranges of a list to the ledger, in reading order: 0, or the number of the first trouble.
 fn join_list(text: &[u8], ledger: &mut [u64]) -> u8
-    requires { ⌜ (length (now ledger) % 2 ≡ 0) × (obeys (now ledger) ≡ true) ⌝ }
+    requires { ⌜ obeys (now ledger) ≡ true ⌝ }
     ensures { λ r. ⌜ Says (mergedFrom (roomOf (now (ledger .entry))) (pairsOf (now (ledger .entry))) (parts (now (text .entry)))) r (now (ledger .exit)) ⌝ }
 {
     let mut at = 0;

@@ -1,21 +1,22 @@
 -- `claim::full`.
+use mathlib.Core.Path.{sym, _∙_}
 use borrow.Author.Needs.{needs}
-use borrow.Author.Tests.{eq-eqb, ne-eqb}
-use Rattle.ledger.specs.Ledger.{roomOf}
-use Rattle.claims.specs.Claim.{isFull}
+use Rattle.claims.proofs.Joining.{at-is, past-is, room-wide, room-none, room-last}
 use Rattle.claims.proofs.claim.full.Statement.{statement}
 use Rattle.claims.proofs.claim.full.Tie as tie
 
 returns : tie.Need-returns
-unfolding isFull
-returns c = let x = c .before .before .args .spot in rw (ne-eqb (x .at) (x .past) (c .if1 .taken))
+returns c s e o h q =
+    let x = c .before .before .args in
+    let l = x .ledger .now in
+    sym (room-wide l o s e h (λ z. c .if1 .taken (at-is s e l (x .spot) q ∙ z ∙ sym (past-is s e l (x .spot) q))))
 
 returns-2 : tie.Need-returns-2
-unfolding isFull
-returns-2 c =
-    let s = c .before .before .before in
-    let x = s .args .spot in
-    rw (eq-eqb (x .at) (x .past) (c .before .if1 .left), eq-eqb (roomOf (s .args .ledger .now)) 0 (c .if2 .taken))
+returns-2 c s e o h q =
+    let f = c .before in
+    let x = f .before .before .args in
+    let l = x .ledger .now in
+    sym (room-none l o s e h (sym (at-is s e l (x .spot) q) ∙ f .if1 .left ∙ past-is s e l (x .spot) q) (c .if2 .taken))
 
 mul-result : tie.Need-mul-result
 mul-result c = search needs
@@ -30,12 +31,12 @@ shared-slice-read-result : tie.Need-shared-slice-read-result
 shared-slice-read-result c = search needs
 
 returns-3 : tie.Need-returns-3
-unfolding isFull
-returns-3 c =
-    let e = c .before in
-    let s = e .before .before .before in
-    let x = s .args .spot in
-    rw (eq-eqb (x .at) (x .past) (e .before .if1 .left), ne-eqb (roomOf (s .args .ledger .now)) 0 (e .if2 .left))
+returns-3 c s e o h q =
+    let n = c .before in
+    let f = n .before in
+    let x = f .before .before .args in
+    let l = x .ledger .now in
+    room-last l o s e h (sym (at-is s e l (x .spot) q) ∙ f .if1 .left ∙ past-is s e l (x .spot) q) (n .if2 .left)
 
 pub full-spec : {M : Type 1} → statement M
 full-spec =

@@ -1,13 +1,36 @@
 -- `claim::join`.
-use mathlib.Core.Path.{_≡_, sym, _∙_}
+use Prim.Native.Nat.{_≤_, _<_}
+use mathlib.Core.Path.{_≡_, refl, sym, _∙_}
+use mathlib.Core.Bool.{true, false≢true}
+use native.Mathlib.Omega.{arith}
 use borrow.Author.Needs.{needs}
-use Rattle.claims.specs.Claim.{spotIn, isFull, joinsIn, joinedIn}
+use borrow.Author.Tests.{ltb-true, ltb-false}
+use lib.Dec.{ltb}
+use Rattle.ledger.specs.Pairs.{size, join}
+use Rattle.ledger.specs.Ledger.{obeys, pairsOf, roomOf}
+use Rattle.claims.proofs.Joining.{at-is, past-is}
 use Rattle.claims.proofs.claim.join.Statement.{statement}
 use Rattle.claims.proofs.claim.join.Tie as tie
 
-filled : (c : tie.After-full) → let x = c .before .before .before .before .before .args in let l = x .ledger .now in
-    c .full .result ≡ isFull (spotIn (x .start) (x .end) l) l
-filled c = rw (← c .before .before .locate .ensures .2) (c .full .ensures)
+-- in a ledger by the rule: whether there is no pair for the range
+lacks : (c : tie.After-full) → let x = c .before .before .before .before .before .args in let l = x .ledger .now in
+    obeys l ≡ true → x .start < x .end → c .full .result ≡ ltb (roomOf l) (size (join (x .start) (x .end) (pairsOf l)))
+lacks c o h =
+    let f = c .before .before in
+    let x = f .before .before .before .args in
+    c .full .ensures (x .start) (x .end) o h (f .locate .ensures .2 o h)
+
+no-room : (c : tie.Then1) → let x = c .before .before .before .before .before .before .args in let l = x .ledger .now in
+    obeys l ≡ true → x .start < x .end → roomOf l < size (join (x .start) (x .end) (pairsOf l))
+no-room c o h =
+    let x = c .before .before .before .before .before .before .args in
+    ltb-true (roomOf (x .ledger .now)) (size (join (x .start) (x .end) (pairsOf (x .ledger .now)))) (sym (lacks (c .before) o h) ∙ c .if1 .taken)
+
+some-room : (c : tie.Else1) → let x = c .before .before .before .before .before .before .args in let l = x .ledger .now in
+    obeys l ≡ true → x .start < x .end → size (join (x .start) (x .end) (pairsOf l)) ≤ roomOf l
+some-room c o h =
+    let x = c .before .before .before .before .before .before .args in
+    ltb-false (roomOf (x .ledger .now)) (size (join (x .start) (x .end) (pairsOf (x .ledger .now)))) (sym (lacks (c .before) o h) ∙ c .if1 .left)
 
 locate-requires : tie.Need-locate-requires
 locate-requires c κs = search needs
@@ -19,24 +42,34 @@ same-length : tie.Need-same-length
 same-length c = search needs
 
 returns : tie.Need-returns
-unfolding joinsIn joinedIn
 returns c =
-    let e = sym (filled (c .before)) ∙ c .if1 .taken in
-    (rw e, rw e)
+    record {
+      done-where = λ o h. (λ e. absurd (false≢true e), λ g. absurd (omega (arith, no-room c o h)));
+      by-rule = λ o h e. absurd (false≢true e);
+      unchanged = λ e. refl;
+      same-length = refl;
+    }
 
-put-requires : tie.Need-put-requires
-put-requires c κs = search needs
+merge-requires : tie.Need-merge-requires
+merge-requires c κs = search needs
 
 same-length-2 : tie.Need-same-length-2
 same-length-2 c = search needs
 
 returns-2 : tie.Need-returns-2
-unfolding joinsIn joinedIn
 returns-2 c =
     let p = c .before .before in
-    let f = p .before .before .before in
-    let e = sym (filled f) ∙ p .before .before .if1 .left in
-    (rw e, rw (e, ← f .before .before .locate .ensures .2) (p .put .ensures))
+    let g = p .before .before .before .before .before in
+    let x = g .before .before .before .args in
+    record {
+      done-where = λ o h. (λ e. some-room (p .before .before) o h, λ g. refl);
+      by-rule = λ o h e.
+          let is = g .locate .ensures .2 o h in
+          p .merge .ensures o h (at-is (x .start) (x .end) (x .ledger .now) (g .locate .result) is) (past-is (x .start) (x .end) (x .ledger .now) (g .locate .result) is)
+          (some-room (p .before .before) o h);
+      unchanged = λ e. absurd (false≢true (sym e));
+      same-length = p .merge .kept .0;
+    }
 
 pub join-spec : {M : Type 1} → statement M
 join-spec =
@@ -46,6 +79,6 @@ join-spec =
     full-requires
     same-length
     returns
-    put-requires
+    merge-requires
     same-length-2
     returns-2)

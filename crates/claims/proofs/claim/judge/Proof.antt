@@ -1,20 +1,35 @@
 -- `claim::judge`.
-use Prim.Native.Nat.{_*_, _-_}
+use Prim.Native.Nat.{ℕ, _<_}
 use mathlib.Core.Path.{_≡_, sym, ap, _∙_}
+use mathlib.Core.Bool.{true}
+use native.Mathlib.Omega.{arith}
 use borrow.Author.Needs.{needs}
-use lib.ListN.{drop}
-use Rattle.claims.specs.Claim.{spotIn, sharesIn, isFull, judgedIn}
+use lib.Dec.{ltb}
+use Rattle.ledger.specs.Pairs.{size, join, shares}
+use Rattle.ledger.specs.Ledger.{obeys, pairsOf, roomOf}
+use Rattle.claims.specs.Claim.{judged}
 use Rattle.claims.specs.declared.claim.Room.the-variants.{At}
+use Rattle.claims.proofs.Joining.{at-is, past-is}
 use Rattle.claims.proofs.claim.judge.Statement.{statement}
 use Rattle.claims.proofs.claim.judge.Tie as tie
 
-shared : (c : tie.After-overlaps) → let x = c .before .before .before .args in let l = x .ledger .now in let z = spotIn (x .start) (x .end) l in
-    c .overlaps .result ≡ sharesIn (x .start) (x .end) (z .past - z .at) (drop (2 * z .at) l)
-shared c = rw (← c .before .locate .ensures .2) (c .overlaps .ensures)
+-- in a ledger by the rule: whether the range shares a byte
+shared : (c : tie.After-overlaps) → let x = c .before .before .before .args in let l = x .ledger .now in
+    obeys l ≡ true → x .start < x .end → c .overlaps .result ≡ shares (x .start) (x .end) (pairsOf l)
+shared c o h =
+    let f = c .before in
+    let x = f .before .before .args in
+    let l = x .ledger .now in
+    let q = f .locate .ensures .2 o h in
+    c .overlaps .ensures o (at-is (x .start) (x .end) l (f .locate .result) q) (past-is (x .start) (x .end) l (f .locate .result) q)
 
-filled : (c : tie.After-full) → let x = c .before .before .before .before .before .args in let l = x .ledger .now in
-    c .full .result ≡ isFull (spotIn (x .start) (x .end) l) l
-filled c = rw (← c .before .before .before .locate .ensures .2) (c .full .ensures)
+-- and whether there is no pair for it
+lacks : (c : tie.After-full) → let x = c .before .before .before .before .before .args in let l = x .ledger .now in
+    obeys l ≡ true → x .start < x .end → c .full .result ≡ ltb (roomOf l) (size (join (x .start) (x .end) (pairsOf l)))
+lacks c o h =
+    let f = c .before .before .before in
+    let x = f .before .before .args in
+    c .full .ensures (x .start) (x .end) o h (f .locate .ensures .2 o h)
 
 locate-requires : tie.Need-locate-requires
 locate-requires c κs = search needs
@@ -23,21 +38,32 @@ overlaps-requires : tie.Need-overlaps-requires
 overlaps-requires c κs = search needs
 
 returns : tie.Need-returns
-unfolding judgedIn
-returns c = rw (sym (shared (c .before)) ∙ c .if1 .taken)
+unfolding judged
+returns c =
+    record {
+      by-rule = λ o h. rw (sym (shared (c .before) o h) ∙ c .if1 .taken);
+      spot-inside = λ spot e. let z : _≡_ {A = ℕ} 0 1 = cc in absurd (omega arith);
+    }
 
 full-requires : tie.Need-full-requires
 full-requires c κs = search needs
 
 returns-2 : tie.Need-returns-2
-unfolding judgedIn
-returns-2 c = rw (sym (shared (c .before .before .before)) ∙ c .before .before .if1 .left, sym (filled (c .before)) ∙ c .if2 .taken)
+unfolding judged
+returns-2 c =
+    record {
+      by-rule = λ o h. rw (sym (shared (c .before .before .before) o h) ∙ c .before .before .if1 .left, sym (lacks (c .before) o h) ∙ c .if2 .taken);
+      spot-inside = λ spot e. let z : _≡_ {A = ℕ} 0 1 = cc in absurd (omega arith);
+    }
 
 returns-3 : tie.Need-returns-3
-unfolding judgedIn
+unfolding judged
 returns-3 c =
-    rw (sym (shared (c .before .before .before)) ∙ c .before .before .if1 .left, sym (filled (c .before)) ∙ c .if2 .left)
-    (ap At (c .before .before .before .before .locate .ensures .2))
+    let f = c .before .before .before .before in
+    record {
+      by-rule = λ o h. rw (sym (shared (c .before .before .before) o h) ∙ c .before .before .if1 .left, sym (lacks (c .before) o h) ∙ c .if2 .left) (ap At (f .locate .ensures .2 o h));
+      spot-inside = λ spot e. let z : f .locate .result ≡ spot = cc in rw (sym z) (f .locate .ensures .0, f .locate .ensures .1);
+    }
 
 pub judge-spec : {M : Type 1} → statement M
 judge-spec =

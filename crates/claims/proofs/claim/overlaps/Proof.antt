@@ -1,23 +1,26 @@
 -- `claim::overlaps`: the pairs passed share no byte; those that are left decide.
-use Prim.Native.Nat.{suc, _+_, _*_, _-_, _≤_}
+use Prim.Native.Nat.{_-_, _≤_}
 use mathlib.Core.Path.{_≡_, refl, sym, _∙_}
+use mathlib.Core.Bool.{true}
 use native.Mathlib.Omega.{arith}
 use borrow.Author.Needs.{needs}
-use lib.ListN.{drop}
-use Rattle.claims.specs.Claim.{sharesIn}
-use Rattle.claims.proofs.Sharing.{shares-step}
+use Rattle.ledger.specs.Pairs.{size, shares}
+use Rattle.ledger.specs.Ledger.{obeys, pairsOf}
+use Rattle.ledger.proofs.Spots.{rest, upTo-le}
+use Rattle.claims.proofs.Sharing.{shares-on, shares-met, shares-none}
 use Rattle.claims.proofs.claim.overlaps.Statement.{statement}
 use Rattle.claims.proofs.claim.overlaps.Tie as tie
 
 abbrev Inv-loop : tie.InvT-loop
 Inv-loop ledger at past start end k₀ k =
-    (at ≤ k) × (k ≤ past) × (sharesIn start end (past - k) (drop (2 * k) ledger) ≡ sharesIn start end (past - at) (drop (2 * at) ledger))
+    (at ≤ k) × (k ≤ past)
+    × (obeys ledger ≡ true → past ≤ size (pairsOf ledger) → shares start end (rest k (pairsOf ledger)) ≡ shares start end (rest at (pairsOf ledger)))
 
 abbrev μ-loop : tie.MeasureT-loop
 μ-loop ledger at past start end k₀ k = past - k
 
 loop-holds : tie.Need-loop-holds Inv-loop μ-loop
-loop-holds c = (omega arith, omega arith, refl)
+loop-holds c = (omega arith, omega arith, λ o h. refl)
 
 mul-meets : tie.Need-mul-meets Inv-loop μ-loop
 mul-meets c = omega arith
@@ -44,13 +47,12 @@ meets-requires : tie.Need-meets-requires Inv-loop μ-loop
 meets-requires c κs = search needs
 
 returns : tie.Need-returns Inv-loop μ-loop
-returns c =
+returns c o a p =
     let m = c .before in
     let l = m .before .before .before .before in
     let x = l .before .before .args in
-    let n : x .past - l .loop .k ≡ suc (x .past - (l .loop .k + 1)) = omega arith in
-    let g = shares-step (x .start) (x .end) (x .past - (l .loop .k + 1)) (l .loop .k) (x .ledger .now) in
-    rw (n, g, sym (m .meets .ensures) ∙ c .if1 .taken) at (l .loop .inv .2)
+    shares-met (x .start) (x .end) (x .at) (x .past) (l .loop .k) (x .ledger .now) o a p (l .loop .inv .2 o (omega (arith, upTo-le (x .end) (pairsOf (x .ledger .now)))))
+    (omega arith) (sym (m .meets .ensures) ∙ c .if1 .taken)
 
 add-k : tie.Need-add-k Inv-loop μ-loop
 add-k c = omega arith
@@ -62,17 +64,18 @@ loop-again : tie.Need-loop-again Inv-loop μ-loop
 loop-again c =
     let m = c .before in
     let l = m .before .before .before .before in
-    let x = l .before .before .args in
-    let n : x .past - l .loop .k ≡ suc (x .past - (l .loop .k + 1)) = omega arith in
-    let g = shares-step (x .start) (x .end) (x .past - (l .loop .k + 1)) (l .loop .k) (x .ledger .now) in
-    (omega arith, omega arith, rw (n, g, sym (m .meets .ensures) ∙ c .if1 .left) at (l .loop .inv .2))
+    let x = l .before .before .args in (
+      omega arith,
+      omega arith,
+      λ o h. shares-on (x .start) (x .end) (x .at) (x .past) (l .loop .k) (x .ledger .now) o (omega arith) (sym (m .meets .ensures) ∙ c .if1 .left) (l .loop .inv .2 o h),
+    )
 
 returns-2 : tie.Need-returns-2 Inv-loop μ-loop
-unfolding sharesIn
-returns-2 c =
+returns-2 c o a p =
     let l = c .before in
-    let z : l .before .before .args .past - l .loop .k ≡ 0 = omega arith in
-    rw z at (l .loop .inv .2)
+    let x = l .before .before .args in
+    shares-none (x .start) (x .end) (x .at) (x .past) (l .loop .k) (x .ledger .now) o a p (l .loop .inv .2 o (omega (arith, upTo-le (x .end) (pairsOf (x .ledger .now)))))
+    (omega arith)
 
 pub overlaps-spec : {M : Type 1} → statement M
 overlaps-spec =

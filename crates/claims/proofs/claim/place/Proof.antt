@@ -6,7 +6,6 @@ use borrow.Author.Tests.{lt-ltb, le-ltb}
 use lib.ListN.{getD, drop}
 use Rattle.ledger.specs.Pairs.{below}
 use Rattle.ledger.specs.Ledger.{pairsOf}
-use Rattle.claims.specs.Claim.{placeIn}
 use Rattle.ledger.proofs.Opened.{pairs-unused, pairs-used, pairs-over}
 use Rattle.claims.proofs.claim.place.Statement.{statement}
 use Rattle.claims.proofs.claim.place.Tie as tie
@@ -33,15 +32,15 @@ shared-slice-read-b : tie.Need-shared-slice-read-b Inv-loop μ-loop
 shared-slice-read-b c = omega arith
 
 returns : tie.Need-returns Inv-loop μ-loop
-unfolding placeIn below
+unfolding below
 returns c =
     let l = c .before .before .before in
     let x = l .before .args in
     let e : below (x .start) (pairsOf (drop (2 * l .loop .k) (x .ledger .now))) ≡ 0 = rw (pairs-unused (x .ledger .now) (2 * l .loop .k) (omega arith) (c .if1 .taken)) in
-    (omega arith, omega (arith, e))
+    (omega arith, λ o. omega (arith, e))
 
 returns-2 : tie.Need-returns-2 Inv-loop μ-loop
-unfolding placeIn below
+unfolding below
 returns-2 c =
     let e = c .before in
     let l = e .before .before .before in
@@ -49,7 +48,7 @@ returns-2 c =
     let s = x .ledger .now in
     let q : below (x .start) (pairsOf (drop (2 * l .loop .k) s)) ≡ 0 =
     rw (pairs-used s (2 * l .loop .k) (omega arith) (e .if1 .left), le-ltb (getD s (2 * l .loop .k + 1) 0) (x .start) (c .if2 .taken)) in
-    (omega arith, omega (arith, q))
+    (omega arith, λ o. omega (arith, q))
 
 add-k : tie.Need-add-k Inv-loop μ-loop
 add-k c = omega arith
@@ -70,12 +69,12 @@ loop-again c =
     (omega arith, omega (arith, q))
 
 returns-3 : tie.Need-returns-3 Inv-loop μ-loop
-unfolding placeIn below
+unfolding below
 returns-3 c =
     let l = c .before in
     let x = l .before .args in
     let e : below (x .start) (pairsOf (drop (2 * l .loop .k) (x .ledger .now))) ≡ 0 = rw (pairs-over (x .ledger .now) (2 * l .loop .k) (omega arith)) in
-    (omega arith, omega (arith, e))
+    (omega arith, λ o. omega (arith, e))
 
 pub place-spec : {M : Type 1} → statement M
 place-spec =

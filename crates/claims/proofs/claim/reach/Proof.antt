@@ -5,20 +5,20 @@ use native.Mathlib.Omega.{arith}
 use lib.ListN.{getD, drop}
 use Rattle.ledger.specs.Pairs.{upTo}
 use Rattle.ledger.specs.Ledger.{pairsOf}
-use Rattle.claims.specs.Claim.{pastFrom}
 use Rattle.ledger.proofs.Opened.{pairs-unused, pairs-used, pairs-over}
 use Rattle.ledger.proofs.Spots.{upTo-on, upTo-stops}
+use Rattle.claims.proofs.Joining.{upTo-from}
 use Rattle.claims.proofs.claim.reach.Statement.{statement}
 use Rattle.claims.proofs.claim.reach.Tie as tie
 
 abbrev Inv-loop : tie.InvT-loop
-Inv-loop ledger at end room k₀ k = (k ≤ room) × (k + upTo end (pairsOf (drop (2 * k) ledger)) ≡ at + upTo end (pairsOf (drop (2 * at) ledger)))
+Inv-loop ledger at end room k₀ k = (at ≤ k) × (k ≤ room) × (k + upTo end (pairsOf (drop (2 * k) ledger)) ≡ at + upTo end (pairsOf (drop (2 * at) ledger)))
 
 abbrev μ-loop : tie.MeasureT-loop
 μ-loop ledger at end room k₀ k = room - k
 
 loop-holds : tie.Need-loop-holds Inv-loop μ-loop
-loop-holds c = omega arith
+loop-holds c = (omega arith, omega arith, omega arith)
 
 mul-if1 : tie.Need-mul-if1 Inv-loop μ-loop
 mul-if1 c = omega arith
@@ -33,12 +33,12 @@ shared-slice-read-if1 : tie.Need-shared-slice-read-if1 Inv-loop μ-loop
 shared-slice-read-if1 c = omega arith
 
 returns : tie.Need-returns Inv-loop μ-loop
-unfolding pastFrom upTo
+unfolding upTo
 returns c =
     let l = c .before .before .before in
     let x = l .before .args in
     let e : upTo (x .end) (pairsOf (drop (2 * l .loop .k) (x .ledger .now))) ≡ 0 = rw (pairs-unused (x .ledger .now) (2 * l .loop .k) (omega arith) (c .if1 .taken)) in
-    omega (arith, e)
+    (omega arith, omega arith, λ o h. omega (arith, e, upTo-from (x .end) (x .at) (x .ledger .now) h))
 
 mul-if2 : tie.Need-mul-if2 Inv-loop μ-loop
 mul-if2 c = omega arith
@@ -50,7 +50,6 @@ shared-slice-read-if2 : tie.Need-shared-slice-read-if2 Inv-loop μ-loop
 shared-slice-read-if2 c = omega arith
 
 returns-2 : tie.Need-returns-2 Inv-loop μ-loop
-unfolding pastFrom
 returns-2 c =
     let e = c .before .before in
     let l = e .before .before .before in
@@ -59,7 +58,7 @@ returns-2 c =
     let i = 2 * l .loop .k in
     let q : upTo (x .end) (pairsOf (drop i s)) ≡ 0 =
     rw (pairs-used s i (omega arith) (e .if1 .left)) (upTo-stops (x .end) (getD s i 0) (getD s (i + 1) 0) (pairsOf (drop (i + 2) s)) (c .if2 .taken)) in
-    omega (arith, q)
+    (omega arith, omega arith, λ o h. omega (arith, q, upTo-from (x .end) (x .at) s h))
 
 add-k : tie.Need-add-k Inv-loop μ-loop
 add-k c = omega arith
@@ -77,15 +76,15 @@ loop-again c =
     let n : i + 2 ≡ 2 * (l .loop .k + 1) = omega arith in
     let q : upTo (x .end) (pairsOf (drop i s)) ≡ suc (upTo (x .end) (pairsOf (drop (2 * (l .loop .k + 1)) s))) =
     rw (← n, pairs-used s i (omega arith) (e .if1 .left)) (upTo-on (x .end) (getD s i 0) (getD s (i + 1) 0) (pairsOf (drop (i + 2) s)) (c .if2 .left)) in
-    (omega arith, omega (arith, q))
+    (omega arith, omega arith, omega (arith, q))
 
 returns-3 : tie.Need-returns-3 Inv-loop μ-loop
-unfolding pastFrom upTo
+unfolding upTo
 returns-3 c =
     let l = c .before in
     let x = l .before .args in
     let e : upTo (x .end) (pairsOf (drop (2 * l .loop .k) (x .ledger .now))) ≡ 0 = rw (pairs-over (x .ledger .now) (2 * l .loop .k) (omega arith)) in
-    omega (arith, e)
+    (omega arith, omega arith, λ o h. omega (arith, e, upTo-from (x .end) (x .at) (x .ledger .now) h))
 
 pub reach-spec : {M : Type 1} → statement M
 reach-spec =

@@ -1,5 +1,5 @@
 -- `rule::obeys`: the pairs passed obey the rule with no end above the limit; those that are left decide.
-use Prim.Native.Nat.{_+_, _-_, _≤_}
+use Prim.Native.Nat.{_+_, _-_, _%_, _≤_}
 use mathlib.Core.Path.{_≡_, refl, sym, ap, _∙_}
 use mathlib.Core.Bool.{_&&_}
 use native.Mathlib.Omega.{arith}
@@ -10,27 +10,33 @@ use lib.ListN.{length, getD, drop, length-drop}
 use lib.Seq.{take-all}
 use Rattle.ledger.specs.Ledger.{zeros, obeys}
 use Rattle.ledger.proofs.Opened.{lowest, lowest-follows, sound, sound-unused, sound-not, sound-above, sound-on, sound-over}
+use Rattle.ledger.proofs.Odd.{odd-breaks}
 use Rattle.ledger.proofs.rule.obeys.Statement.{statement}
 use Rattle.ledger.proofs.rule.obeys.Tie as tie
 
 abbrev Inv-loop : tie.InvT-loop
 Inv-loop ledger limit end₀ i₀ end i =
-    (i ≤ length ledger) × (sound (lowest end) limit (drop i ledger) ≡ sound 0 limit ledger)
+    (i ≤ length ledger) × (i % 2 ≡ 0) × (length ledger % 2 ≡ 0) × (sound (lowest end) limit (drop i ledger) ≡ sound 0 limit ledger)
 
 abbrev μ-loop : tie.MeasureT-loop
 μ-loop ledger limit end₀ i₀ end i = length ledger - i
 
 -- whether the pair at hand may stand where it does
 start : (c : tie.After-may-follow Inv-loop μ-loop) → let l = c .before .before .before .before .before in
-    let s = l .before .before .args .ledger .now in
+    let s = l .before .before .before .args .ledger .now in
     c .may-follow .result ≡ (leb (lowest (l .loop .end)) (getD s (l .loop .i) 0) && ltb (getD s (l .loop .i) 0) (getD s (l .loop .i + 1) 0))
 start c =
     let l = c .before .before .before .before .before in
-    let s = l .before .before .args .ledger .now in
+    let s = l .before .before .before .args .ledger .now in
     c .may-follow .ensures ∙ sym (lowest-follows (l .loop .end) (getD s (l .loop .i) 0) (getD s (l .loop .i + 1) 0))
 
+returns : tie.Need-returns Inv-loop μ-loop
+returns c =
+    let l = c .before .before .args .ledger .now in
+    rw (odd-breaks l (λ q. omega arith))
+
 loop-holds : tie.Need-loop-holds Inv-loop μ-loop
-loop-holds c = (omega arith, refl)
+loop-holds c = (omega arith, omega arith, omega arith, refl)
 
 add-loop : tie.Need-add-loop Inv-loop μ-loop
 add-loop c = omega arith
@@ -65,36 +71,36 @@ part-all-zero-end c = omega arith
 all-zero-requires : tie.Need-all-zero-requires Inv-loop μ-loop
 all-zero-requires c κs = search needs
 
-returns : tie.Need-returns Inv-loop μ-loop
+returns-2 : tie.Need-returns-2 Inv-loop μ-loop
 unfolding obeys sound
-returns c =
+returns-2 c =
     let t = c .before .before in
     let l = t .before .before .before .before in
-    let x = l .before .before .args in
+    let x = l .before .before .before .args in
     let s = x .ledger .now in
-    let e = sound-unused (lowest (l .loop .end)) (x .limit) s (l .loop .i) (omega arith) (t .if1 .taken) in
+    let e = sound-unused (lowest (l .loop .end)) (x .limit) s (l .loop .i) (omega arith) (omega arith) (t .if2 .taken) in
     let n : length (drop (l .loop .i) s) ≤ length s - l .loop .i = simp length-drop (omega arith) in
-    c .all-zero .ensures ∙ ap zeros (take-all (length s - l .loop .i) (drop (l .loop .i) s) n) ∙ sym e ∙ l .loop .inv .1
+    c .all-zero .ensures ∙ ap zeros (take-all (length s - l .loop .i) (drop (l .loop .i) s) n) ∙ sym e ∙ l .loop .inv .3
 
 may-follow-requires : tie.Need-may-follow-requires Inv-loop μ-loop
 may-follow-requires c κs = search needs
 
-returns-2 : tie.Need-returns-2 Inv-loop μ-loop
-unfolding obeys sound
-returns-2 c =
-    let m = c .before in
-    let e = m .before in
-    let l = e .before .before .before .before in
-    let x = l .before .before .args in
-    sym (sym (l .loop .inv .1) ∙ sound-not (lowest (l .loop .end)) (x .limit) (x .ledger .now) (l .loop .i) (omega arith) (e .if1 .left) (sym (start m) ∙ not-true (m .may-follow .result) (c .if2 .taken)))
-
 returns-3 : tie.Need-returns-3 Inv-loop μ-loop
 unfolding obeys sound
 returns-3 c =
+    let m = c .before in
+    let e = m .before in
+    let l = e .before .before .before .before in
+    let x = l .before .before .before .args in
+    sym (sym (l .loop .inv .3) ∙ sound-not (lowest (l .loop .end)) (x .limit) (x .ledger .now) (l .loop .i) (omega arith) (e .if2 .left) (sym (start m) ∙ not-true (m .may-follow .result) (c .if3 .taken)))
+
+returns-4 : tie.Need-returns-4 Inv-loop μ-loop
+unfolding obeys sound
+returns-4 c =
     let e = c .before .before .before in
     let l = e .before .before .before .before in
-    let x = l .before .before .args in
-    sym (sym (l .loop .inv .1) ∙ sound-above (lowest (l .loop .end)) (x .limit) (x .ledger .now) (l .loop .i) (omega arith) (e .if1 .left) (c .if3 .taken))
+    let x = l .before .before .before .args in
+    sym (sym (l .loop .inv .3) ∙ sound-above (lowest (l .loop .end)) (x .limit) (x .ledger .now) (l .loop .i) (omega arith) (e .if2 .left) (c .if4 .taken))
 
 add-i : tie.Need-add-i Inv-loop μ-loop
 add-i c = omega arith
@@ -107,18 +113,18 @@ loop-again c =
     let m = c .before .before in
     let e = m .before in
     let l = e .before .before .before .before in
-    let x = l .before .before .args in
+    let x = l .before .before .before .args in
     let s = x .ledger .now in
-    let g = sym (start m) ∙ not-false (m .may-follow .result) (c .before .if2 .left) in
-    let o = sound-on (lowest (l .loop .end)) (x .limit) s (l .loop .i) (omega arith) (e .if1 .left) g (c .if3 .left) in
-    (omega arith, rw (ne-eqb (getD s (l .loop .i + 1) 0) 0 (e .if1 .left)) (sym o ∙ l .loop .inv .1))
+    let g = sym (start m) ∙ not-false (m .may-follow .result) (c .before .if3 .left) in
+    let o = sound-on (lowest (l .loop .end)) (x .limit) s (l .loop .i) (omega arith) (e .if2 .left) g (c .if4 .left) in
+    (omega arith, omega arith, omega arith, rw (ne-eqb (getD s (l .loop .i + 1) 0) 0 (e .if2 .left)) (sym o ∙ l .loop .inv .3))
 
-returns-4 : tie.Need-returns-4 Inv-loop μ-loop
+returns-5 : tie.Need-returns-5 Inv-loop μ-loop
 unfolding obeys sound
-returns-4 c =
+returns-5 c =
     let l = c .before in
-    let x = l .before .before .args in
-    sym (sym (l .loop .inv .1) ∙ sound-over (lowest (l .loop .end)) (x .limit) (x .ledger .now) (l .loop .i) (l .loop .inv .0) (omega arith))
+    let x = l .before .before .before .args in
+    sym (sym (l .loop .inv .3) ∙ sound-over (lowest (l .loop .end)) (x .limit) (x .ledger .now) (l .loop .i) (omega arith))
 
 pub obeys-spec : {M : Type 1} → statement M
 obeys-spec =
@@ -126,6 +132,7 @@ obeys-spec =
     (tie.spec
     Inv-loop
     μ-loop
+    returns
     loop-holds
     add-loop
     mul-a
@@ -138,11 +145,11 @@ obeys-spec =
     part-all-zero-start
     part-all-zero-end
     all-zero-requires
-    returns
-    may-follow-requires
     returns-2
+    may-follow-requires
     returns-3
+    returns-4
     add-i
     loop-less
     loop-again
-    returns-4)
+    returns-5)

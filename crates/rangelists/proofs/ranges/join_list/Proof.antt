@@ -1,5 +1,5 @@
 -- `ranges::join_list`: what is left of the list, joined to the ledger as it stands, is the whole list joined to the ledger at entry.
-use Prim.Native.Nat.{ℕ, suc, _+_, _-_, _%_, _≤_, _<_}
+use Prim.Native.Nat.{ℕ, suc, _+_, _-_, _≤_, _<_}
 use mathlib.Core.Path.{_≡_, refl, sym, ap, _∙_}
 use mathlib.Core.Bool.{true}
 use mathlib.Core.List.{List}
@@ -16,7 +16,7 @@ use Rattle.rangelists.proofs.ranges.join_list.Tie as tie
 
 abbrev Inv-loop : tie.InvT-loop
 Inv-loop text ledger₀ at₀ ledger at =
-    (at ≤ length text) × (length ledger ≡ length ledger₀) × (length ledger₀ % 2 ≡ 0) × (obeys ledger ≡ true)
+    (at ≤ length text) × (length ledger ≡ length ledger₀) × (obeys ledger ≡ true)
     × (mergedFrom (roomOf ledger₀) (pairsOf ledger) (parts (drop at text)) ≡ mergedFrom (roomOf ledger₀) (pairsOf ledger₀) (parts text))
 
 abbrev μ-loop : tie.MeasureT-loop
@@ -53,7 +53,7 @@ said c =
 loop-holds : tie.Need-loop-holds Inv-loop μ-loop
 loop-holds c =
     let st = c .before .before in
-    (omega arith, refl, st .pre .0, st .pre .1, refl)
+    (omega arith, refl, st .pre, refl)
 
 sub-until-comma : tie.Need-sub-until-comma Inv-loop μ-loop
 sub-until-comma c = omega arith
@@ -82,7 +82,7 @@ part-join-text-end c = omega (arith, ends-le c)
 join-text-requires : tie.Need-join-text-requires Inv-loop μ-loop
 join-text-requires c κs =
     let k = c .before .before .before .before in
-    (omega arith, k .loop .inv .3)
+    k .loop .inv .2
 
 same-length : tie.Need-same-length Inv-loop μ-loop
 same-length c =
@@ -95,7 +95,7 @@ returns c =
     let k = j .before .before .before .before .before in
     let s = k .before .before .before .args .text .now in
     let h : 0 < j .join-text .result = omega arith in
-    says-stopped _ _ _ h (sym (k .loop .inv .4) ∙ walk-stop _ _ _ (drop (k .loop .at) s) _ (said j) h)
+    says-stopped _ _ _ h (sym (k .loop .inv .3) ∙ walk-stop _ _ _ (drop (k .loop .at) s) _ (said j) h)
 
 same-length-2 : tie.Need-same-length-2 Inv-loop μ-loop
 same-length-2 c =
@@ -109,7 +109,7 @@ returns-2 c =
     let s = k .before .before .before .args .text .now in
     let z : j .join-text .result ≡ 0 = omega arith in
     let e : commaRun (drop (k .loop .at) s) ≡ length (drop (k .loop .at) s) = omega (arith, ends (j .before .before .before), length-drop (k .loop .at) s) in
-    says-done _ _ (said j .done z .0) (sym (k .loop .inv .4) ∙ walk-last _ _ _ (drop (k .loop .at) s) _ (said j) z e)
+    says-done _ _ (said j .done z .0) (sym (k .loop .inv .3) ∙ walk-last _ _ _ (drop (k .loop .at) s) _ (said j) z e)
 
 add-at : tie.Need-add-at Inv-loop μ-loop
 add-at c = omega (arith, ends-le (c .before .before .before .before .before .before .before))
@@ -130,12 +130,11 @@ loop-again c =
     let e : k .loop .at + suc (commaRun d) ≡ k .loop .at + u .until-comma .result + 1 = omega (arith, ends u) in (
       omega (arith, ends-le u),
       j .join-text .kept .1 .0 ∙ k .loop .inv .1,
-      k .loop .inv .2,
       said j .done z .0,
       ap (λ (n : ℕ). mergedFrom (roomOf (x .ledger .now)) (pairsOf (j .join-text .last .1 .0)) (parts (drop n s))) (sym e)
           ∙ ap (λ (t : List ℕ). mergedFrom (roomOf (x .ledger .now)) (pairsOf (j .join-text .last .1 .0)) (parts t)) (sym (drop-drop (suc (commaRun d)) (k .loop .at) s))
           ∙ sym (walk-next _ _ _ d _ (said j) z h)
-          ∙ k .loop .inv .4,
+          ∙ k .loop .inv .3,
     )
 
 pub join-list-spec : {M : Type 1} → statement M

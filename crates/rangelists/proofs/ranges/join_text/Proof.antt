@@ -1,8 +1,6 @@
 -- `ranges::join_text`.
 use mathlib.Core.Path.{_≡_, sym, _∙_}
-use native.Mathlib.Omega.{arith}
 use borrow.Author.Needs.{needs}
-use Rattle.ledger.proofs.Sizes.{ends-fit}
 use Rattle.rangelists.specs.RangeText.{rangeOf}
 use Rattle.rangelists.specs.declared.ranges.Range.the-variants.{Places}
 use Rattle.rangelists.proofs.Merging.{says-51, says-52, says-joined}
@@ -37,9 +35,7 @@ returns-2 c =
     let j = c .before .before .before in
     let d = j .before .before .before in
     let st = d .before .before .before .before .before in
-    let l = st .args .ledger .now in
-    rw (j .join .ensures .1)
-    (says-joined (st .args .text .now) l _ _ (range-is d) (st .pre .0) (st .pre .1) (ends-fit l (λ i. omega (arith, d .before .before .before .slice-known .given i))) (sym (j .join .ensures .0) ∙ c .if1 .taken))
+    says-joined (st .args .text .now) (st .args .ledger .now) _ _ (range-is d) (st .pre) _ _ (j .join .ensures) (c .if1 .taken)
 
 same-length-2 : tie.Need-same-length-2
 same-length-2 c = search needs
@@ -49,7 +45,7 @@ returns-3 c =
     let j = c .before .before .before in
     let d = j .before .before .before in
     let st = d .before .before .before .before .before in
-    says-52 (st .args .text .now) (st .args .ledger .now) _ _ (range-is d) (st .pre .0) (st .pre .1) _ (sym (j .join .ensures .0) ∙ c .if1 .left)
+    says-52 (st .args .text .now) (st .args .ledger .now) _ _ (range-is d) (st .pre) _ _ (j .join .ensures) (c .if1 .left)
 
 pub join-text-spec : {M : Type 1} → statement M
 join-text-spec =

@@ -9,7 +9,7 @@ use Rattle.ledger.specs.Ledger.{lengthWrong, pairsOf, roomOf}
 use Rattle.ledger.proofs.Sizes.{length-fits}
 use Rattle.rangelists.specs.RangeText.{rangesOf, Says}
 use Rattle.rangelists.proofs.Answered.{reads-53, reads-trouble, reads-merged}
-use Rattle.rangelists.proofs.Merging.{cleared-length, cleared-obeys, cleared-merged, obeyed-lent}
+use Rattle.rangelists.proofs.Merging.{cleared-obeys, cleared-merged, obeyed-lent}
 use Rattle.rangelists.proofs.ranges.read.Statement.{statement}
 use Rattle.rangelists.proofs.ranges.read.Tie as tie
 
@@ -50,7 +50,7 @@ join-list-requires c κs =
     let r = c .before .before .before in
     let l = r .before .before .before .before .before .before .before .args .ledger .now in
     let n = even (r .before .before) in
-    (omega (arith, n, cleared-length l (r .clear .last .0) n (r .clear .ensures)), cleared-obeys l (r .clear .last .0) n (r .clear .ensures))
+    cleared-obeys l (r .clear .last .0) n (r .clear .ensures)
 
 clear-requires-2 : tie.Need-clear-requires-2
 clear-requires-2 c κs = search needs
@@ -79,7 +79,7 @@ returns-3 c =
     let x = r .before .before .before .before .before .before .before .args in
     let d = said j .done (omega arith) in
     let m = reads-merged (x .text .now) (x .ledger .now) (right (r .before .before)) (pairsOf (j .join-list .last .1 .0)) (d .1) in
-    (m .0, obeyed-lent (x .ledger .now) (j .join-list .last .1 .0) (even (r .before .before)) (kept j) (d .0) ∙ m .1)
+    (m .0, obeyed-lent (x .ledger .now) (j .join-list .last .1 .0) (kept j) (d .0) ∙ m .1)
 
 pub read-spec : {M : Type 1} → statement M
 read-spec =

@@ -4,7 +4,6 @@ use mathlib.Core.Path.{_≡_, sym, ap, _∙_}
 use native.Mathlib.Omega.{arith}
 use borrow.Author.Needs.{needs}
 use lib.ListN.{length}
-use Rattle.ledger.proofs.Sizes.{ends-fit}
 use Rattle.transfer.specs.declared.state.Transfer.{Transfer}
 use Rattle.receiver.specs.Live.{back, Around}
 use Rattle.receiver.proofs.Backs.{back-pairs, back-fault}
@@ -22,9 +21,8 @@ told : (c : tie.After-judge) (t : Transfer) → let x = c .before .before .befor
 told c t a n =
     let b = c .before .before .before in
     let x = b .args in
-    rw (c .judge .ensures)
-    (answered (back t (x .c) (x .x) .pairs) (x .ledger .now) (x .start) (x .end) (b .pre .2) (n ∙ ap (λ p. 2 * p) (sym (back-pairs t (x .c) (x .o) a (x .x))))
-    (ends-fit (x .ledger .now) (λ i. omega (arith, c .before .before .slice-known .given i))) (b .pre .1))
+    answered (back t (x .c) (x .x) .pairs) (x .ledger .now) (x .start) (x .end) (b .pre .2) (n ∙ ap (λ p. 2 * p) (sym (back-pairs t (x .c) (x .o) a (x .x))))
+    (b .pre .1) (c .judge .result) (c .judge .ensures)
 
 judge-requires : tie.Need-judge-requires
 judge-requires c κs = search needs
@@ -83,7 +81,7 @@ returns-3 c t file a n =
     let j = m .before .before in
     let x = j .before .before .before .args in
     let is = rw (m .spot .given .1) at (told j t a n) in
-    claims-opens (back t (x .c) (x .x)) file (x .ledger .now) (x .c) (x .start) (x .end) (x .last) _ (p .put .last .0) (is .0) (p .put .ensures ∙ is .1)
+    claims-opens (back t (x .c) (x .x)) file (x .ledger .now) (x .c) (x .start) (x .end) (x .last) _ (p .put .last .0) (is .0) (is .1 (p .put .last .0) (p .put .ensures))
     (c .«open» .ensures t file (p .put .last .0) a)
 
 pub claimed-spec : {M : Type 1} → statement M

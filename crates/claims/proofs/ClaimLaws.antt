@@ -1,0 +1,104 @@
+-- `ClaimLaws` holds.
+use Prim.Native.Nat.{ℕ, zero, suc, _+_, _*_, _≤_, _<_}
+use mathlib.Core.Path.{_≡_}
+use mathlib.Core.Bool.{true}
+use mathlib.Core.List.{List}
+use native.Mathlib.Omega.{arith}
+use native.Mathlib.Decide.{decLt, decLe}
+use lib.ListN.{getD}
+use Rattle.ledger.specs.Pairs.{Pairs, none, pair, size, Ruled, below, upTo}
+use Rattle.ledger.specs.Ledger.{obeys, pairsOf, roomOf}
+use Rattle.claims.specs.Claim.{spotOf}
+use Rattle.claims.specs.ClaimLaws.{ClaimLaws}
+use Rattle.ledger.proofs.Rules.{start-is, end-is}
+use Rattle.ledger.proofs.Spots.{startAt, endAt, upTo-le, upTo-on, upTo-stops, below-on, below-stops}
+use Rattle.claims.proofs.Joining.{even, ruled}
+use Rattle.claims.proofs.Judgements.{numbers, spot-inside}
+
+-- ---- the two counts, pair by pair
+
+below-ends : (s i : ℕ) (ps : Pairs) → i < below s ps → endAt i ps < s
+unfolding endAt
+below-ends s i none h = absurd (unfold below in omega arith)
+below-ends s i (pair a b ps) h = go i (decLt b s) (λ j. below-ends s j ps) h
+  where
+    go : (i : ℕ) → Dec (b < s) → ((j : ℕ) → j < below s ps → endAt j ps < s) → i < below s (pair a b ps) → endAt i (pair a b ps) < s
+    go i (no q) f k = absurd (omega (arith, below-stops s a b ps (omega arith)))
+    go zero (yes q) f k = q
+    go (suc i) (yes q) f k = f i (omega (arith, below-on s a b ps q))
+
+-- the ends ascend
+ends-from : (s lo i : ℕ) (ps : Pairs) → Ruled lo ps → s ≤ lo → i < size ps → s ≤ endAt i ps
+unfolding endAt size
+ends-from s lo i none c h k = absurd (omega arith)
+ends-from s lo zero (pair a b ps) c h k = omega (arith, c .0, c .1)
+ends-from s lo (suc i) (pair a b ps) c h k = ends-from s (suc b) i ps (c .2) (omega (arith, c .0, c .1)) (omega arith)
+
+below-from : (s lo i : ℕ) (ps : Pairs) → Ruled lo ps → below s ps ≤ i → i < size ps → s ≤ endAt i ps
+unfolding endAt size
+below-from s lo i none c h k = absurd (omega arith)
+below-from s lo i (pair a b ps) c h k = go i (decLt b s) (λ j. below-from s (suc b) j ps (c .2)) h k
+  where
+    go : (i : ℕ) → Dec (b < s) → ((j : ℕ) → below s ps ≤ j → j < size ps → s ≤ endAt j ps) → below s (pair a b ps) ≤ i → i < suc (size ps) → s ≤ endAt i (pair a b ps)
+    go zero (yes q) f h k = absurd (omega (arith, below-on s a b ps q))
+    go (suc i) (yes q) f h k = f i (omega (arith, below-on s a b ps q)) (omega arith)
+    go zero (no q) f h k = omega arith
+    go (suc i) (no q) f h k = ends-from s (suc b) i ps (c .2) (omega arith) (omega arith)
+
+upTo-starts : (e i : ℕ) (ps : Pairs) → i < upTo e ps → startAt i ps ≤ e
+unfolding startAt
+upTo-starts e i none h = absurd (unfold upTo in omega arith)
+upTo-starts e i (pair a b ps) h = go i (decLe a e) (λ j. upTo-starts e j ps) h
+  where
+    go : (i : ℕ) → Dec (a ≤ e) → ((j : ℕ) → j < upTo e ps → startAt j ps ≤ e) → i < upTo e (pair a b ps) → startAt i (pair a b ps) ≤ e
+    go i (no q) f k = absurd (omega (arith, upTo-stops e a b ps (omega arith)))
+    go zero (yes q) f k = q
+    go (suc i) (yes q) f k = f i (omega (arith, upTo-on e a b ps q))
+
+-- the starts ascend
+starts-from : (e lo i : ℕ) (ps : Pairs) → Ruled lo ps → e < lo → i < size ps → e < startAt i ps
+unfolding startAt size
+starts-from e lo i none c h k = absurd (omega arith)
+starts-from e lo zero (pair a b ps) c h k = omega (arith, c .0)
+starts-from e lo (suc i) (pair a b ps) c h k = starts-from e (suc b) i ps (c .2) (omega (arith, c .0, c .1)) (omega arith)
+
+upTo-after : (e lo i : ℕ) (ps : Pairs) → Ruled lo ps → upTo e ps ≤ i → i < size ps → e < startAt i ps
+unfolding startAt size
+upTo-after e lo i none c h k = absurd (omega arith)
+upTo-after e lo i (pair a b ps) c h k = go i (decLe a e) (λ j. upTo-after e (suc b) j ps (c .2)) h k
+  where
+    go : (i : ℕ) → Dec (a ≤ e) → ((j : ℕ) → upTo e ps ≤ j → j < size ps → e < startAt j ps) → upTo e (pair a b ps) ≤ i → i < suc (size ps) → e < startAt i (pair a b ps)
+    go zero (yes q) f h k = absurd (omega (arith, upTo-on e a b ps q))
+    go (suc i) (yes q) f h k = f i (omega (arith, upTo-on e a b ps q)) (omega arith)
+    go zero (no q) f h k = omega arith
+    go (suc i) (no q) f h k = starts-from e (suc b) i ps (c .2) (omega (arith, c .1)) (omega arith)
+
+-- ---- the entries of a ledger by the rule
+
+module _ (s e i : ℕ) (l : List ℕ) (o : obeys l ≡ true) where
+  before-spot : i < spotOf s e (pairsOf l) .at → getD l (2 * i + 1) 0 < s
+  unfolding spotOf
+  before-spot h = rw (end-is (roomOf l) l (even l o) o i) (below-ends s i (pairsOf l) h)
+
+  in-spot : spotOf s e (pairsOf l) .at ≤ i → i < spotOf s e (pairsOf l) .past → (s ≤ getD l (2 * i + 1) 0) × (getD l (2 * i) 0 ≤ e)
+  unfolding spotOf
+  in-spot h k =
+      rw (start-is (roomOf l) l (even l o) o i, end-is (roomOf l) l (even l o) o i)
+      (below-from s 0 i (pairsOf l) (ruled l o) h (omega (arith, upTo-le e (pairsOf l))), upTo-starts e i (pairsOf l) k)
+
+  after-spot : spotOf s e (pairsOf l) .past ≤ i → i < size (pairsOf l) → e < getD l (2 * i) 0
+  unfolding spotOf
+  after-spot h k = rw (start-is (roomOf l) l (even l o) o i) (upTo-after e 0 i (pairsOf l) (ruled l o) h k)
+
+pub claim-laws : ClaimLaws
+claim-laws =
+    record {
+      number-17 = λ r s e ps. numbers r s e ps .0;
+      number-18 = λ r s e ps. numbers r s e ps .1;
+      number-0 = λ r s e ps. numbers r s e ps .2;
+      accepted = λ r s e ps. numbers r s e ps .3;
+      before-spot = before-spot;
+      in-spot = in-spot;
+      after-spot = after-spot;
+      spot-inside = spot-inside;
+    }

@@ -1,0 +1,9 @@
+-- The fault of a header whose range is judged: what `claim::judge` answers has the number that the receiver's rules give.
+use Prim.Native.Nat.{ℕ}
+use mathlib.Core.Path.{_≡_}
+use Rattle.ledger.specs.Pairs.{Pairs}
+use Rattle.claims.specs.Claim.{judged, roomNumber}
+use Rattle.transfer.specs.Header.{claimFault}
+
+pub record ClaimNumber : Type 0 where
+  pub claim-number : (R : ℕ) (ps : Pairs) (s e : ℕ) → roomNumber (judged R s e ps) ≡ claimFault R ps s e
