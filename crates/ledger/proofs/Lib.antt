@@ -12,3 +12,4 @@ pub mod Zeros
 pub mod Rules
 pub mod Meanings
 pub mod Indexed
+pub mod Answers
