@@ -1,15 +1,16 @@
 -- `Reading` holds: what the readers of numbers answer, and what follows from a number that was read.
 use Prim.Native.Nat.{ℕ, zero, suc, _+_, _*_, _-_, _≤_, _<_}
-use mathlib.Core.Path.{_≡_, refl}
-use mathlib.Core.Bool.{Bool, true, false, cond, _&&_, and-false, and-eq-true-iff}
+use mathlib.Core.Path.{_≡_, refl, sym, _∙_}
+use mathlib.Core.Bool.{Bool, true, false, cond, _&&_, and-false, and-eq-true-iff, false≢true}
 use mathlib.Core.Logic.{_⊎_, inl, inr}
 use mathlib.Core.List.{List, [], _∷_, _++_, map, map-append}
 use native.Mathlib.Omega.{arith}
+use native.Mathlib.Decide.{decLt}
 use borrow.Author.Tests.{lt-ltb, le-leb, lt-leb, ltb-true}
 use lib.Dec.{leb, ltb}
 use lib.ListN.{length, getD}
 use Rattle.octets.specs.Digits.{fromBig, fromLittle}
-use Rattle.octets.specs.Decimal.{isDigit, digitsOnly, digitValue, numberOf, readOf}
+use Rattle.octets.specs.Decimal.{isDigit, digitsOnly, digitRun, digitValue, numberOf, readOf}
 use Rattle.octets.specs.Reading.{Reading}
 use Rattle.octets.specs.declared.decimal.Number.the-variants.{Value, Nothing}
 use Rattle.octets.proofs.Digits.{fromBig-snoc, fromLittle-cons}
@@ -70,6 +71,44 @@ digits-more : (text : List ℕ) (b : ℕ) → numberOf (text ++ (b ∷ [])) ≡ 
 unfolding numberOf
 digits-more text b = rw (map-append digitValue text (b ∷ [])) (fromBig-snoc 10 (digitValue b) (map digitValue text))
 
+-- ---- the digits that a text begins with
+
+run-fits : (text : List ℕ) → digitRun text ≤ length text
+unfolding digitRun
+run-fits [] = omega arith
+run-fits (b ∷ bs) = go (isDigit b) (run-fits bs)
+  where
+    go : (t : Bool) → digitRun bs ≤ length bs → cond t (suc (digitRun bs)) 0 ≤ suc (length bs)
+    go true i = omega arith
+    go false i = omega arith
+
+run-digits : (text : List ℕ) (i : ℕ) → i < digitRun text → (48 ≤ getD text i 0) × (getD text i 0 ≤ 57)
+unfolding digitRun
+run-digits [] i h = absurd (omega arith)
+run-digits (b ∷ bs) i h = go (isDigit b) refl i h (run-digits bs)
+  where
+    go : (t : Bool) → isDigit b ≡ t → (i : ℕ) → i < cond t (suc (digitRun bs)) 0 → ((j : ℕ) → j < digitRun bs → (48 ≤ getD bs j 0) × (getD bs j 0 ≤ 57))
+        → (48 ≤ getD (b ∷ bs) i 0) × (getD (b ∷ bs) i 0 ≤ 57)
+    go true e zero h on = digit-bounds b e
+    go true e (suc j) h on = on j (omega arith)
+    go false e i h on = absurd (omega arith)
+
+run-stops : (text : List ℕ) → digitRun text < length text → (getD text (digitRun text) 0 < 48) ⊎ (57 < getD text (digitRun text) 0)
+unfolding digitRun
+run-stops [] h = absurd (omega arith)
+run-stops (b ∷ bs) h = go (isDigit b) refl h (run-stops bs)
+  where
+    outside : isDigit b ≡ false → Dec (b < 48) → Dec (57 < b) → (b < 48) ⊎ (57 < b)
+    outside e (yes h) d = inl h
+    outside e (no h) (yes g) = inr g
+    outside e (no h) (no g) = absurd (false≢true (sym e ∙ digit-is b (omega arith) (omega arith)))
+
+    go : (t : Bool) → isDigit b ≡ t → cond t (suc (digitRun bs)) 0 < suc (length bs)
+        → (digitRun bs < length bs → (getD bs (digitRun bs) 0 < 48) ⊎ (57 < getD bs (digitRun bs) 0))
+        → let k = cond t (suc (digitRun bs)) 0 in (getD (b ∷ bs) k 0 < 48) ⊎ (57 < getD (b ∷ bs) k 0)
+    go true e h on = on (omega arith)
+    go false e h on = outside e (decLt b 48) (decLt 57 b)
+
 pub reading : Reading
 unfolding fromBig fromLittle numberOf readOf
 reading =
@@ -84,4 +123,7 @@ reading =
       no-byte = λ limit. refl;
       no-digit = λ text limit i h o. readOf-spoilt text limit (digitsOnly-not text i h (other-byte (getD text i 0) o));
       above-limit = λ text limit h. readOf-above text limit (lt-leb (numberOf text) limit h);
+      run-fits = run-fits;
+      run-digits = run-digits;
+      run-stops = run-stops;
     }

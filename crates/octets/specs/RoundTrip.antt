@@ -1,5 +1,5 @@
--- What a writer of numbers leaves its reader reads as the same number, and what a reader reads is written as the same bytes. Each side is what the
--- contract of its function says: `big`, `little` and `decimal`.
+-- A number that is written is read as the same number, and bytes that are read are written as the same bytes. What is written and what is read are
+-- as the contracts of `big`, `little` and `decimal` say.
 use Prim.Native.Nat.{ℕ, _^_, _≤_, _<_}
 use mathlib.Core.Path.{_≡_}
 use mathlib.Core.Bool.{true}
