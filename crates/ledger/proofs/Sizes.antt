@@ -1,6 +1,7 @@
 -- The number of a ledger's entries, refused or not, and how large they are.
 use Prim.Native.Nat.{ℕ, suc, _%_, _≤_, _<_}
 use mathlib.Core.Path.{_≡_, refl, sym}
+use mathlib.Core.Logic.{_⊎_, inl, inr}
 use mathlib.Core.Bool.{Bool, true, false, cond, _&&_, false≢true, and-true}
 use mathlib.Core.List.{List, [], _∷_}
 use native.Mathlib.Omega.{arith}
@@ -22,6 +23,14 @@ length-fits l h = go (eqb (length l % 2) 0) (ltb entryLimit (length l)) refl ref
     go true false e g = (eqb-true (length l % 2) 0 e, ltb-false entryLimit (length l) g)
     go true true e g = absurd (false≢true (sym (rw (e, g) at h)))
     go false t e g = absurd (false≢true (sym (rw e at h)))
+
+pub length-wrong : (l : List ℕ) → (length l % 2 ≡ 1) ⊎ (entryLimit < length l) → lengthWrong l ≡ true
+length-wrong l o = go (lengthWrong l) refl o
+  where
+    go : (t : Bool) → lengthWrong l ≡ t → (length l % 2 ≡ 1) ⊎ (entryLimit < length l) → t ≡ true
+    go true e o = refl
+    go false e (inl h) = absurd (omega (arith, length-fits l e .0))
+    go false e (inr h) = absurd (omega (arith, length-fits l e .1))
 
 -- no end is above the largest number of 64 bits, where each entry is one
 pub ends-fit : (l : List ℕ) → ((i : ℕ) → getD l i 0 < 18446744073709551616) → endsBy largest (pairsOf l) ≡ true

@@ -14,17 +14,6 @@ use Rattle.ledger.specs.Ledger.{lengthWrong, obeys, pairsOf, lent, roomOf}
 use Rattle.rangelists.specs.RangeText.{merged, trouble, loaded, laidOut, readRanges, rangesLeft, rangesOf, rangesText, rangesNumber, writeRanges, rangesWritten, putAt}
 use Rattle.ledger.specs.declared.answer.Loaded.the-variants.{Done, Refused}
 use Rattle.ledger.specs.declared.answer.Written.the-variants.{Bytes, Refused as NotWritten}
-use Rattle.ledger.proofs.Sizes.{length-fits}
-
--- ---- a ledger whose length is wrong
-
-pub wrong-length : (ledger : List ℕ) → (length ledger % 2 ≡ 1) ⊎ (8192 < length ledger) → lengthWrong ledger ≡ true
-wrong-length ledger o = go (lengthWrong ledger) refl o
-  where
-    go : (t : Bool) → lengthWrong ledger ≡ t → (length ledger % 2 ≡ 1) ⊎ (8192 < length ledger) → t ≡ true
-    go true e o = refl
-    go false e (inl h) = absurd (omega (arith, length-fits ledger e .0))
-    go false e (inr h) = absurd (omega (arith, length-fits ledger e .1))
 
 -- ---- the writer
 

@@ -10,13 +10,13 @@ use lib.Seq.{append-snoc}
 use Rattle.ledger.specs.Pairs.{Pairs, none, size, join}
 use Rattle.ledger.specs.Ledger.{lengthWrong, roomOf}
 use Rattle.ledger.specs.Answer.{loadedNumber}
-use Rattle.ledger.proofs.Sizes.{length-right}
+use Rattle.ledger.proofs.Sizes.{length-right, length-wrong}
 use Rattle.rangelists.specs.RangeText.{parts, rangeOf, Merged, merged, trouble, added, mergedFrom, rangesOf, loaded, readRanges, rangesLeft}
 use Rattle.rangelists.specs.RangeReading.{Merges, no-range, one-more, Trouble, by-51, by-52, Reads, Refuses, RangeReading}
 use Rattle.ledger.specs.declared.answer.Loaded.the-variants.{Refused}
 use Rattle.rangelists.specs.declared.ranges.Range.{Range}
 use Rattle.rangelists.specs.declared.ranges.Range.the-variants.{Places, Malformed}
-use Rattle.rangelists.proofs.Answered.{wrong-length, reads-53, reads-trouble, reads-merged}
+use Rattle.rangelists.proofs.Answered.{reads-53, reads-trouble, reads-merged}
 
 -- ---- from the rows to the definition
 
@@ -108,7 +108,7 @@ module _ (text ledger : List ℕ) where
   unfolding rangesOf
   range-reading =
       record {
-        wrong-length = λ o. refuses 53 ledger (reads-53 text ledger (wrong-length ledger o));
+        wrong-length = λ o. refuses 53 ledger (reads-53 text ledger (length-wrong ledger o));
         trouble-is = λ e l k t. refuses k _ (reads-trouble text ledger (length-right ledger e l) k (trouble-stops (roomOf ledger) k (parts text) t));
         trouble-only = λ e l. trouble-only text ledger (length-right ledger e l);
         merged-is = λ e l ps m. reads (length-right ledger e l) ps (merges-all (roomOf ledger) ps (parts text) m);

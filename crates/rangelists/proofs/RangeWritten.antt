@@ -8,10 +8,10 @@ use lib.ListN.{length}
 use Rattle.octets.specs.Decimal.{decimal}
 use Rattle.ledger.specs.Ledger.{pairsOf}
 use Rattle.ledger.specs.Answer.{writtenNumber, writtenBytes}
-use Rattle.ledger.proofs.Sizes.{length-right}
+use Rattle.ledger.proofs.Sizes.{length-right, length-wrong}
 use Rattle.rangelists.specs.RangeText.{rangeText, rangesText, rangesNumber, putAt}
 use Rattle.rangelists.specs.RangeWriting.{Refuses, Writes, RangeWriting, RangesText}
-use Rattle.rangelists.proofs.Answered.{wrong-length, number-53, number-1, number-54, number-55, number-0, writes-refused, writes-text}
+use Rattle.rangelists.proofs.Answered.{number-53, number-1, number-54, number-55, number-0, writes-refused, writes-text}
 
 module _ (ledger out : List ℕ) where
   refuses : (k : ℕ) → rangesNumber ledger out ≡ k → 0 < k → Refuses ledger out k
@@ -29,7 +29,7 @@ module _ (ledger out : List ℕ) where
   pub range-writing : RangeWriting ledger out
   range-writing =
       record {
-        wrong-length = λ o. refuses 53 (number-53 ledger out (wrong-length ledger o)) (omega arith);
+        wrong-length = λ o. refuses 53 (number-53 ledger out (length-wrong ledger o)) (omega arith);
         broken-rule = λ e l o. refuses 1 (number-1 ledger out (length-right ledger e l) o) (omega arith);
         no-pair = λ e l o z. refuses 54 (number-54 ledger out (length-right ledger e l) o z) (omega arith);
         too-few-bytes = λ e l o s h. refuses 55 (number-55 ledger out (length-right ledger e l) o (omega arith) h) (omega arith);

@@ -11,7 +11,7 @@ use Rattle.octets.specs.Digits.{fromLittle}
 use Rattle.ledger.specs.Pairs.{Ruled}
 use Rattle.ledger.specs.Ledger.{lengthWrong}
 use Rattle.ledger.specs.Answer.{loadedNumber}
-use Rattle.ledger.proofs.Sizes.{length-right, length-fits}
+use Rattle.ledger.proofs.Sizes.{length-right, length-wrong}
 use Rattle.savedledgers.specs.Saved.{kindOne, kindOf, frameNumber, pairsIn, inOrder, savedPairs, savedNumber}
 use Rattle.savedledgers.specs.SavedReading.{Refuses, Reads, RightLength, RightFrame, IsKindOne, RightBody, SavedReading, SavedPairs}
 use Rattle.savedledgers.proofs.Bodies.{order-ruled, ruled-order}
@@ -19,14 +19,6 @@ use Rattle.savedledgers.proofs.Frames.{frame-short, frame-length-wrong,
 use Rattle.savedledgers.proofs.Loads.{reads-refused, reads-done, number-53, number-frame, number-parts, number-order, number-room, number-none}
 
 -- ---- the ledger's length
-
-pub wrong-length : (ledger : List ℕ) → (length ledger % 2 ≡ 1) ⊎ (8192 < length ledger) → lengthWrong ledger ≡ true
-wrong-length ledger o = go (lengthWrong ledger) refl o
-  where
-    go : (t : Bool) → lengthWrong ledger ≡ t → (length ledger % 2 ≡ 1) ⊎ (8192 < length ledger) → t ≡ true
-    go true e o = refl
-    go false e (inl h) = absurd (omega (arith, length-fits ledger e .0))
-    go false e (inr h) = absurd (omega (arith, length-fits ledger e .1))
 
 pub right-length : (ledger : List ℕ) → RightLength ledger → lengthWrong ledger ≡ false
 right-length ledger l = length-right ledger (l .even) (l .most)
@@ -88,7 +80,7 @@ module _ (bytes ledger : List ℕ) where
   pub saved-reading : SavedReading bytes ledger
   saved-reading =
       record {
-        wrong-length = λ o. refuses 53 (number-53 bytes ledger (wrong-length ledger o)) (omega arith);
+        wrong-length = λ o. refuses 53 (number-53 bytes ledger (length-wrong ledger o)) (omega arith);
         wrong-frame = λ l o. frame-refuses 61 l (number-61 bytes o) (omega arith);
         wrong-kind = λ l f n. frame-refuses 62 l (number-62 bytes f n) (omega arith);
         wrong-body = λ l f k o. refuses 63 (number-63 l f k o) (omega arith);

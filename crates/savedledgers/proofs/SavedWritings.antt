@@ -10,7 +10,8 @@ use Rattle.savedledgers.specs.Saved.{bytesOf, framed, savedOf, saveNumbe
 use Rattle.savedledgers.specs.SavedWriting.{NotWritten, Writes, SavedWriting, SavedBytes}
 use Rattle.savedledgers.proofs.Bodies.{length-bytesOf}
 use Rattle.savedledgers.proofs.Saves.{writes-refused, writes-done, save-53, save-1, save-55, save-none, length-savedOf}
-use Rattle.savedledgers.proofs.SavedReadings.{wrong-length, right-length}
+use Rattle.savedledgers.proofs.SavedReadings.{right-length}
+use Rattle.ledger.proofs.Sizes.{length-wrong}
 
 module _ (ledger out : List ℕ) where
   not-written : (k : ℕ) → saveNumber ledger out ≡ k → 0 < k → NotWritten ledger out k
@@ -29,7 +30,7 @@ module _ (ledger out : List ℕ) where
   pub saved-writing : SavedWriting ledger out
   saved-writing =
       record {
-        wrong-length = λ o. not-written 53 (save-53 ledger out (wrong-length ledger o)) (omega arith);
+        wrong-length = λ o. not-written 53 (save-53 ledger out (length-wrong ledger o)) (omega arith);
         broken-rule = λ l o. not-written 1 (save-1 ledger out (right-length ledger l) o) (omega arith);
         too-few-bytes = λ l o h. not-written 55 (save-55 ledger out (right-length ledger l) o h) (omega arith);
         written = λ l o h. writes (save-none ledger out (right-length ledger l) o h);
