@@ -16,7 +16,7 @@ use Rattle.transfer.specs.AfterList.{Begun, tallyOf}
 use Rattle.receiver.specs.Stored.{storedCut}
 use Rattle.screen.specs.Screen.{lineText, lineOf, roomNumber, answerBy, leftBy, screenOf, screenLeaves}
 
--- the payload bytes taken, and those held before
+-- the payload bytes taken, and those of the ranges held from the beginning, 0 until a transfer can be resumed
 abbrev pub bytesOf : Pairs → Tally → ℕ
 bytesOf before t = bytesIn (blocksOf (t .streams)) + total before
 
