@@ -1,13 +1,13 @@
 -- A pair of entries at a place of the lent list: what the rule, the used pairs and the zeros say there.
 use Prim.Native.Nat.{ℕ, suc, _+_, _-_, _%_, _≤_, _<_}
-use mathlib.Core.Path.{_≡_, refl}
+use mathlib.Core.Path.{_≡_, refl, sym, _∙_}
 use mathlib.Core.Bool.{Bool, true, false, cond, _&&_, _||_, and-true, and-false, and-assoc, and-eq-true-iff}
 use mathlib.Core.List.{List, [], _∷_}
 use native.Mathlib.Omega.{arith}
 use native.Mathlib.Numerals.{add-one, add-two}
 use borrow.Author.Tests.{le-leb, lt-leb, ltb-true, eq-eqb, ne-eqb}
 use lib.Dec.{leb, ltb, eqb}
-use lib.ListN.{length, getD, drop, length-drop, drop-of-length-le}
+use lib.ListN.{length, getD, drop, length-drop}
 use lib.Seq.{drop-cons}
 use Rattle.ledger.specs.Pairs.{none, pair, endsBy}
 use Rattle.ledger.specs.Ledger.{zeros, rule, pairsOf, follows}
@@ -57,11 +57,13 @@ unfoldable pub sound : ℕ → ℕ → List ℕ → Bool
 sound lo f l = rule lo l && endsBy f (pairsOf l)
 
 module _ (lo f : ℕ) (l : List ℕ) (i : ℕ) (h : i + 1 < length l) where
-  pub sound-unused : (length l - i) % 2 ≡ 0 → getD l (i + 1) 0 ≡ 0 → sound lo f (drop i l) ≡ zeros (drop i l)
+  pub sound-unused : getD l (i + 1) 0 ≡ 0 → sound lo f (drop i l) ≡ (zeros (drop i l) && eqb (length (drop i l) % 2) 0)
   unfolding sound rule zeros endsBy
-  sound-unused n e =
-      let m : length (drop (i + 2) l) % 2 ≡ 0 = omega (arith, length-drop (i + 2) l) in
-      rw (pairs-unused l i h e, two-of l i h, eq-eqb (getD l (i + 1) 0) 0 e, m, and-true (zeros (drop (i + 2) l))) (and-true (eqb (getD l i 0) 0 && zeros (drop (i + 2) l)))
+  sound-unused e =
+      let r = drop (i + 2) l in
+      let m : suc (suc (length r)) % 2 ≡ length r % 2 = omega arith in
+      rw (pairs-unused l i h e, two-of l i h, eq-eqb (getD l (i + 1) 0) 0 e, m)
+      (and-true (eqb (getD l i 0) 0 && (zeros r && eqb (length r % 2) 0)) ∙ sym (and-assoc (eqb (getD l i 0) 0) (zeros r) (eqb (length r % 2) 0)))
 
   module _ (n : getD l (i + 1) 0 ≡ 0 → ⊥) where
     pub sound-not : (leb lo (getD l i 0) && ltb (getD l i 0) (getD l (i + 1) 0)) ≡ false → sound lo f (drop i l) ≡ false
@@ -92,6 +94,11 @@ module _ (lo f : ℕ) (l : List ℕ) (i : ℕ) (h : i + 1 < length l) where
           le-leb (getD l (i + 1) 0) f g,
         )
 
-pub sound-over : (lo f : ℕ) (l : List ℕ) (i : ℕ) → length l ≤ i → sound lo f (drop i l) ≡ true
+pub sound-over : (lo f : ℕ) (l : List ℕ) (i : ℕ) → i ≤ length l → length l ≤ i + 1 → sound lo f (drop i l) ≡ eqb i (length l)
 unfolding sound rule endsBy
-sound-over lo f l i h = rw (pairs-over l i (omega arith), drop-of-length-le l h)
+sound-over lo f l i h g = rw (pairs-over l i g) (go (drop i l) (length-drop i l))
+  where
+    go : (r : List ℕ) → length r ≡ length l - i → rule lo r && true ≡ eqb i (length l)
+    go [] k = sym (eq-eqb i (length l) (omega arith))
+    go (a ∷ []) k = sym (ne-eqb i (length l) (omega arith))
+    go (a ∷ b ∷ r) k = absurd (omega arith)

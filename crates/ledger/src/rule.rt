@@ -1,7 +1,9 @@
 // The ledger rule, and how many bytes a ledger holds.
 ghost use mathlib.Core.Path.{_≡_};
 ghost use mathlib.Core.Bool.{_&&_};
-ghost use Prim.Native.Nat.{_+_, _-_, min};
+ghost use Prim.Native.Nat.{_+_, _-_, _%_, min};
+ghost use lib.Dec.{eqb};
+ghost use lib.ListN.{length};
 ghost use Rattle.ledger.specs.Pairs.{total, endsBy};
 ghost use Rattle.ledger.specs.Ledger.{lengthWrong, zeros, follows, obeys, pairsOf};
 
@@ -33,6 +35,16 @@ fn all_zero(entries: &[u64]) -> bool
     any == 0
 }
 
+// Whether the entries are all 0 and make whole pairs.
+fn zero_pairs(entries: &[u64]) -> bool
+    ensures { λ r. ⌜ r ≡ (zeros (now (entries .entry)) && eqb (length (now (entries .entry)) % 2) 0) ⌝ }
+{
+    if !all_zero(entries) {
+        return false;
+    }
+    entries.len() % 2 == 0
+}
+
 // Whether the pair (a, b) may stand behind one that ends at end; an end of 0 says that there is none before it.
 pub fn may_follow(end: u64, a: u64, b: u64) -> bool
     ensures { λ r. ⌜ r ≡ follows end a b ⌝ }
@@ -50,16 +62,13 @@ pub fn may_follow(end: u64, a: u64, b: u64) -> bool
 pub fn obeys(ledger: &[u64], limit: u64) -> bool
     ensures { λ r. ⌜ r ≡ (obeys (now (ledger .entry)) && endsBy limit (pairsOf (now (ledger .entry)))) ⌝ }
 {
-    if ledger.len() % 2 == 1 {
-        return false;
-    }
     let mut end: u64 = 0;
     let mut i = 0;
     while i + 1 < ledger.len() {
         let a = ledger[i];
         let b = ledger[i + 1];
         if b == 0 {
-            return all_zero(&ledger[i..]);
+            return zero_pairs(&ledger[i..]);
         }
         if !may_follow(end, a, b) {
             return false;
@@ -70,7 +79,7 @@ pub fn obeys(ledger: &[u64], limit: u64) -> bool
         end = b;
         i += 2;
     }
-    true
+    i == ledger.len()
 }
 
 // b - a, or 0 where b is less.
