@@ -1,6 +1,6 @@
 -- `ClaimLaws` holds.
 use Prim.Native.Nat.{ℕ, zero, suc, _+_, _*_, _≤_, _<_}
-use mathlib.Core.Path.{_≡_}
+use mathlib.Core.Path.{_≡_, refl}
 use mathlib.Core.Bool.{true}
 use mathlib.Core.List.{List}
 use native.Mathlib.Omega.{arith}
@@ -101,4 +101,6 @@ claim-laws =
       in-spot = in-spot;
       after-spot = after-spot;
       spot-inside = spot-inside;
+      joined = λ s e l m o h j. j .by-rule o h refl;
+      not-joined = λ s e l m j. j .unchanged refl;
     }

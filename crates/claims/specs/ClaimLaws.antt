@@ -6,8 +6,8 @@ use mathlib.Core.Bool.{true, false}
 use mathlib.Core.List.{List}
 use lib.ListN.{getD}
 use Rattle.ledger.specs.Pairs.{Pairs, size, join, shares}
-use Rattle.ledger.specs.Ledger.{obeys, pairsOf, roomOf}
-use Rattle.claims.specs.Claim.{spotOf, judged, roomNumber}
+use Rattle.ledger.specs.Ledger.{obeys, pairsOf, lent, roomOf}
+use Rattle.claims.specs.Claim.{spotOf, judged, roomNumber, Joins}
 use Rattle.claims.specs.declared.claim.Room.the-variants.{At}
 
 pub record ClaimLaws : Type 0 where
@@ -28,3 +28,6 @@ pub record ClaimLaws : Type 0 where
   -- the spot lies inside the ledger
   pub spot-inside : (s e : ℕ) (l : List ℕ) → obeys l ≡ true → s < e
       → (spotOf s e (pairsOf l) .at ≤ spotOf s e (pairsOf l) .past) × (spotOf s e (pairsOf l) .past ≤ roomOf l)
+  -- a range joined to a ledger by the rule leaves one ledger; one that was not joined leaves any ledger as it was
+  pub joined : (s e : ℕ) (l m : List ℕ) → obeys l ≡ true → s < e → Joins s e l true m → m ≡ lent (roomOf l) (join s e (pairsOf l))
+  pub not-joined : (s e : ℕ) (l m : List ℕ) → Joins s e l false m → m ≡ l
