@@ -1,1 +1,2 @@
-// Document 01's starred examples: specs/ProvedSet states them and proofs/ProvedSet proves them. There is no code here.
+// Worked cases, proved by computation: document 01's starred examples (specs/ProvedSet), and other lists of calls (specs/CallCases). There is
+// no code here.

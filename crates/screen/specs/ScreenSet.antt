@@ -6,7 +6,7 @@ use lib.ListN.{length, replicate}
 use Rattle.octets.specs.Cases.{AllHold}
 use Rattle.eblock.specs.Header.{bytesOf}
 use Rattle.transfer.specs.Calls.{Call, receive, begun, after}
-use Rattle.transfer.specs.CallCases.{first, second, third}
+use Rattle.transfer.specs.Example.{first, second, third}
 use Rattle.screen.specs.declared.line.Line.the-variants.{Bytes, Refused}
 use Rattle.screen.specs.Screen.{lineOf, screenOf, screenLeaves}
 

@@ -5,7 +5,6 @@ use Rattle.transfer.specs.Calls.{begun}
 use Rattle.transfer.specs.Demand.{Demand3}
 use Rattle.ledger.specs.Pairs.{none}
 use lib.ListN.{replicate}
-use Rattle.transfer.proofs.CallCases.{call-cases}
 use Rattle.transfer.proofs.Starts.{start}
 use Rattle.transfer.proofs.Judged.{judgement}
 use Rattle.transfer.proofs.Cutting.{cutting}
@@ -44,5 +43,4 @@ demand-3 =
       every-list = every-list;
       every-arrival = every-arrival;
       example = example;
-      cases = call-cases;
     }

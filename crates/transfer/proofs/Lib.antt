@@ -1,6 +1,5 @@
 pub mod Lens
 pub mod Pieces
-pub mod CallCases
 pub mod Rowed
 pub mod Claimed
 pub mod Counted

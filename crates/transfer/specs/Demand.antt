@@ -9,7 +9,6 @@ use Rattle.transfer.specs.EachCall.{EachCall}
 use Rattle.transfer.specs.AfterList.{EveryList}
 use Rattle.transfer.specs.Arrivals.{EveryArrival}
 use Rattle.transfer.specs.Example.{Example}
-use Rattle.transfer.specs.CallCases.{CallCases}
 
 pub record Demand3 : Type 1 where
   -- what start leaves, how a header is judged, how bytes are cut into blocks, and what FIT says
@@ -25,6 +24,5 @@ pub record Demand3 : Type 1 where
   pub every-list : EveryList
   -- for every arrival of every well-formed sending
   pub every-arrival : EveryArrival
-  -- an instance of each half
+  -- an instance
   pub example : Example
-  pub cases : CallCases

@@ -1,14 +1,30 @@
 -- The screen line's example (document 01) as a sending: the hypotheses of the last sentence of demand 3 can be met.
-use mathlib.Core.List.{List, [], _∷_}
+use Prim.Native.Nat.{ℕ}
+use mathlib.Core.List.{List, [], _∷_, _++_}
 use lib.ListN.{replicate}
 use Rattle.ledger.specs.Pairs.{none}
 use Rattle.eblock.specs.Header.{bytesOf}
-use Rattle.transfer.specs.Calls.{Call, begun}
+use Rattle.transfer.specs.Calls.{Call, receive, begun}
 use Rattle.transfer.specs.Block.{block}
-use Rattle.transfer.specs.CallCases.{plai, d123, first, second, third}
 use Rattle.transfer.specs.AfterList.{Begun}
 use Rattle.transfer.specs.Sending.{Life, WellFormed, Arrival}
 use Rattle.transfer.specs.Arrivals.{Arrives}
+
+-- "plai" and "d123"
+abbrev pub plai : List ℕ
+plai = 112 ∷ 108 ∷ 97 ∷ 105 ∷ []
+
+abbrev pub d123 : List ℕ
+d123 = 100 ∷ 49 ∷ 50 ∷ 51 ∷ []
+
+abbrev pub first : Call
+first = receive 0 (bytesOf 0 4 0 ++ plai)
+
+abbrev pub second : Call
+second = receive 1 (bytesOf 8 4 4 ++ d123)
+
+abbrev pub third : Call
+third = receive 0 (bytesOf 72 0 2)
 
 -- two channels: "plai" and the count on channel 0, "d123" on channel 1
 abbrev pub plaid : List Life

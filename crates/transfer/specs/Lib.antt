@@ -4,7 +4,6 @@ pub mod Header
 pub mod Fit
 pub mod Receive
 pub mod Calls
-pub mod CallCases
 pub mod Rows
 pub mod Block
 pub mod Tally

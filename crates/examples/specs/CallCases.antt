@@ -6,9 +6,10 @@ use mathlib.Core.List.{List, [], _∷_, _++_}
 use lib.ListN.{replicate}
 use Rattle.octets.specs.Cases.{AllHold}
 use Rattle.eblock.specs.Header.{bytesOf}
 use Rattle.transfer.specs.Transfer.{Verdict, guess, result, broken, verdictOf, storedOf}
 use Rattle.transfer.specs.Receive.{Answer, refused, took}
 use Rattle.transfer.specs.Calls.{Call, receive, begun, answersOf, after}
+use Rattle.transfer.specs.Example.{first, second, third}
 
 -- from a file of so many zero bytes and a ledger of so many pairs, the calls are answered so and leave this
 pub record Case : Type 0 where
@@ -32,22 +33,6 @@ Holds k =
     × (v .t .on ≡ k .on)
     × (storedOf v ≡ k .stored)
     × (v .lent .claimed ≡ k .claimed)
-
--- "plai" and "d123"
-abbrev pub plai : List ℕ
-plai = 112 ∷ 108 ∷ 97 ∷ 105 ∷ []
-
-abbrev pub d123 : List ℕ
-d123 = 100 ∷ 49 ∷ 50 ∷ 51 ∷ []
-
-abbrev pub first : Call
-first = receive 0 (bytesOf 0 4 0 ++ plai)
-
-abbrev pub second : Call
-second = receive 1 (bytesOf 8 4 4 ++ d123)
-
-abbrev pub third : Call
-third = receive 0 (bytesOf 72 0 2)
 
 -- a case that ends in a fault, or goes on
 abbrev breaks : ℕ → ℕ → List Call → List Answer → ℕ → ℕ → ℕ → List ℕ → Case
