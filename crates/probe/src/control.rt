@@ -20,12 +20,13 @@ pub fn command(text: &[u8]) {
         } => {
             print::word(b"VERB ");
             print::byte(verb);
-            print::word(b" ");
-            print::bytes(line::argument(text));
+            print::last_bytes(line::argument(text));
         }
-        Line::Refused(k) => print::refused(k),
+        Line::Refused(k) => {
+            print::refused(k);
+            print::end();
+        }
     }
-    print::end();
 }
 
 pub fn reply(body: &[u8]) -> bool {
@@ -51,9 +52,7 @@ fn hosts_into(text: &[u8], list: &mut [u64]) {
         Hosts::Count(n) => print::counted(b"HOSTS ", n),
         Hosts::Refused(k) => print::refused(k),
     }
-    print::word(b" ");
-    print::numbers(list);
-    print::end();
+    print::last_numbers(list);
 }
 
 pub fn host_ports(body: &[u8]) -> bool {

@@ -1,8 +1,8 @@
-// Kinds 32 to 40: calls that leave nothing behind.
+// Kinds 32 to 40: the readers and writers. Nothing is kept from one request to the next.
+use crate::control;
 use crate::headers;
 use crate::ledgers;
 use crate::ledgers::Form;
-use crate::lines;
 
 // Whether there is such a kind, and its body is well formed.
 pub fn serve(kind: u16, body: &[u8]) -> bool {
@@ -13,11 +13,11 @@ pub fn serve(kind: u16, body: &[u8]) -> bool {
         }
         33 => headers::write(body),
         34 => {
-            lines::command(body);
+            control::command(body);
             true
         }
-        35 => lines::reply(body),
-        36 => lines::host_ports(body),
+        35 => control::reply(body),
+        36 => control::host_ports(body),
         37 => ledgers::read(Form::Ranges, body),
         38 => ledgers::write(Form::Ranges, body),
         39 => ledgers::write(Form::Saved, body),
