@@ -29,17 +29,22 @@ pub fn command(text: &[u8]) {
     }
 }
 
+fn print_class(digit: u8) {
+    print::word(b"CLASS ");
+    print::byte(digit);
+}
+
 pub fn reply(body: &[u8]) -> bool {
     if body.len() != 2 {
         return false;
     }
     let class = reply::class_of(frame::two(body[0], body[1]));
     match class {
-        Class::Preliminary => print::word(b"CLASS 1"),
-        Class::Completion => print::word(b"CLASS 2"),
-        Class::Intermediate => print::word(b"CLASS 3"),
-        Class::Transient => print::word(b"CLASS 4"),
-        Class::Permanent => print::word(b"CLASS 5"),
+        Class::Preliminary => print_class(1),
+        Class::Completion => print_class(2),
+        Class::Intermediate => print_class(3),
+        Class::Transient => print_class(4),
+        Class::Permanent => print_class(5),
         Class::Refused(k) => print::refused(k),
     }
     print::end();
