@@ -3,9 +3,9 @@ mod calls;
 mod control;
 mod entries;
 mod fill;
-mod formats;
 mod frame;
 mod headers;
+mod kinds;
 mod ledgers;
 mod lent;
 mod part;
@@ -34,14 +34,13 @@ fn serve(s: Session, request: &[u8], file: &mut [u8], ledger: &mut [u64]) -> Tur
     if request.len() < 2 {
         return session::stop(s);
     }
-    let kind = frame::two(request[0], request[1]);
-    match kind {
-        16..=22 => session::serve(s, kind, &request[2..], file, ledger),
-        _ => Turn {
-            session: s,
-            goes_on: formats::serve(kind, &request[2..]),
-        },
-    }
+    kinds::serve(
+        s,
+        frame::two(request[0], request[1]),
+        &request[2..],
+        file,
+        ledger,
+    )
 }
 
 fn answer(s: Session, number: u64, request: &[u8], file: &mut [u8], ledger: &mut [u64]) -> Turn {
