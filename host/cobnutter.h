@@ -15,8 +15,9 @@
  *
  * The file has as many bytes (F) as were named at the start, and the ledger as many entries: 2R numbers for R ranges,
  * an even number, at most COB_LEDGER_LIMIT. The ledger holds pairs of start and end, end not counted, ascending, with
- * zeros behind them. As many pairs as the sender has blocks always serve; ranges that touch become one, so fewer mostly
- * do. Transfer, file and ledger belong together: every call tests that they fit, and refuses with 1 where not.
+ * zeros after them. As many pairs as the sender has blocks are enough; ranges that touch become one, so mostly fewer
+ * are enough. Transfer, file and ledger belong together: cob_receive tests that they fit, and refuses with 1 where they
+ * do not; cob_screen_line tests the same without the file. cob_verdict and cob_stored test nothing.
  *
  * A channel is a number below COB_CHANNELS that the host gives to one data connection; its pieces come in order. A
  * sender counts the connections of each listener apart, so a host keeps one transfer for each listener. Where a channel
@@ -35,7 +36,7 @@
  *     35  argument missing, or not allowed         36  reply code outside 100 to 599
  *     41  host-port malformed or empty             42  more than 64 host-ports
  *     43  list of fewer than 64 entries
- *     51  range malformed                          52  more ranges than pairs
+ *     51  range malformed                          52  the ranges so far, merged, need more pairs than the ledger has
  *     53  ledger length, as 5                      54  an empty ledger has no text
  *     55  too few bytes lent for the whole output
  *     61  saved ledger cut short, wrong length     62  another kind of record
@@ -110,7 +111,7 @@ typedef struct cob_received {
 
 /* What every writer answers. */
 typedef struct cob_written {
-    size_t length; /* bytes written; those behind them are unchanged */
+    size_t length; /* bytes written; those after them are unchanged */
     uint8_t refused;
 } cob_written;
 
@@ -125,7 +126,7 @@ uint8_t cob_verdict(cob_transfer transfer);
 /* The payload bytes stored since the start. */
 uint64_t cob_stored(cob_transfer transfer, const uint64_t *ledger, size_t ledger_len);
 
-/* Ends with LF, and has no 0 behind it. */
+/* Ends with LF, and has no 0 after it. */
 cob_written cob_screen_line(cob_transfer transfer, const uint64_t *ledger, size_t ledger_len, uint8_t *out,
                             size_t out_len);
 
@@ -147,7 +148,7 @@ cob_written cob_header_write(uint8_t descriptor, uint64_t length, uint64_t third
 /* ---- the control channel */
 
 typedef struct cob_command {
-    size_t from; /* the argument's first place in the line, and the place behind its last */
+    size_t from; /* the argument's first place in the line, and the place after its last */
     size_t to;
     uint8_t verb; /* 1 to 12: MODE PASV PORT REST RETR STOR SPAS SPOR ERET ESTO SBUF OPTS */
     uint8_t refused;
@@ -165,8 +166,8 @@ typedef struct cob_list {
 
 typedef struct cob_found {
     uint64_t value; /* address * 65,536 + port */
-    size_t next;    /* the place behind it */
-    uint8_t found;  /* 1 where a host-port stands at the place, else 0 */
+    size_t next;    /* the place after it */
+    uint8_t found;  /* 1 where a host-port is at the place, else 0 */
 } cob_found;
 
 /* The line with its CR LF. */

@@ -5,7 +5,7 @@ use octets::little;
 ghost use mathlib.Core.Path.{_≡_};
 ghost use lib.ListN.{length};
 
-// A request, with the number of its bytes behind the length field; one that is cut or too long; or the end of the input.
+// A request, with the number of its bytes after the length field; one that is cut or too long; or the end of the input.
 pub enum Frame {
     Whole(usize),
     Malformed,

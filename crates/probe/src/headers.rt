@@ -7,6 +7,17 @@ use eblock::header::Header;
 use eblock::header::Written;
 use octets::little;
 
+fn print_values(text: &[u8], descriptor: u8, n: u64) {
+    print::word(text);
+    print::byte(descriptor);
+    print::next(n);
+}
+
+fn print_data(descriptor: u8, length: u64, offset: u64) {
+    print_values(b"DATA ", descriptor, length);
+    print::next(offset);
+}
+
 pub fn read(bytes: &[u8]) {
     let answer = header::read(bytes);
     match answer {
@@ -14,20 +25,8 @@ pub fn read(bytes: &[u8]) {
             descriptor,
             length,
             offset,
-        } => {
-            print::word(b"DATA ");
-            print::byte(descriptor);
-            print::word(b" ");
-            print::number(length);
-            print::word(b" ");
-            print::number(offset);
-        }
-        Header::Eodc { descriptor, count } => {
-            print::word(b"EODC ");
-            print::byte(descriptor);
-            print::word(b" ");
-            print::number(count);
-        }
+        } => print_data(descriptor, length, offset),
+        Header::Eodc { descriptor, count } => print_values(b"EODC ", descriptor, count),
         Header::Refused(k) => print::refused(k),
     }
     print::end();
@@ -39,9 +38,7 @@ fn write_into(descriptor: u8, length: u64, third: u64, out: &mut [u8]) {
         Written::Bytes(n) => print::counted(b"WROTE ", n),
         Written::Refused(k) => print::refused(k),
     }
-    print::word(b" ");
-    print::bytes(out);
-    print::end();
+    print::last_bytes(out);
 }
 
 fn write_lent(descriptor: u8, length: u64, third: u64, lent: u8) {

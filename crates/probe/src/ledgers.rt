@@ -1,11 +1,11 @@
 // Kinds 37 to 40: a ledger as text and as a saved record.
+use crate::entries;
 use crate::fill;
 use crate::frame;
 use crate::part;
 use crate::print;
 use ledger::answer::Loaded;
 use ledger::answer::Written;
-use octets::little;
 use rangelists::ranges;
 use savedledgers::saved;
 ghost use mathlib.Core.Path.{_≡_};
@@ -52,9 +52,7 @@ fn read_into(form: Form, bytes: &[u8], ledger: &mut [u64]) {
         Loaded::Done => print_loaded(form),
         Loaded::Refused(k) => print::refused(k),
     }
-    print::word(b" ");
-    print::used(ledger);
-    print::end();
+    print::last_used(ledger);
 }
 
 pub fn read(form: Form, body: &[u8]) -> bool {
@@ -72,22 +70,6 @@ pub fn read(form: Form, body: &[u8]) -> bool {
 }
 
 // ---- writing
-
-// The number of eight bytes at an index; 0 past the last.
-fn entry_at(bytes: &[u8], i: usize) -> u64 {
-    if bytes.len() / 8 <= i {
-        return 0;
-    }
-    little::read(&bytes[8 * i..])
-}
-
-fn decode(bytes: &[u8], entries: &mut [u64]) {
-    let mut i = 0;
-    while i < entries.len() {
-        entries[i] = entry_at(bytes, i);
-        i += 1;
-    }
-}
 
 fn store(form: Form, ledger: &[u64], out: &mut [u8]) -> Written {
     match form {
@@ -109,9 +91,7 @@ fn write_into(form: Form, ledger: &[u64], out: &mut [u8]) {
         Written::Bytes(n) => print_written(form, n),
         Written::Refused(k) => print::refused(k),
     }
-    print::word(b" ");
-    print::bytes(out);
-    print::end();
+    print::last_bytes(out);
 }
 
 fn write_lent(form: Form, ledger: &[u64], lent: u16) {
@@ -121,7 +101,7 @@ fn write_lent(form: Form, ledger: &[u64], lent: u16) {
 }
 
 fn write_decoded(form: Form, bytes: &[u8], ledger: &mut [u64], lent: u16) {
-    decode(bytes, ledger);
+    entries::read(bytes, 0, ledger);
     write_lent(form, ledger, lent);
 }
 

@@ -1,35 +1,26 @@
 // Makes the call that each request on standard input names, and prints a line for each, until the input ends or a request is malformed.
+mod calls;
+mod control;
+mod entries;
 mod fill;
 mod frame;
 mod headers;
+mod kinds;
 mod ledgers;
-mod lines;
+mod lent;
 mod part;
 mod print;
+mod screen_line;
 mod session;
-mod texts;
 
 use frame::Frame;
-use session::Served;
 use session::Session;
+use session::Turn;
 ghost use mathlib.Core.Path.{_≡_};
 ghost use lib.ListN.{length};
 
 // More than any input has; a proved loop has to end.
 const REQUESTS: u64 = 1099511627776;
-
-// The session after a request, and whether more may come.
-struct Turn {
-    session: Session,
-    goes_on: bool,
-}
-
-fn stop(s: Session) -> Turn {
-    Turn {
-        session: s,
-        goes_on: false,
-    }
-}
 
 fn print_stop(got: Frame, number: u64) {
     match got {
@@ -39,18 +30,25 @@ fn print_stop(got: Frame, number: u64) {
     }
 }
 
-fn serve(s: Session, request: &[u8], file: &mut [u8], ledger: &mut [u64]) -> Served {
+fn serve(s: Session, request: &[u8], file: &mut [u8], ledger: &mut [u64]) -> Turn {
     if request.len() < 2 {
-        return session::malformed(s);
+        return session::stop(s);
     }
-    let kind = frame::two(request[0], request[1]);
-    if session::is_kind(kind) {
-        return session::serve(s, kind, &request[2..], file, ledger);
+    kinds::serve(
+        s,
+        frame::two(request[0], request[1]),
+        &request[2..],
+        file,
+        ledger,
+    )
+}
+
+fn answer(s: Session, number: u64, request: &[u8], file: &mut [u8], ledger: &mut [u64]) -> Turn {
+    let turn = serve(s, request, file, ledger);
+    if !turn.goes_on {
+        print::record(number);
     }
-    Served {
-        session: s,
-        is_formed: texts::serve(kind, &request[2..]),
-    }
+    turn
 }
 
 fn one_request(s: Session, number: u64, file: &mut [u8], ledger: &mut [u64]) -> Turn {
@@ -58,19 +56,10 @@ fn one_request(s: Session, number: u64, file: &mut [u8], ledger: &mut [u64]) -> 
     let got = frame::read(&mut space);
     let Frame::Whole(n) = got else {
         print_stop(got, number);
-        return stop(s);
+        return session::stop(s);
     };
     let length = part::of_bytes(n as u64, &space);
-    let served = serve(s, &space[..length], file, ledger);
-    let next = served.session;
-    if !served.is_formed {
-        print::record(number);
-        return stop(next);
-    }
-    Turn {
-        session: next,
-        goes_on: true,
-    }
+    answer(s, number, &space[..length], file, ledger)
 }
 
 fn run(file: &mut [u8], ledger: &mut [u64]) {

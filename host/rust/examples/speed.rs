@@ -43,7 +43,7 @@ impl Stream {
     }
 }
 
-/// Pieces in the order of arrival, their bytes one behind the other in memory.
+/// Pieces in the order of arrival, their bytes one after the other in memory.
 struct Arrival {
     file: Vec<u8>,
     wire: Vec<u8>,

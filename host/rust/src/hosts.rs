@@ -1,4 +1,4 @@
-//! Host-port lists, as PASV, PORT, SPAS and SPOR carry them.
+//! Host-port lists, the arguments of PORT and SPOR.
 
 use crate::raw;
 use crate::Refusal;
@@ -22,7 +22,7 @@ pub fn read(text: impl AsRef<[u8]>) -> Result<Vec<SocketAddrV4>, Refusal> {
     Refusal::unless(answer.refused, found.collect())
 }
 
-/// The host-port that stands at a place of a text, and the place behind it.
+/// The host-port at a place of a text, and the place after it.
 pub fn at(text: impl AsRef<[u8]>, at: usize) -> Option<(SocketAddrV4, usize)> {
     let text = text.as_ref();
     let step = unsafe { raw::cob_host_at(text.as_ptr(), text.len(), at) };

@@ -25,7 +25,8 @@
 //! - A channel is a number below 64 that the host gives to a data connection. The pieces of one channel come in order.
 //! - Where a channel ends, `taken` may be less than the piece: the rest belongs to the next transfer on that connection.
 //! - A peer's fault is no [`Refusal`]: the call succeeds, and the verdict is [`Verdict::Broken`] from then on.
-//! - Every call tests that transfer, file and ledger belong together, and refuses with 1 where they do not.
+//! - [`Transfer::receive`] tests that transfer, file and ledger belong together, and refuses with 1 where they do not;
+//!   [`Transfer::screen_line`] tests the same without the file. [`Transfer::verdict`] and [`Transfer::stored`] test nothing.
 //! - A sender counts the connections of each listener apart, so a host keeps one transfer for each listener.
 //! - A cached connection that the sender closes (a first byte of 4) is not fed into the next transfer.
 //! - [`Verdict::Result`] says that all the sender counted is here. Whether that fills the file, the host sees by

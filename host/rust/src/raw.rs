@@ -2,7 +2,7 @@
 //!
 //! In every answer `refused` is the number of the refusal, 0 where there is none, and a field that means nothing in a case
 //! is 0. A slice is a pointer and a length. No two slices of one call may overlap, and a pointer is never null, not even
-//! with the length 0; [`slice::as_ptr`] of a Rust slice always serves.
+//! with the length 0; [`slice::as_ptr`] of a Rust slice is never null.
 
 /// One of a transfer's 64 channels.
 #[repr(C)]
@@ -109,9 +109,9 @@ pub struct List {
 pub struct Found {
     /// address * 65,536 + port.
     pub value: u64,
-    /// The place behind it.
+    /// The place after it.
     pub next: usize,
-    /// 1 where a host-port stands at the place, else 0.
+    /// 1 where a host-port is at the place, else 0.
     pub found: u8,
 }
 

@@ -93,7 +93,7 @@ impl Transfer {
         &self.raw
     }
 
-    /// Any numbers serve: a call refuses with 1 what does not fit.
+    /// Any numbers are allowed: `receive` and `screen_line` refuse with 1 what does not fit.
     pub fn from_raw(raw: raw::Transfer) -> Transfer {
         Transfer { raw }
     }

@@ -1,4 +1,4 @@
-//! Every recording of the repository, received through the safe API: the lines that are expected of it stand beside it.
+//! Every recording of the repository, received through the safe API: the lines that are expected of it are beside it.
 
 use cobnutter::recording::{requests, Request};
 use cobnutter::Transfer;

@@ -102,7 +102,7 @@ impl<'a> Both<'a> {
         mine.map(|(_, taken)| taken)
     }
 
-    /// Changes what is lent, the transfer included, behind the receivers' backs.
+    /// Changes what is lent, the transfer included, between two calls.
     pub fn harm(&mut self, harm: impl FnOnce(&mut Lent, &Random)) {
         harm(&mut self.second, self.random);
         self.lend(self.second.clone());

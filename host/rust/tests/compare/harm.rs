@@ -19,7 +19,7 @@ pub fn harm(lent: &mut Lent, random: &Random) {
     }
 }
 
-/// Changes an entry of the used pairs or close behind them.
+/// Changes an entry of the used pairs or soon after them.
 pub fn harm_entry(ledger: &mut [u64], random: &Random) {
     let reach = (2 * ledger::used(ledger).len() + 4).min(ledger.len());
     if reach > 0 {

@@ -3,7 +3,7 @@
 use super::second::Answer;
 use std::collections::BTreeMap;
 
-/// 0 stands for an answer without refusal.
+/// 0 is an answer without refusal.
 const ENTRIES: [(&str, &[u64]); 13] = [
     ("start", &[0, 5]),
     ("receive", &[0, 1, 2, 3, 4]),

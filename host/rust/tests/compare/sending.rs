@@ -61,7 +61,7 @@ impl Block {
     }
 }
 
-/// A header on the wire, whatever stands in the unused field of an EODC block.
+/// A header on the wire, whatever is in the unused field of an EODC block.
 pub fn wire(header: Header) -> [u8; LENGTH] {
     let mut bytes = [header.descriptor; LENGTH];
     bytes[1..9].copy_from_slice(&header.length.to_be_bytes());

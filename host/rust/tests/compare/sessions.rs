@@ -109,7 +109,7 @@ fn flip(streams: &mut [Stream], random: &Random) {
     bytes[at] ^= 1 << random.below(8);
 }
 
-/// Bytes behind the end of some channels.
+/// Bytes after the end of some channels.
 fn follow_up(streams: &mut [Stream], random: &Random) {
     for stream in streams {
         let more = random.size(40);

@@ -77,7 +77,7 @@ fn walk(argument: &[u8], list: &mut [u64]) -> Answer<usize> {
     Err(if at == argument.len() { 41 } else { 42 })
 }
 
-/// The host-port that begins at a place, and the place behind it.
+/// The host-port that begins at a place, and the place after it.
 pub fn host_at(text: &[u8], at: usize) -> Option<(u64, usize)> {
     let mut place = at;
     let mut value = 0;

@@ -1,7 +1,9 @@
 -- `part::used`.
 use Prim.Native.Nat.{_≤_}
+use mathlib.Core.Path.{refl}
 use native.Mathlib.Omega.{arith}
-use lib.ListN.{length, length-take}
+use lib.ListN.{length}
+use Rattle.probe.proofs.Counted.{counted}
 use Rattle.probe.proofs.part.used.Statement.{statement}
 use Rattle.probe.proofs.part.used.Tie as tie
 
@@ -24,7 +26,7 @@ shared-slice-read-if1 : tie.Need-shared-slice-read-if1 Inv-loop μ-loop
 shared-slice-read-if1 c = omega arith
 
 returns : tie.Need-returns Inv-loop μ-loop
-returns c = (omega arith, simp length-take (omega arith))
+returns c = counted _ _ (omega arith)
 
 sub-n : tie.Need-sub-n Inv-loop μ-loop
 sub-n c = omega arith
@@ -36,7 +38,7 @@ loop-again : tie.Need-loop-again Inv-loop μ-loop
 loop-again c = omega arith
 
 returns-2 : tie.Need-returns-2 Inv-loop μ-loop
-returns-2 c = (omega arith, simp length-take (omega arith))
+returns-2 c = (omega arith, refl)
 
 pub used-spec : {M : Type 1} → statement M
 used-spec =

@@ -20,12 +20,18 @@ pub fn command(text: &[u8]) {
         } => {
             print::word(b"VERB ");
             print::byte(verb);
-            print::word(b" ");
-            print::bytes(line::argument(text));
+            print::last_bytes(line::argument(text));
         }
-        Line::Refused(k) => print::refused(k),
+        Line::Refused(k) => {
+            print::refused(k);
+            print::end();
+        }
     }
-    print::end();
+}
+
+fn print_class(digit: u8) {
+    print::word(b"CLASS ");
+    print::byte(digit);
 }
 
 pub fn reply(body: &[u8]) -> bool {
@@ -34,11 +40,11 @@ pub fn reply(body: &[u8]) -> bool {
     }
     let class = reply::class_of(frame::two(body[0], body[1]));
     match class {
-        Class::Preliminary => print::word(b"CLASS 1"),
-        Class::Completion => print::word(b"CLASS 2"),
-        Class::Intermediate => print::word(b"CLASS 3"),
-        Class::Transient => print::word(b"CLASS 4"),
-        Class::Permanent => print::word(b"CLASS 5"),
+        Class::Preliminary => print_class(1),
+        Class::Completion => print_class(2),
+        Class::Intermediate => print_class(3),
+        Class::Transient => print_class(4),
+        Class::Permanent => print_class(5),
         Class::Refused(k) => print::refused(k),
     }
     print::end();
@@ -51,9 +57,7 @@ fn hosts_into(text: &[u8], list: &mut [u64]) {
         Hosts::Count(n) => print::counted(b"HOSTS ", n),
         Hosts::Refused(k) => print::refused(k),
     }
-    print::word(b" ");
-    print::numbers(list);
-    print::end();
+    print::last_numbers(list);
 }
 
 pub fn host_ports(body: &[u8]) -> bool {

@@ -1,17 +1,17 @@
--- `ledgers::decode`.
+-- `entries::read`.
 use Prim.Native.Nat.{_-_, _≤_}
 use mathlib.Core.Path.{_≡_, refl}
 use native.Mathlib.Omega.{arith}
 use borrow.Author.Needs.{needs}
 use lib.ListN.{length, length-set}
-use Rattle.probe.proofs.ledgers.decode.Statement.{statement}
-use Rattle.probe.proofs.ledgers.decode.Tie as tie
+use Rattle.probe.proofs.entries.read.Statement.{statement}
+use Rattle.probe.proofs.entries.read.Tie as tie
 
 abbrev Inv-loop : tie.InvT-loop
-Inv-loop bytes entries₀ i₀ entries i = (i ≤ length entries₀) × (length entries ≡ length entries₀)
+Inv-loop bytes past entries₀ i₀ entries i = (i ≤ length entries₀) × (length entries ≡ length entries₀)
 
 abbrev μ-loop : tie.MeasureT-loop
-μ-loop bytes entries₀ i₀ entries i = length entries₀ - i
+μ-loop bytes past entries₀ i₀ entries i = length entries₀ - i
 
 loop-holds : tie.Need-loop-holds Inv-loop μ-loop
 loop-holds c = (omega arith, refl)
@@ -40,8 +40,8 @@ same-length c = c .before .loop .inv .1
 returns : tie.Need-returns Inv-loop μ-loop
 returns c = search needs
 
-pub decode-spec : {M : Type 1} → statement M
-decode-spec =
+pub read-spec : {M : Type 1} → statement M
+read-spec =
     tie.close
     (tie.spec
     Inv-loop

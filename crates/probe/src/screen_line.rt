@@ -1,0 +1,22 @@
+// The screen line, which ends the line that it is on.
+use crate::fill;
+use crate::part;
+use crate::print;
+use receiver::receive::Receiver;
+use screen::line;
+use screen::line::Line;
+
+pub fn show(receiver: Receiver, ledger: &[u64]) {
+    let mut out = [fill::BYTE; 128];
+    let answer = line::write(receiver, ledger, &mut out);
+    match answer {
+        Line::Bytes(n) => {
+            let k = part::of_bytes(n as u64, &out);
+            print::word(&out[..k]);
+        }
+        Line::Refused(k) => {
+            print::refused(k);
+            print::end();
+        }
+    }
+}
