@@ -12,13 +12,13 @@ use lib.ListN.{length, getD, drop, length-append, length-drop, drop-of-length-le
 use lib.Seq.{drop-cons, getD-drop}
 use Rattle.hostports.specs.HostPort.{hostPortAt}
 use Rattle.hostports.specs.HostPorts.{HostPortText, written, WrittenAt}
-use Rattle.hostports.specs.declared.hosts.Step.{Step}
-use Rattle.hostports.specs.declared.hosts.Step.the-variants.{Host, Malformed}
+use Rattle.hostports.specs.declared.host_port.ParsedHostPort.{ParsedHostPort}
+use Rattle.hostports.specs.declared.host_port.ParsedHostPort.the-variants.{HostPort, Malformed}
 use Rattle.hostports.proofs.HostPorts.{host-ports}
-use Rattle.hostports.proofs.WrittenReads.{after}
-use Rattle.hostports.proofs.ReadsWritten.{byte-there}
-use Rattle.hostlists.specs.HostList.{space, Listed, listed, trouble, before, continued, listAt}
-use Rattle.hostlists.specs.HostLists.{spaced, value, values}
+use Rattle.hostports.proofs.HostPortsWritten.{after}
+use Rattle.hostports.proofs.HostPortsRead.{byte-there}
+use Rattle.hostlists.specs.HostList.{space, ParsedList, parsed, trouble, prepend, hostPortThen, listAt}
+use Rattle.hostlists.specs.HostLists.{withSpaces, value, values}
 use Rattle.hostlists.proofs.HostList.{list-ends, list-goes-on, list-full}
 
 -- ---- a place of a text, and what is there
@@ -39,7 +39,7 @@ written-some h = simp length-append (omega arith)
 
 module _ (n : ℕ) (text : List ℕ) (at : ℕ) (h : HostPortText) where
   -- the last host-port of a text
-  last-reads : drop at text ≡ written h → listAt (suc n) text at ≡ listed (value h ∷ [])
+  last-reads : drop at text ≡ written h → listAt (suc n) text at ≡ parsed (value h ∷ [])
   last-reads e =
       let found = host-ports .written-reads text at h (record { rest = []; there = e ∙ sym (append-nil (written h)); no-digit = tt }) in
       list-ends n text at _ _ found (ends-there text at (written h) (written-some h) e)
@@ -52,7 +52,7 @@ module _ (n : ℕ) (text : List ℕ) (at : ℕ) (h : HostPortText) where
     after-space : drop (at + length (written h) + 1) text ≡ rest
     after-space = after text (at + length (written h)) (32 ∷ []) rest space-there
 
-    one-reads : listAt (suc n) text at ≡ before (value h) (listAt n text (at + length (written h) + 1))
+    one-reads : listAt (suc n) text at ≡ prepend (value h) (listAt n text (at + length (written h) + 1))
     one-reads =
         let place = at + length (written h) in
         let found = host-ports .written-reads text at h (record { rest = 32 ∷ rest; there = e; no-digit = refl }) in
@@ -60,30 +60,30 @@ module _ (n : ℕ) (text : List ℕ) (at : ℕ) (h : HostPortText) where
         let byte : getD text place 0 ≡ 32 = rw (← add-zero place, ← getD-drop place text 0 0, space-there) in
         list-goes-on n text at _ _ found (λ z. omega arith) byte
 
-pub reads-list : (n : ℕ) (text : List ℕ) (at : ℕ) (h : HostPortText) (hs : List HostPortText) → length hs < n → drop at text ≡ spaced (h ∷ hs) → listAt n text at ≡ listed (values (h ∷ hs))
-unfolding spaced values before
+pub reads-list : (n : ℕ) (text : List ℕ) (at : ℕ) (h : HostPortText) (hs : List HostPortText) → length hs < n → drop at text ≡ withSpaces (h ∷ hs) → listAt n text at ≡ parsed (values (h ∷ hs))
+unfolding withSpaces values prepend
 reads-list zero text at h hs l e = absurd (omega arith)
 reads-list (suc n) text at h [] l e = last-reads n text at h e
-reads-list (suc n) text at h (i ∷ hs) l e = one-reads n text at h (spaced (i ∷ hs)) e ∙ rw (reads-list n text (at + length (written h) + 1) i hs (omega arith) (after-space n text at h (spaced (i ∷ hs)) e))
+reads-list (suc n) text at h (i ∷ hs) l e = one-reads n text at h (withSpaces (i ∷ hs)) e ∙ rw (reads-list n text (at + length (written h) + 1) i hs (omega arith) (after-space n text at h (withSpaces (i ∷ hs)) e))
 
 -- host-ports with a space after each, and a rest
-unfoldable pub eachSpaced : List HostPortText → List ℕ → List ℕ
-eachSpaced [] rest = rest
-eachSpaced (h ∷ hs) rest = written h ++ 32 ∷ eachSpaced hs rest
+unfoldable pub spaceAfterEach : List HostPortText → List ℕ → List ℕ
+spaceAfterEach [] rest = rest
+spaceAfterEach (h ∷ hs) rest = written h ++ 32 ∷ spaceAfterEach hs rest
 
-pub each-spaced : (h : HostPortText) (hs : List HostPortText) (rest : List ℕ) → eachSpaced (h ∷ hs) rest ≡ spaced (h ∷ hs) ++ (32 ∷ rest)
-unfolding eachSpaced spaced
-each-spaced h [] rest = refl
-each-spaced h (i ∷ hs) rest = ap (λ (l : List ℕ). written h ++ 32 ∷ l) (each-spaced i hs rest) ∙ sym (append-assoc (written h) (32 ∷ spaced (i ∷ hs)) (32 ∷ rest))
+pub space-after-each : (h : HostPortText) (hs : List HostPortText) (rest : List ℕ) → spaceAfterEach (h ∷ hs) rest ≡ withSpaces (h ∷ hs) ++ (32 ∷ rest)
+unfolding spaceAfterEach withSpaces
+space-after-each h [] rest = refl
+space-after-each h (i ∷ hs) rest = ap (λ (l : List ℕ). written h ++ 32 ∷ l) (space-after-each i hs rest) ∙ sym (append-assoc (written h) (32 ∷ withSpaces (i ∷ hs)) (32 ∷ rest))
 
-pub reads-longer : (n : ℕ) (text : List ℕ) (at : ℕ) (hs : List HostPortText) (b : ℕ) (rest : List ℕ) → length hs ≡ n → drop at text ≡ eachSpaced hs (b ∷ rest) → listAt n text at ≡ trouble 42
-unfolding eachSpaced before
+pub reads-longer : (n : ℕ) (text : List ℕ) (at : ℕ) (hs : List HostPortText) (b : ℕ) (rest : List ℕ) → length hs ≡ n → drop at text ≡ spaceAfterEach hs (b ∷ rest) → listAt n text at ≡ trouble 42
+unfolding spaceAfterEach prepend
 reads-longer zero text at [] b rest l e = list-full 0 text at refl (λ z. omega (arith, place-inside text at b rest e))
 reads-longer (suc n) text at [] b rest l e = absurd (omega arith)
 reads-longer zero text at (h ∷ hs) b rest l e = absurd (omega arith)
 reads-longer (suc n) text at (h ∷ hs) b rest l e =
-    one-reads n text at h (eachSpaced hs (b ∷ rest)) e
-    ∙ rw (reads-longer n text (at + length (written h) + 1) hs b rest (omega arith) (after-space n text at h (eachSpaced hs (b ∷ rest)) e))
+    one-reads n text at h (spaceAfterEach hs (b ∷ rest)) e
+    ∙ rw (reads-longer n text (at + length (written h) + 1) hs b rest (omega arith) (after-space n text at h (spaceAfterEach hs (b ∷ rest)) e))
 
 -- ---- from what is read to the host-ports
 
@@ -92,7 +92,7 @@ pub record ReadList (n : ℕ) (text : List ℕ) (at : ℕ) (vs : List ℕ) : Typ
   pub h : HostPortText
   pub hs : List HostPortText
   pub room : length hs < n
-  pub there : drop at text ≡ spaced (h ∷ hs)
+  pub there : drop at text ≡ withSpaces (h ∷ hs)
   pub are-values : vs ≡ values (h ∷ hs)
 
 pub record ReadLonger (n : ℕ) (text : List ℕ) (at : ℕ) : Type 0 where
@@ -100,23 +100,23 @@ pub record ReadLonger (n : ℕ) (text : List ℕ) (at : ℕ) : Type 0 where
   pub further : ℕ
   pub rest : List ℕ
   pub are : length hs ≡ n
-  pub there : drop at text ≡ eachSpaced hs (further ∷ rest)
+  pub there : drop at text ≡ spaceAfterEach hs (further ∷ rest)
 
-abbrev pub Read : ℕ → List ℕ → ℕ → Listed → Type 0
-Read n text at (listed vs) = ReadList n text at vs
+abbrev pub Read : ℕ → List ℕ → ℕ → ParsedList → Type 0
+Read n text at (parsed vs) = ReadList n text at vs
 Read n text at (trouble k) = (k ≡ 41) ⊎ ((k ≡ 42) × ReadLonger n text at)
 
 -- a host-port and a space come before
-read-before : (n : ℕ) (text : List ℕ) (at next : ℕ) (h : HostPortText) (r : Listed) → drop at text ≡ written h ++ 32 ∷ drop next text → Read n text next r → Read (suc n) text at (before (value h) r)
-unfolding before spaced values eachSpaced
-read-before n text at next h (listed vs) e m = record { h = h; hs = m .h ∷ m .hs; room = omega arith; there = e ∙ rw (m .there); are-values = rw (m .are-values) }
-read-before n text at next h (trouble k) e (inl z) = inl z
-read-before n text at next h (trouble k) e (inr m) = inr (m .0, record { hs = h ∷ m .1 .hs; further = m .1 .further; rest = m .1 .rest; are = omega arith; there = e ∙ rw (m .1 .there) })
+read-prepend : (n : ℕ) (text : List ℕ) (at next : ℕ) (h : HostPortText) (r : ParsedList) → drop at text ≡ written h ++ 32 ∷ drop next text → Read n text next r → Read (suc n) text at (prepend (value h) r)
+unfolding prepend withSpaces values spaceAfterEach
+read-prepend n text at next h (parsed vs) e m = record { h = h; hs = m .h ∷ m .hs; room = omega arith; there = e ∙ rw (m .there); are-values = rw (m .are-values) }
+read-prepend n text at next h (trouble k) e (inl z) = inl z
+read-prepend n text at next h (trouble k) e (inr m) = inr (m .0, record { hs = h ∷ m .1 .hs; further = m .1 .further; rest = m .1 .rest; are = omega arith; there = e ∙ rw (m .1 .there) })
 
 -- a host-port that is read, and what comes after it
-read-found : (n : ℕ) (text : List ℕ) (at : ℕ) (h : HostPortText) (on : ℕ → Listed) → WrittenAt text at h → ((place : ℕ) → place ≤ length text → Read n text place (on place))
-    → Read (suc n) text at (continued text (Host (value h) (at + length (written h))) on)
-unfolding continued spaced values
+read-found : (n : ℕ) (text : List ℕ) (at : ℕ) (h : HostPortText) (on : ℕ → ParsedList) → WrittenAt text at h → ((place : ℕ) → place ≤ length text → Read n text place (on place))
+    → Read (suc n) text at (hostPortThen text (HostPort (value h) (at + length (written h))) on)
+unfolding hostPortThen withSpaces values
 read-found n text at h on w more = go (eqb next (length text)) refl (eqb (getD text next 0) space) refl
   where
     next : ℕ
@@ -126,7 +126,7 @@ read-found n text at h on w more = go (eqb next (length text)) refl (eqb (getD t
     here = after text at (written h) (w .rest) (w .there)
 
     go : (t : Bool) → eqb next (length text) ≡ t → (u : Bool) → eqb (getD text next 0) space ≡ u
-        → Read (suc n) text at (cond t (listed (value h ∷ [])) (cond u (before (value h) (on (next + 1))) (trouble 41)))
+        → Read (suc n) text at (cond t (parsed (value h ∷ [])) (cond u (prepend (value h) (on (next + 1))) (trouble 41)))
     go true p u q =
         let end : length text ≤ next = omega (arith, eqb-true next (length text) p) in
         let none : w .rest ≡ [] = sym here ∙ drop-of-length-le text end in
@@ -134,22 +134,22 @@ read-found n text at h on w more = go (eqb next (length text)) refl (eqb (getD t
     go false p true q =
         let byte : drop next text ≡ 32 ∷ drop (next + 1) text = byte-there text next 32 (omega arith) (eqb-true (getD text next 0) space q) in
         let inside : next < length text = place-inside text next 32 (drop (next + 1) text) byte in
-        read-before n text at (next + 1) h (on (next + 1)) (w .there ∙ rw (← here, byte)) (more (next + 1) (omega arith))
+        read-prepend n text at (next + 1) h (on (next + 1)) (w .there ∙ rw (← here, byte)) (more (next + 1) (omega arith))
     go false p false q = inl refl
 
-same-step : {v w p q : ℕ} → v ≡ w → p ≡ q → Host v p ≡ Host w q
-same-step e d = rw (e, d)
+same-host-port : {v w p q : ℕ} → v ≡ w → p ≡ q → HostPort v p ≡ HostPort w q
+same-host-port e d = rw (e, d)
 
-read-continued : (n : ℕ) (text : List ℕ) (at : ℕ) (on : ℕ → Listed) (s : Step) → hostPortAt text at ≡ s → ((place : ℕ) → place ≤ length text → Read n text place (on place))
-    → Read (suc n) text at (continued text s on)
-unfolding continued
-read-continued n text at on Malformed e more = inl refl
-read-continued n text at on (Host v next) e more =
+read-then : (n : ℕ) (text : List ℕ) (at : ℕ) (on : ℕ → ParsedList) (s : ParsedHostPort) → hostPortAt text at ≡ s → ((place : ℕ) → place ≤ length text → Read n text place (on place))
+    → Read (suc n) text at (hostPortThen text s on)
+unfolding hostPortThen
+read-then n text at on Malformed e more = inl refl
+read-then n text at on (HostPort v next) e more =
     let f = host-ports .reads-written text at v next e in
-    subst (λ (s : Step). Read (suc n) text at (continued text s on)) (same-step (sym (f .2)) (sym (f .3))) (read-found n text at (f .0) on (f .1) more)
+    subst (λ (s : ParsedHostPort). Read (suc n) text at (hostPortThen text s on)) (same-host-port (sym (f .2)) (sym (f .3))) (read-found n text at (f .0) on (f .1) more)
 
 pub read-list : (n : ℕ) (text : List ℕ) (at : ℕ) → at ≤ length text → Read n text at (listAt n text at)
-unfolding listAt eachSpaced
+unfolding listAt spaceAfterEach
 read-list zero text at i = go (eqb at (length text)) refl
   where
     go : (t : Bool) → eqb at (length text) ≡ t → Read 0 text at (cond t (trouble 41) (trouble 42))
@@ -157,4 +157,4 @@ read-list zero text at i = go (eqb at (length text)) refl
     go false e =
         let inside : at < length text = omega (arith, eqb-false at (length text) e) in
         inr (refl, record { hs = []; further = getD text at 0; rest = drop (suc at) text; are = refl; there = drop-cons text at 0 inside })
-read-list (suc n) text at i = read-continued n text at (listAt n text) (hostPortAt text at) refl (read-list n text)
+read-list (suc n) text at i = read-then n text at (listAt n text) (hostPortAt text at) refl (read-list n text)

@@ -1,36 +1,34 @@
 -- A host-port as it is written reads as its number.
 use Prim.Native.Nat.{ℕ, suc, _+_, _*_}
-use mathlib.Core.Path.{_≡_, refl, sym, ap, _∙_}
-use mathlib.Core.Bool.{true, and-eq-true-iff}
+use mathlib.Core.Path.{_≡_, refl, sym, _∙_}
+use mathlib.Core.Bool.{true}
 use mathlib.Core.List.{List, [], _∷_, _++_, append-assoc}
 use native.Mathlib.Omega.{arith}
 use native.Mathlib.Nat.{add-zero}
 use borrow.Author.Tests.{le-leb}
 use lib.ListN.{length, getD, drop, length-append}
 use lib.Seq.{take-append-seam, drop-append-seam, drop-drop, getD-drop}
-use Rattle.octets.specs.Decimal.{isDigit, digitsOnly, digitRun}
-use Rattle.hostports.specs.declared.hosts.Step.the-variants.{Host}
+use Rattle.octets.specs.Text.{isDigit, all, leading}
+use Rattle.octets.proofs.Texts.{leading-append}
+use Rattle.hostports.specs.declared.host_port.ParsedNumber.the-variants.{Number}
+use Rattle.hostports.specs.declared.host_port.ParsedHostPort.the-variants.{HostPort}
 use Rattle.hostports.specs.HostPort.{digitLimit, valueLimit, numberAt, moreAt, hostPortAt}
 use Rattle.hostports.specs.HostPorts.{Numeral, NoDigit, HostPortText, written, address, port, WrittenAt}
-use Rattle.hostports.proofs.HostPort.{one-more, more-done}
+use Rattle.hostports.proofs.HostPort.{first-number, one-more, more-done}
 
-run-none : (rest : List ℕ) → NoDigit rest → digitRun rest ≡ 0
-unfolding digitRun
+run-none : (rest : List ℕ) → NoDigit rest → leading isDigit rest ≡ 0
+unfolding leading
 run-none [] h = refl
 run-none (b ∷ bs) h = rw h
 
-run-all : (digits rest : List ℕ) → digitsOnly digits ≡ true → NoDigit rest → digitRun (digits ++ rest) ≡ length digits
-unfolding digitRun digitsOnly
-run-all [] rest h g = run-none rest g
-run-all (b ∷ bs) rest h g =
-    let p = and-eq-true-iff (isDigit b) (digitsOnly bs) .0 h in
-    rw (p .0) (ap suc (run-all bs rest (p .1) g))
+run-all : (digits rest : List ℕ) → all isDigit digits ≡ true → NoDigit rest → leading isDigit (digits ++ rest) ≡ length digits
+run-all digits rest h g = omega (arith, leading-append isDigit digits rest h, run-none rest g)
 
 -- a text with a part at a place has after that part what follows there
 pub after : (text : List ℕ) (at : ℕ) (part rest : List ℕ) → drop at text ≡ part ++ rest → drop (at + length part) text ≡ rest
 after text at part rest e = sym (drop-drop (length part) at text) ∙ rw e (drop-append-seam part rest)
 
-number-written : (text : List ℕ) (at : ℕ) (a : Numeral) (rest : List ℕ) → drop at text ≡ a .text ++ rest → NoDigit rest → numberAt text at ≡ Host (a .value) (at + length (a .text))
+number-written : (text : List ℕ) (at : ℕ) (a : Numeral) (rest : List ℕ) → drop at text ≡ a .text ++ rest → NoDigit rest → numberAt text at ≡ Number (a .value) (at + length (a .text))
 unfolding numberAt
 number-written text at a rest e g =
     rw (
@@ -54,7 +52,7 @@ module _ (text : List ℕ) (at : ℕ) (a : Numeral) (rest : List ℕ) (e : drop 
   pub after-more : drop (at + 1 + length (a .text)) text ≡ rest
   after-more = after text (at + 1) (a .text) rest after-comma
 
-  more-written : (n v : ℕ) → NoDigit rest → moreAt (suc n) text (Host v at) ≡ moreAt n text (Host (v * 256 + a .value) (at + 1 + length (a .text)))
+  more-written : (n v : ℕ) → NoDigit rest → moreAt (suc n) text v at ≡ moreAt n text (v * 256 + a .value) (at + 1 + length (a .text))
   more-written n v g =
       let here : getD text at 0 ≡ 44 = rw (← add-zero at, ← getD-drop at text 0 0, e) in
       one-more n text v at (a .value) (at + 1 + length (a .text)) here (number-written text (at + 1) a rest after-comma g)
@@ -72,8 +70,7 @@ unfolding written
 written-place h at = simp length-append (omega arith)
 
 -- six numbers are read one after the other
-pub six-written : (text : List ℕ) (at : ℕ) (h : HostPortText) → WrittenAt text at h → hostPortAt text at ≡ Host (address h * 65536 + port h) (at + length (written h))
-unfolding hostPortAt
+pub six-written : (text : List ℕ) (at : ℕ) (h : HostPortText) → WrittenAt text at h → hostPortAt text at ≡ HostPort (address h * 65536 + port h) (at + length (written h))
 six-written text at h w =
     let s₅ = commaThen (h .f) (w .rest) in
     let s₄ = commaThen (h .e) s₅ in
@@ -92,11 +89,11 @@ six-written text at h w =
     let d₄ : drop p₄ text ≡ s₄ = after-more text p₃ (h .d) s₄ d₃ in
     let d₅ : drop p₅ text ≡ s₅ = after-more text p₄ (h .e) s₅ d₄ in
     let number : (address h * 256 + h .e .value) * 256 + h .f .value ≡ address h * 65536 + port h = omega arith in
-    ap (moreAt 5 text) (number-written text at (h .a) s₁ d₀ refl)
+    first-number text at (h .a .value) p₁ (number-written text at (h .a) s₁ d₀ refl)
     ∙ more-written text p₁ (h .b) s₂ d₁ 4 _ refl
     ∙ more-written text p₂ (h .c) s₃ d₂ 3 _ refl
     ∙ more-written text p₃ (h .d) s₄ d₃ 2 _ refl
     ∙ more-written text p₄ (h .e) s₅ d₄ 1 _ refl
     ∙ more-written text p₅ (h .f) (w .rest) d₅ 0 _ (w .no-digit)
-    ∙ more-done text _
+    ∙ more-done text _ _
     ∙ rw (written-place h at, number)

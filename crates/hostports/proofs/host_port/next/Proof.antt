@@ -1,4 +1,4 @@
--- `hosts::next`: a walk of its MIR, by hand. The struct is taken apart, and `host_port_at`, of which the proof knows that it meets its contract, is called on the slice and the number.
+-- `host_port::next`: a walk of its MIR, by hand. The struct is taken apart, and `host_port_at`, of which the proof knows that it meets its contract, is called on the slice and the number.
 -- The struct is Copy: what it owns is had twice. One copy is kept whole for the exit, and of the other what text owns goes to the callee, beside the lifetime's token, which comes back.
 use mathlib.Core.Path.{_≡_, refl}
 use Prim.Native.Nat.{_<_, _^_}
@@ -38,20 +38,20 @@ use denote.Triple.Table.{entered, cited}
 use denote.Triple.Walked.{says, Stays, stay-none, walkOf, goes-none, Walks, ends-at, walked, walk-meets}
 use denote.Exit.{yes}
 use Rattle.hostports.specs.HostPort.{hostPortAt}
-use Rattle.hostports.specs.declared.hosts.Reader.{Reader}
-use Rattle.hostports.specs.declared.hosts.Step.{Step}
-use Rattle.hostports.proofs.Held.{row, declared, laws, text-val, OwnReader, reader-twice, token, answers}
-use Rattle.hostports.proofs.hosts.Reader.Laws as T′
-use Rattle.hostports.proofs.hosts.Step as S
-use Rattle.hostports.proofs.hosts.Step.Laws as S′
-use Rattle.hostports.proofs.hosts.host_port_at as read
-use Rattle.hostports.proofs.hosts.host_port_at.Symbol as read-def
-use Rattle.hostports.proofs.hosts.host_port_at.Symbol.{name as #hosts·host-port-at}
-use Rattle.hostports.proofs.hosts.host_port_at.Met as read-thm
-use Rattle.hostports.proofs.hosts.next.Key.{name as #hosts·next}
-use Rattle.hostports.proofs.hosts.next as next
-use Rattle.hostports.proofs.hosts.next.Statement as stated
-use Rattle.hostports.proofs.hosts.next.Code as code
+use Rattle.hostports.specs.declared.host_port.Reader.{Reader}
+use Rattle.hostports.specs.declared.host_port.ParsedHostPort.{ParsedHostPort}
+use Rattle.hostports.proofs.ReaderLaws.{row, declared, laws, text-val, OwnReader, reader-twice, token, answers}
+use Rattle.hostports.proofs.host_port.Reader.Laws as T′
+use Rattle.hostports.proofs.host_port.ParsedHostPort as S
+use Rattle.hostports.proofs.host_port.ParsedHostPort.Laws as S′
+use Rattle.hostports.proofs.host_port.host_port_at as read
+use Rattle.hostports.proofs.host_port.host_port_at.Symbol as read-def
+use Rattle.hostports.proofs.host_port.host_port_at.Symbol.{name as #host-port·host-port-at}
+use Rattle.hostports.proofs.host_port.host_port_at.Met as read-thm
+use Rattle.hostports.proofs.host_port.next.Key.{name as #host-port·next}
+use Rattle.hostports.proofs.host_port.next as next
+use Rattle.hostports.proofs.host_port.next.Statement as stated
+use Rattle.hostports.proofs.host_port.next.Code as code
 
 abbrev stayed : Stays (next.ended .signature .params) (next.ended .kept)
 stayed = (stay-none row yes, tt)
@@ -65,7 +65,7 @@ module _ {M : Type 1} (𝓤 : URA M) (H : Heap 𝓤) (A : Atoms 𝓤) (W : Given
   abbrev mach : Val
   mach = T′.lowered d
 
-  abbrev found : Step
+  abbrev found : ParsedHostPort
   found = hostPortAt (now (d .text)) (d .at)
 
   abbrev Post : Val → SProp 𝓤
@@ -95,13 +95,13 @@ module _ {M : Type 1} (𝓤 : URA M) (H : Heap 𝓤) (A : Atoms 𝓤) (W : Given
       move ! (1 ∷ []) $ drop ! $ nothing ! $ owned ! usize (Is usize) (uint-makes 𝓤 H A W w64) (d .at) _ (refl, fits) $ fjoin ! $ move ! (1 ∷ 0 ∷ []) $ fjoin ! $
       move ! (2 ∷ 0 ∷ []) $ use2 W (raw (HostPortAt 𝓤 H A mem run .pre to)) asked $ frame ! $ done !)
 
-  exits : (r : Step) (u : Val) → r ≡ found → ent 𝓤 (⋆ 𝓤 H A (‵ (S.the-row .own r (u ∷ [])) ∷ token κ q ∷ ‵ (OwnReader κ d) ∷ [])) (Post u)
+  exits : (r : ParsedHostPort) (u : Val) → r ≡ found → ent 𝓤 (⋆ 𝓤 H A (‵ (S.the-row .own r (u ∷ [])) ∷ token κ q ∷ ‵ (OwnReader κ d) ∷ [])) (Post u)
   exits r u e =
       qed W (‵ (S.the-row .own r (u ∷ [])) ∷ token κ q ∷ ‵ (OwnReader κ d) ∷ []) ∵
       suffices ! _ (ends-at 𝓤 H A next.ended stayed (next.clauses 𝓤 H A mem run) W (((κ, tt), (q, tt), tt, (d, tt), (mach ∷ [], tt)), tt) u r (tt, tt) (tt, tt)) $ says ! e $
       move ! (1 ∷ []) $ frame ! $ nothing ! $ move ! (2 ∷ 0 ∷ []) $ fjoin ! $ frame ! $ done !
 
-  module _ (C : Calls 𝓤 H) (Λ : Loops 𝓤 H) (fm : FmC 𝓤 H (W .laws) C) (known : Triple 𝓤 (C #hosts·host-port-at) (HostPortAt 𝓤 H A mem run)) where
+  module _ (C : Calls 𝓤 H) (Λ : Loops 𝓤 H) (fm : FmC 𝓤 H (W .laws) C) (known : Triple 𝓤 (C #host-port·host-port-at) (HostPortAt 𝓤 H A mem run)) where
     walk : Holds (hasTy (T′.mir (named 0)) mach) × WT mach → ent 𝓤 (onEntry 𝓤 H A next.signature (κ, tt) (q, tt) (d, tt) (mach ∷ [], tt)) (WpFn 𝓤 H C Λ code.function (mach ∷ []) Post)
     walk wt =
         qed W (raw (onEntry 𝓤 H A next.signature (κ, tt) (q, tt) (d, tt) (mach ∷ [], tt)) ∷ []) ∵ enter ! C Λ code.function (mach ∷ []) _ $
@@ -117,13 +117,13 @@ module _ {M : Type 1} (𝓤 : URA M) (H : Heap 𝓤) (A : Atoms 𝓤) (W : Given
         move ! (9 ∷ 10 ∷ []) $ free1 ! $ move ! (7 ∷ 8 ∷ []) $ free1 ! $ move ! (5 ∷ 6 ∷ []) $ free1 ! $ move ! (3 ∷ 4 ∷ []) $ free1 ! $ free0 ! $ by ! (exits r u e)))))))
 
 module _ {M : Type 1} (𝓤 : URA M) (H : Heap 𝓤) (A : Atoms 𝓤) (W : Given 𝓤 H A) (mem : Memory → SProp 𝓤) (run : Routine → Fun 𝓤) where
-  next-walks : (C : Calls 𝓤 H) (Λ : Loops 𝓤 H) → FmC 𝓤 H (W .laws) C → Triple 𝓤 (C #hosts·host-port-at) (HostPortAt 𝓤 H A mem run)
+  next-walks : (C : Calls 𝓤 H) (Λ : Loops 𝓤 H) → FmC 𝓤 H (W .laws) C → Triple 𝓤 (C #host-port·host-port-at) (HostPortAt 𝓤 H A mem run)
       → Walks 𝓤 H A next.ended stayed (WpFn 𝓤 H C Λ code.function) (next.clauses 𝓤 H A mem run)
   next-walks C Λ fm known = walked 𝓤 H A next.ended stayed (next.clauses 𝓤 H A mem run) (WpFn 𝓤 H C Λ code.function) (λ κs. (LL.vals (declared κs) (laws κs), tt)) (λ κs. (LL.tells (declared κs) (laws κs), tt))
       (λ κs qs bounds a g are. via 𝓤 _ (fst∗ 𝓤 _ (emp 𝓤)) (walk 𝓤 H A W mem run (κs .0) (qs .0) (a .0) C Λ fm known (LL.lawful (declared κs) (laws κs) 𝓤 H A W .typed (a .0) _ (are .0) .0)))
 
 next-meets : {M : Type 1} (𝓤 : URA M) (H : Heap 𝓤) (A : Atoms 𝓤) (W : Given 𝓤 H A) (mem : Memory → SProp 𝓤) (run : Routine → Fun 𝓤) (𝓣 : Tables 𝓤 H)
-    → Triple 𝓤 (𝓣 .C #hosts·host-port-at) (HostPortAt 𝓤 H A mem run)
+    → Triple 𝓤 (𝓣 .C #host-port·host-port-at) (HostPortAt 𝓤 H A mem run)
     → Meets 𝓤 H A next.signature (WpFn 𝓤 H (𝓣 .C) (𝓣 .Λ) code.function) (next.spec 𝓤 H A mem run)
 next-meets 𝓤 H A W mem run 𝓣 known-read = walk-meets 𝓤 H A next.ended stayed W (goes-none 𝓤 H A W 1 row yes (λ κs x f. refl), tt) (next.clauses 𝓤 H A mem run) (WpFn 𝓤 H (𝓣 .C) (𝓣 .Λ) code.function) (WpFn-mono 𝓤 H (W .laws) 𝓣 code.function)
     (next-walks 𝓤 H A W mem run (𝓣 .C) (𝓣 .Λ) (fmOf 𝓤 H (W .laws) 𝓣) known-read)
@@ -132,6 +132,6 @@ pub next-spec : {M : Type 1} → stated.statement M
 unfolding code.routine tablesOf
 next-spec 𝓤 H 𝓜 𝓖 𝓡 =
     entered 𝓤 H (tripleOf 𝓤 H (𝓖 .A) next.signature (next.spec 𝓤 H (𝓖 .A) (𝓜 .mem) (𝓡 .run)))
-    (tables 𝓤 H 𝓜 𝓡 code.env .C) (tables 𝓤 H 𝓜 𝓡 code.env .Λ) #hosts·next code.function (code.unfolded 𝓤 H 𝓜 𝓡)
+    (tables 𝓤 H 𝓜 𝓡 code.env .C) (tables 𝓤 H 𝓜 𝓡 code.env .Λ) #host-port·next code.function (code.unfolded 𝓤 H 𝓜 𝓡)
     (next-meets 𝓤 H (𝓖 .A) (givenOf 𝓤 H 𝓜 𝓖) (𝓜 .mem) (𝓡 .run) (tablesOf 𝓤 H 𝓜 (tables 𝓤 H 𝓜 𝓡 code.env))
-    (cited 𝓤 H (HostPortAt 𝓤 H (𝓖 .A) (𝓜 .mem) (𝓡 .run)) 𝓜 𝓡 code.env #hosts·host-port-at read-def.routine code.calls-hostports·hosts·host-port-at (read-thm.met 𝓤 H 𝓜 𝓖 𝓡)))
+    (cited 𝓤 H (HostPortAt 𝓤 H (𝓖 .A) (𝓜 .mem) (𝓡 .run)) 𝓜 𝓡 code.env #host-port·host-port-at read-def.routine code.calls-hostports·host-port·host-port-at (read-thm.met 𝓤 H 𝓜 𝓖 𝓡)))

@@ -1,35 +1,35 @@
--- `hosts::host_port_at`: the numbers read, and those that are to come after them, make the host-port.
+-- `host_port::host_port_at`: the numbers read, and those that are to come after them, make the host-port.
 use Prim.Native.Nat.{suc, _+_, _-_, _^_, _≤_, _<_}
 use mathlib.Core.Path.{_≡_, sym, _∙_}
 use native.Mathlib.Omega.{arith}
 use borrow.Author.Needs.{needs}
 use lib.ListN.{List·getD-eq-default}
 use Rattle.hostports.specs.HostPort.{numberAt, moreAt, hostPortAt}
-use Rattle.hostports.specs.declared.hosts.Step.the-variants.{Host}
-use Rattle.hostports.proofs.HostPort.{first-malformed, no-comma, more-refused, one-more, has-room, grows, number-bound}
-use Rattle.hostports.proofs.hosts.host_port_at.Statement.{statement}
-use Rattle.hostports.proofs.hosts.host_port_at.Tie as tie
+use Rattle.hostports.specs.declared.host_port.ParsedNumber.the-variants.{Number}
+use Rattle.hostports.proofs.HostPort.{first-malformed, first-number, no-comma, more-malformed, one-more, has-room, grows, number-bound}
+use Rattle.hostports.proofs.host_port.host_port_at.Statement.{statement}
+use Rattle.hostports.proofs.host_port.host_port_at.Tie as tie
 
 abbrev Inv-loop : tie.InvT-loop
-Inv-loop text at value next v₀ place₀ k₀ v place k = (k ≤ 5) × (v < 256 ^ (k + 1)) × (moreAt (5 - k) text (Host v place) ≡ hostPortAt text at)
+Inv-loop text at value next v₀ place₀ k₀ v place k = (k ≤ 5) × (v < 256 ^ (k + 1)) × (moreAt (5 - k) text v place ≡ hostPortAt text at)
 
 abbrev μ-loop : tie.MeasureT-loop
 μ-loop text at value next v₀ place₀ k₀ v place k = 5 - k
 
 -- one of the numbers that are to come is the next
 host-port : (c : tie.In-loop Inv-loop μ-loop) → let l = c .before in let x = l .before .before .before .before .before .before .args in
-    hostPortAt (x .text .now) (x .at) ≡ moreAt (suc (5 - (l .loop .k + 1))) (x .text .now) (Host (l .loop .v) (l .loop .place))
+    hostPortAt (x .text .now) (x .at) ≡ moreAt (suc (5 - (l .loop .k + 1))) (x .text .now) (l .loop .v) (l .loop .place)
 host-port c =
     let l = c .before in
     let m : suc (5 - (l .loop .k + 1)) ≡ 5 - l .loop .k = omega arith in
     rw m (sym (l .loop .inv .2))
 
 first-is : (c : tie.After-first Inv-loop μ-loop) → let x = c .before .before .before .before .args in
-    numberAt (x .text .now) (x .at) ≡ Host (c .first .given .0 .0) (c .first .given .0 .1 .0)
+    numberAt (x .text .now) (x .at) ≡ Number (c .first .given .0 .0) (c .first .given .0 .1 .0)
 first-is c = sym (c .before .before .number-at .ensures) ∙ c .first .given .1
 
 next-is : (c : tie.After-number Inv-loop μ-loop) → let l = c .before .before .before .before .before .before .before in
-    numberAt (l .before .before .before .before .before .before .args .text .now) (l .loop .place + 1) ≡ Host (c .number .given .0 .0) (c .number .given .0 .1 .0)
+    numberAt (l .before .before .before .before .before .before .args .text .now) (l .loop .place + 1) ≡ Number (c .number .given .0 .0) (c .number .given .0 .1 .0)
 next-is c = sym (c .before .before .number-at2 .ensures) ∙ c .number .given .1
 
 number-at-requires : tie.Need-number-at-requires Inv-loop μ-loop
@@ -48,11 +48,10 @@ returns c =
     sym (first-malformed (x .text .now) (x .at) (sym (d .number-at .ensures) ∙ c .enum-told .given .1))
 
 loop-holds : tie.Need-loop-holds Inv-loop μ-loop
-unfolding hostPortAt
 loop-holds c =
     let d = c .before in
     let x = d .before .before .before .before .args in
-    (omega arith, number-bound (x .text .now) (x .at) _ _ (first-is d), rw (first-is d))
+    (omega arith, number-bound (x .text .now) (x .at) _ _ (first-is d), sym (first-number (x .text .now) (x .at) _ _ (first-is d)))
 
 returns-2 : tie.Need-returns-2 Inv-loop μ-loop
 returns-2 c =
@@ -88,7 +87,7 @@ returns-4 c =
     let d = e .before .before .before in
     let l = d .before in
     let s = l .before .before .before .before .before .before .args .text .now in
-    sym (host-port d ∙ more-refused _ s (l .loop .v) (l .loop .place) (e .if2 .left) (sym (c .before .before .number-at2 .ensures) ∙ c .enum-told2 .given .1))
+    sym (host-port d ∙ more-malformed _ s (l .loop .v) (l .loop .place) (e .if2 .left) (sym (c .before .before .number-at2 .ensures) ∙ c .enum-told2 .given .1))
 
 mul-v : tie.Need-mul-v Inv-loop μ-loop
 mul-v c =

@@ -9,23 +9,29 @@ use borrow.Author.Tests.{ltb-true, ltb-false, leb-true, eqb-true}
 use lib.Dec.{leb, ltb, eqb}
 use lib.ListN.{length, getD, take, drop, take-append-drop, List·getD-eq-default}
 use lib.Seq.{length-take-le, drop-cons}
-use Rattle.octets.specs.Decimal.{isDigit, digitRun, numberOf}
-use Rattle.hostports.specs.declared.hosts.Step.{Step}
-use Rattle.hostports.specs.declared.hosts.Step.the-variants.{Host, Malformed}
-use Rattle.hostports.specs.HostPort.{comma, digitLimit, valueLimit, numberAt, joined, moreAt, hostPortAt}
+use Rattle.octets.specs.Decimal.{numberOf}
+use Rattle.octets.specs.Text.{isDigit, leading}
+use Rattle.octets.proofs.Texts.{leading-le, all-leading, leading-rest}
+use Rattle.hostports.specs.declared.host_port.ParsedNumber.{ParsedNumber}
+use Rattle.hostports.specs.declared.host_port.ParsedNumber.the-variants.{Number, Malformed as NoNumber}
+use Rattle.hostports.specs.declared.host_port.ParsedHostPort.the-variants.{HostPort, Malformed}
+use Rattle.hostports.specs.HostPort.{comma, digitLimit, valueLimit, numberAt, andThen, moreAt, hostPortAt}
 use Rattle.hostports.specs.HostPorts.{Numeral, NoDigit, HostPortText, written, address, port, WrittenAt}
-use Rattle.hostports.proofs.HostPort.{run-within, run-digits, more-done, more-malformed}
-use Rattle.hostports.proofs.WrittenReads.{after, commaThen, after-more, written-rest, written-place}
+use Rattle.hostports.proofs.HostPort.{more-done}
+use Rattle.hostports.proofs.HostPortsWritten.{after, commaThen, after-more, written-rest, written-place}
 
 -- after the digits that a text begins with there is no digit
-run-stops : (text : List ℕ) → NoDigit (drop (digitRun text) text)
-unfolding digitRun
-run-stops [] = tt
-run-stops (b ∷ bs) = go (isDigit b) refl (run-stops bs)
+none-leads : (rest : List ℕ) → leading isDigit rest ≡ 0 → NoDigit rest
+unfolding leading
+none-leads [] h = tt
+none-leads (b ∷ bs) h = go (isDigit b) refl h
   where
-    go : (t : Bool) → isDigit b ≡ t → NoDigit (drop (digitRun bs) bs) → NoDigit (drop (cond t (suc (digitRun bs)) 0) (b ∷ bs))
-    go true e h = h
+    go : (t : Bool) → isDigit b ≡ t → cond t (suc (leading isDigit bs)) 0 ≡ 0 → isDigit b ≡ false
+    go true e h = absurd (omega arith)
     go false e h = e
+
+run-stops : (text : List ℕ) → NoDigit (drop (leading isDigit text) text)
+run-stops text = none-leads (drop (leading isDigit text) text) (leading-rest isDigit text)
 
 -- a number that is read is written there, with no digit after it
 pub record NumeralAt (text : List ℕ) (at v next : ℕ) : Type 0 where
@@ -36,18 +42,18 @@ pub record NumeralAt (text : List ℕ) (at v next : ℕ) : Type 0 where
   pub says : v ≡ a .value
   pub place : next ≡ at + length (a .text)
 
-never : (v next : ℕ) → Malformed ≡ Host v next → ⊥
+never : (v next : ℕ) → Malformed ≡ HostPort v next → ⊥
 never v next e = let z : _≡_ {A = ℕ} 0 1 = cc in omega arith
 
-same-host : (v p w q : ℕ) → Host v p ≡ Host w q → (v ≡ w) × (p ≡ q)
-same-host v p w q e = (cc, cc)
+same-host-port : (v p w q : ℕ) → HostPort v p ≡ HostPort w q → (v ≡ w) × (p ≡ q)
+same-host-port v p w q e = (cc, cc)
 
-number-read : (text : List ℕ) (at v next : ℕ) → numberAt text at ≡ Host v next → NumeralAt text at v next
+number-read : (text : List ℕ) (at v next : ℕ) → numberAt text at ≡ Number v next → NumeralAt text at v next
 unfolding numberAt
 number-read text at v next = go (leb 1 k && (leb k digitLimit && leb n valueLimit)) refl
   where
     k : ℕ
-    k = digitRun (drop at text)
+    k = leading isDigit (drop at text)
 
     digits : List ℕ
     digits = take k (drop at text)
@@ -55,17 +61,17 @@ number-read text at v next = go (leb 1 k && (leb k digitLimit && leb n valueLimi
     n : ℕ
     n = numberOf digits
 
-    go : (t : Bool) → leb 1 k && (leb k digitLimit && leb n valueLimit) ≡ t → cond t (Host n (at + k)) Malformed ≡ Host v next → NumeralAt text at v next
-    go false e h = absurd (never v next h)
+    go : (t : Bool) → leb 1 k && (leb k digitLimit && leb n valueLimit) ≡ t → cond t (Number n (at + k)) NoNumber ≡ Number v next → NumeralAt text at v next
+    go false e h = absurd (let z : _≡_ {A = ℕ} 0 1 = cc in omega arith)
     go true e h =
         let p = and-eq-true-iff (leb 1 k) (leb k digitLimit && leb n valueLimit) .0 e in
         let q = and-eq-true-iff (leb k digitLimit) (leb n valueLimit) .0 (p .1) in
         let one : 1 ≤ k = leb-true 1 k (p .0) in
         let three : k ≤ digitLimit = leb-true k digitLimit (q .0) in
         let low : n ≤ valueLimit = leb-true n valueLimit (q .1) in
-        let size : length digits ≡ k = length-take-le k (drop at text) (run-within (drop at text)) in
+        let size : length digits ≡ k = length-take-le k (drop at text) (leading-le isDigit (drop at text)) in
         record {
-          a = record { text = digits; value = n; digits = run-digits (drop at text); one-or-more = omega arith; at-most-three = omega arith; says = refl; small = omega arith };
+          a = record { text = digits; value = n; digits = all-leading isDigit (drop at text); one-or-more = omega arith; at-most-three = omega arith; says = refl; small = omega arith };
           rest = drop k (drop at text);
           there = sym (take-append-drop k (drop at text));
           no-digit = run-stops (drop at text);
@@ -79,7 +85,7 @@ record MoreAt (n : ℕ) (text : List ℕ) (v at w next : ℕ) : Type 0 where
   rest : List ℕ
   there : drop at text ≡ commaThen a rest
   no-digit : NoDigit rest
-  on : moreAt n text (Host (v * 256 + a .value) (at + 1 + length (a .text))) ≡ Host w next
+  on : moreAt n text (v * 256 + a .value) (at + 1 + length (a .text)) ≡ HostPort w next
 
 -- a byte that is not 0 is in the text
 pub byte-there : (text : List ℕ) (at b : ℕ) → 1 ≤ b → getD text at 0 ≡ b → drop at text ≡ b ∷ drop (at + 1) text
@@ -93,14 +99,14 @@ byte-there text at b h e = go (ltb at (length text)) refl
         let z : getD text at 0 ≡ 0 = List·getD-eq-default text 0 (ltb-false at (length text) o) in
         absurd (omega arith)
 
-more-read : (n : ℕ) (text : List ℕ) (v at w next : ℕ) → moreAt (suc n) text (Host v at) ≡ Host w next → MoreAt n text v at w next
-unfolding moreAt joined
+more-read : (n : ℕ) (text : List ℕ) (v at w next : ℕ) → moreAt (suc n) text v at ≡ HostPort w next → MoreAt n text v at w next
+unfolding moreAt andThen
 more-read n text v at w next = go (eqb (getD text at 0) comma) refl (numberAt text (at + 1)) refl
   where
-    go : (t : Bool) → eqb (getD text at 0) comma ≡ t → (s : Step) → numberAt text (at + 1) ≡ s → moreAt n text (cond t (joined v s) Malformed) ≡ Host w next → MoreAt n text v at w next
-    go false c s e h = absurd (never w next (sym (more-malformed n text) ∙ h))
-    go true c Malformed e h = absurd (never w next (sym (more-malformed n text) ∙ h))
-    go true c (Host u place) e h =
+    go : (t : Bool) → eqb (getD text at 0) comma ≡ t → (s : ParsedNumber) → numberAt text (at + 1) ≡ s → cond t (andThen s (λ u place. moreAt n text (v * 256 + u) place)) Malformed ≡ HostPort w next → MoreAt n text v at w next
+    go false c s e h = absurd (never w next h)
+    go true c NoNumber e h = absurd (never w next h)
+    go true c (Number u place) e h =
         let m = number-read text (at + 1) u place e in
         record {
           a = m .a;
@@ -115,15 +121,15 @@ given : {A R : Type 0} → A → (A → R) → R
 given x f = f x
 
 -- six numbers, commas between, are written where they are read
-pub six-read : (text : List ℕ) (at v next : ℕ) → hostPortAt text at ≡ Host v next
+pub six-read : (text : List ℕ) (at v next : ℕ) → hostPortAt text at ≡ HostPort v next
     → (h : HostPortText) × WrittenAt text at h × (v ≡ address h * 65536 + port h) × (next ≡ at + length (written h))
-unfolding hostPortAt
+unfolding hostPortAt andThen
 six-read text at v next = go (numberAt text at) refl
   where
-    go : (s : Step) → numberAt text at ≡ s → moreAt 5 text s ≡ Host v next
+    go : (s : ParsedNumber) → numberAt text at ≡ s → andThen s (moreAt 5 text) ≡ HostPort v next
         → (h : HostPortText) × WrittenAt text at h × (v ≡ address h * 65536 + port h) × (next ≡ at + length (written h))
-    go Malformed e g = absurd (never v next (sym (more-malformed 5 text) ∙ g))
-    go (Host u place) e g =
+    go NoNumber e g = absurd (never v next g)
+    go (Number u place) e g =
         given (number-read text at u place e) (λ m₀.
         given (more-read 4 text (m₀ .a .value) (at + length (m₀ .a .text)) v next (rw (← m₀ .says, ← m₀ .place) g)) (λ m₁.
         given (more-read 3 text _ _ v next (m₁ .on)) (λ m₂.
@@ -141,5 +147,5 @@ six-read text at v next = go (numberAt text at) refl
         let r₃ : m₃ .rest ≡ commaThen (h .e) (m₄ .rest) = sym (after-more text p₃ (h .d) (m₃ .rest) (m₃ .there)) ∙ m₄ .there in
         let r₄ : m₄ .rest ≡ commaThen (h .f) (m₅ .rest) = sym (after-more text p₄ (h .e) (m₄ .rest) (m₄ .there)) ∙ m₅ .there in
         let there : drop at text ≡ written h ++ m₅ .rest = m₀ .there ∙ rw (r₀, r₁, r₂, r₃, r₄) (sym (written-rest h (m₅ .rest))) in
-        let end = same-host _ _ v next (sym (more-done text _) ∙ m₅ .on) in
+        let end = same-host-port _ _ v next (sym (more-done text _ _) ∙ m₅ .on) in
         (h, record { rest = m₅ .rest; there = there; no-digit = m₅ .no-digit }, omega (arith, end .0), sym (end .1) ∙ written-place h at)))))))

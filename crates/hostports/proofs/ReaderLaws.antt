@@ -27,9 +27,9 @@ use denote.Struct.Rest.{own-shut}
 use denote.Triple.Clauses.{Ended, lasts}
 use denote.Triple.Entry.{Args}
 use denote.Triple.Spec.{exits}
-use Rattle.hostports.specs.declared.hosts.Reader.{Reader}
-use Rattle.hostports.proofs.hosts.Reader as T
-use Rattle.hostports.proofs.hosts.Reader.Laws as T′
+use Rattle.hostports.specs.declared.host_port.Reader.{Reader}
+use Rattle.hostports.proofs.host_port.Reader as T
+use Rattle.hostports.proofs.host_port.Reader.Laws as T′
 
 abbrev pub row : Lfts 1 → RattleType
 row κs = T.the-row (namedLft 1 0 tt κs)

@@ -1,65 +1,73 @@
-// One host-port at a place of a text, and the reader that keeps hold of the text.
+// One host-port at a place of a text, and the reader that holds the text.
 use octets::decimal;
+use octets::text;
+use octets::text::Kind;
 ghost use mathlib.Core.Path.{_≡_};
 ghost use Rattle.hostports.specs.HostPort.{numberAt, hostPortAt};
 
 const COMMA: u8 = 44;
 
-// What is at a place of the text: a number and the place after it, or nothing that is well formed.
-pub enum Step {
-    Host { value: u64, next: usize },
+// One of the six numbers at a place of a text: its value and the place after it, or nothing that is well formed.
+pub enum ParsedNumber {
+    Number { value: u64, next: usize },
+    Malformed,
+}
+
+// A host-port at a place of a text: address * 65,536 + port and the place after it, or nothing that is well formed.
+pub enum ParsedHostPort {
+    HostPort { value: u64, next: usize },
     Malformed,
 }
 
 // One of the six numbers: 1 to 3 digits, at most 255.
-fn number_at(text: &[u8], at: usize) -> Step
+fn number_at(text: &[u8], at: usize) -> ParsedNumber
     ensures { λ r. ⌜ r ≡ numberAt (now (text .entry)) at ⌝ }
 {
     if text.len() < at {
-        return Step::Malformed;
+        return ParsedNumber::Malformed;
     }
     let rest = &text[at..];
-    let k = decimal::run(rest);
+    let k = text::leading(Kind::Digit, rest);
     if 3 < k {
-        return Step::Malformed;
+        return ParsedNumber::Malformed;
     }
     let number = decimal::read(&rest[..k], 255);
     let decimal::Number::Value(value) = number else {
-        return Step::Malformed;
+        return ParsedNumber::Malformed;
     };
-    Step::Host {
+    ParsedNumber::Number {
         value: value,
         next: at + k,
     }
 }
 
 // Six numbers, a comma before each but the first.
-fn host_port_at(text: &[u8], at: usize) -> Step
+fn host_port_at(text: &[u8], at: usize) -> ParsedHostPort
     ensures { λ r. ⌜ r ≡ hostPortAt (now (text .entry)) at ⌝ }
 {
     let first = number_at(text, at);
-    let Step::Host { value, next } = first else {
-        return Step::Malformed;
+    let ParsedNumber::Number { value, next } = first else {
+        return ParsedHostPort::Malformed;
     };
     let mut v = value;
     let mut place = next;
     let mut k: usize = 0;
     while k < 5 {
         if text.len() <= place {
-            return Step::Malformed;
+            return ParsedHostPort::Malformed;
         }
         if text[place] != COMMA {
-            return Step::Malformed;
+            return ParsedHostPort::Malformed;
         }
         let number = number_at(text, place + 1);
-        let Step::Host { value, next } = number else {
-            return Step::Malformed;
+        let ParsedNumber::Number { value, next } = number else {
+            return ParsedHostPort::Malformed;
         };
         v = v * 256 + value;
         place = next;
         k += 1;
     }
-    Step::Host {
+    ParsedHostPort::HostPort {
         value: v,
         next: place,
     }
@@ -86,15 +94,15 @@ pub fn moved<'a>(r: Reader<'a>, at: usize) -> Reader<'a>
 }
 
 // The host-port at the reader's place.
-pub fn next<'a>(r: Reader<'a>) -> Step
-    ensures { λ s. ⌜ s ≡ hostPortAt (now (r .entry .text)) (r .entry .at) ⌝ }
+pub fn next<'a>(r: Reader<'a>) -> ParsedHostPort
+    ensures { λ p. ⌜ p ≡ hostPortAt (now (r .entry .text)) (r .entry .at) ⌝ }
 {
     host_port_at(r.text, r.at)
 }
 
-// The host-port at a place of a text, for a caller that keeps hold of no reader.
-pub fn step_at(text: &[u8], at: usize) -> Step
-    ensures { λ s. ⌜ s ≡ hostPortAt (now (text .entry)) at ⌝ }
+// The host-port at a place of a text, for a caller that holds no reader.
+pub fn read_at(text: &[u8], at: usize) -> ParsedHostPort
+    ensures { λ p. ⌜ p ≡ hostPortAt (now (text .entry)) at ⌝ }
 {
     next(moved(new(text), at))
 }

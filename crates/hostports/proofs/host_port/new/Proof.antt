@@ -1,4 +1,4 @@
--- `hosts::new`: a walk of its MIR, by hand. A `Reader` is made of the slice passed and 0, in the result's local.
+-- `host_port::new`: a walk of its MIR, by hand. A `Reader` is made of the slice passed and 0, in the result's local.
 -- A `&[u8]` is Copy, so what it owns is had twice: once for the exit, and once inside the result.
 use mathlib.Core.Path.{refl}
 use Prim.Native.Nat.{ℕ}
@@ -30,12 +30,12 @@ use denote.Triple.Spec.{Meets, tripleOf}
 use denote.Triple.Table.{entered}
 use denote.Triple.Walked.{says, Stays, stay-none-slice, walkOf, goes-none-slice, Walks, ends-at, walked, walk-meets}
 use denote.Exit.{yes}
-use Rattle.hostports.proofs.Held.{text-val, OwnText, reader, makes-reader, text-twice, token}
-use Rattle.hostports.proofs.hosts.Reader.Laws as T′
-use Rattle.hostports.proofs.hosts.new.Key.{name as #hosts·new}
-use Rattle.hostports.proofs.hosts.new as new
-use Rattle.hostports.proofs.hosts.new.Statement as stated
-use Rattle.hostports.proofs.hosts.new.Code as code
+use Rattle.hostports.proofs.ReaderLaws.{text-val, OwnText, reader, makes-reader, text-twice, token}
+use Rattle.hostports.proofs.host_port.Reader.Laws as T′
+use Rattle.hostports.proofs.host_port.new.Key.{name as #host-port·new}
+use Rattle.hostports.proofs.host_port.new as new
+use Rattle.hostports.proofs.host_port.new.Statement as stated
+use Rattle.hostports.proofs.host_port.new.Code as code
 
 abbrev stayed : Stays (new.ended .signature .params) (new.ended .kept)
 stayed = (stay-none-slice (0 ∷ []) tt (plain (λ _. u8)) yes, tt)
@@ -76,5 +76,5 @@ pub new-spec : {M : Type 1} → stated.statement M
 unfolding code.routine tablesOf
 new-spec 𝓤 H 𝓜 𝓖 𝓡 =
     entered 𝓤 H (tripleOf 𝓤 H (𝓖 .A) new.signature (new.spec 𝓤 H (𝓖 .A) (𝓜 .mem) (𝓡 .run)))
-    (tables 𝓤 H 𝓜 𝓡 code.env .C) (tables 𝓤 H 𝓜 𝓡 code.env .Λ) #hosts·new code.function (code.unfolded 𝓤 H 𝓜 𝓡)
+    (tables 𝓤 H 𝓜 𝓡 code.env .C) (tables 𝓤 H 𝓜 𝓡 code.env .Λ) #host-port·new code.function (code.unfolded 𝓤 H 𝓜 𝓡)
     (new-meets 𝓤 H (𝓖 .A) (givenOf 𝓤 H 𝓜 𝓖) (𝓜 .mem) (𝓡 .run) (tablesOf 𝓤 H 𝓜 (tables 𝓤 H 𝓜 𝓡 code.env)))
