@@ -8,8 +8,9 @@ use borrow.Author.Tests.{le-leb, leb-true, eq-eqb, eqb-true}
 use lib.Dec.{leb, eqb}
 use lib.ListN.{length, getD, take, drop, replicate, length-append, length-drop, take-append-drop, drop-of-length-le}
 use lib.Seq.{drop-cons, drop-drop, drop-append-le, take-at, getD-append-add, getD-at}
-use Rattle.commands.specs.Line.{letterRun, spaceRun, textOf, endsInCrLf, afterVerb, argumentAt}
-use Rattle.commands.proofs.Runs.{spaces-taken}
+use Rattle.octets.specs.Text.{isLetter, isSpace, leading}
+use Rattle.commands.specs.Line.{textOf, endsInCrLf, afterVerb, argumentAt}
+use Rattle.commands.proofs.Spaces.{spaces-taken}
 
 abbrev pub crLf : List ℕ
 crLf = 13 ∷ 10 ∷ []
@@ -66,11 +67,11 @@ part-is line text rest from e h = rw (e, drop-append-le from text rest h) (take-
 
 -- ---- verb, spaces, argument
 
-pub text-whole : (text : List ℕ) → text ≡ take (letterRun text) text ++ (replicate (spaceRun (afterVerb text)) 32 ++ drop (argumentAt text) text)
+pub text-whole : (text : List ℕ) → text ≡ take (leading isLetter text) text ++ (replicate (leading isSpace (afterVerb text)) 32 ++ drop (argumentAt text) text)
 unfolding afterVerb argumentAt
 text-whole text =
-    let rest = drop (letterRun text) text in
-    let n = spaceRun rest in
-    let end : drop n rest ≡ drop (letterRun text + n) text = drop-drop n (letterRun text) text in
+    let rest = drop (leading isLetter text) text in
+    let n = leading isSpace rest in
+    let end : drop n rest ≡ drop (leading isLetter text + n) text = drop-drop n (leading isLetter text) text in
     let parts : rest ≡ replicate n 32 ++ drop n rest = sym (take-append-drop n rest) ∙ ap (λ s. s ++ drop n rest) (spaces-taken rest) in
-    sym (take-append-drop (letterRun text) text) ∙ ap (λ r. take (letterRun text) text ++ r) (parts ∙ ap (λ r. replicate n 32 ++ r) end)
+    sym (take-append-drop (leading isLetter text) text) ∙ ap (λ r. take (leading isLetter text) text ++ r) (parts ∙ ap (λ r. replicate n 32 ++ r) end)
