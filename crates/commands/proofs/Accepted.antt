@@ -17,7 +17,7 @@ use Rattle.octets.proofs.Texts.{all-append, all-drop, leading-le, leading-rest}
 use Rattle.commands.proofs.Spaces.{spaces-over, no-space, space-first, first-no-space}
 use Rattle.commands.proofs.Printable.{letters-printable, spaces-printable, printable-at, each-printable}
 use Rattle.commands.proofs.Refused.{accepted-passed}
-use Rattle.commands.proofs.VerbTable.{takes-none, takes-one, takes-none-or-one}
+use Rattle.commands.proofs.VerbTable.{no-argument-true, no-argument-false, no-argument-dec}
 use Rattle.commands.proofs.BeginsWithVerb.{run-is, after-is, verb-is, begins-has-verb, has-verb-begins}
 use Rattle.commands.proofs.LineParts.{crLf, ends-whole, ended-text, ended-ends, part-is, text-whole}
 use Rattle.commands.proofs.Lines.{after-length, argument-past, argument-within, Passed, passed-accepted}
@@ -55,14 +55,14 @@ module _ (line : List ℕ) (p : Passed line) where
   no-argument : TakesNoArgument v → (leading isSpace (afterVerb text) ≡ 0) × (argument ≡ [])
   unfolding argumentFits
   no-argument b =
-      let n = eqb-true (length (afterVerb text)) 0 (rw (takes-none v b) at (p .argument-is)) in
+      let n = eqb-true (length (afterVerb text)) 0 (rw (no-argument-true v b) at (p .argument-is)) in
       let s = leading-le isSpace (afterVerb text) in
       (omega arith, drop-of-length-le text {i = argumentAt text} (omega (arith, after-length text, argument-past text)))
 
   with-argument : (TakesNoArgument v → ⊥) → (0 < leading isSpace (afterVerb text)) × (0 < length argument)
   unfolding argumentFits
   with-argument b =
-      let n = ltb-true (argumentAt text) (length text) (rw (takes-one v b) at (p .argument-is)) in
+      let n = ltb-true (argumentAt text) (length text) (rw (no-argument-false v b) at (p .argument-is)) in
       let s = space-first (afterVerb text) (omega (arith, after-length text, argument-past text)) (begins .followed) in
       (s, omega (arith, length-drop (argumentAt text) text))
 
@@ -110,7 +110,7 @@ module _ (line word argument : List ℕ) (v spaces : ℕ) (k : CommandLine line 
   text-is = ap textOf line-is ∙ ended-text joined
 
   begun : BeginsWithVerb joined word rest v
-  begun = record { whole = refl; verb-is = k .verb-is; followed = rest-followed spaces argument (λ z. go (takes-none-or-one v) z) }
+  begun = record { whole = refl; verb-is = k .verb-is; followed = rest-followed spaces argument (λ z. go (no-argument-dec v) z) }
     where
       go : Dec (TakesNoArgument v) → spaces ≡ 0 → argument ≡ []
       go (yes b) z = k .no-argument b .1
@@ -128,11 +128,11 @@ module _ (line word argument : List ℕ) (v spaces : ℕ) (k : CommandLine line 
 
   joined-argument : argumentFits joined ≡ true
   unfolding argumentFits
-  joined-argument = rw (verb-is joined word rest v begun, after-is joined word rest v begun) (go (takes-none-or-one v))
+  joined-argument = rw (verb-is joined word rest v begun, after-is joined word rest v begun) (go (no-argument-dec v))
     where
       go : Dec (TakesNoArgument v) → cond (takesNoArgument v) (eqb (length rest) 0) (ltb (argumentAt joined) (length joined)) ≡ true
-      go (yes b) = rw (takes-none v b, eq-eqb (length rest) 0 (omega (arith, rest-length, k .no-argument b .0, ap length (k .no-argument b .1))))
-      go (no b) = rw (takes-one v b, lt-ltb (argumentAt joined) (length joined) (omega (arith, place-is, rest-length, length-append word rest, k .with-argument b .1)))
+      go (yes b) = rw (no-argument-true v b, eq-eqb (length rest) 0 (omega (arith, rest-length, k .no-argument b .0, ap length (k .no-argument b .1))))
+      go (no b) = rw (no-argument-false v b, lt-ltb (argumentAt joined) (length joined) (omega (arith, place-is, rest-length, length-append word rest, k .with-argument b .1)))
 
   passed : Passed line
   passed = record {

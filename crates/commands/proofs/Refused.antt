@@ -18,7 +18,7 @@ use Rattle.commands.proofs.Spaces.{spaces-over, spaces-taken}
 use Rattle.commands.proofs.Printable.{unprintable-at, printable-at, each-printable, outside-unprintable}
 use Rattle.commands.proofs.LineParts.{crLf, ends-whole, ended-text, ended-ends}
 use Rattle.commands.proofs.Lines.{after-length, reads-31, reads-32, reads-33, reads-34, reads-35, Passed, passed-accepted}
-use Rattle.commands.proofs.VerbTable.{takes-none, takes-one, takes-none-or-one}
+use Rattle.commands.proofs.VerbTable.{no-argument-true, no-argument-false, no-argument-dec}
 use Rattle.commands.proofs.BeginsWithVerb.{run-is, after-is, verb-is, begins-has-verb, has-verb-begins}
 
 -- ---- the argument
@@ -29,11 +29,11 @@ missing text word v spaces b n =
     let rest : List ℕ = replicate spaces 32 in
     let r : length text ≡ length word + spaces = ap length (b .whole) ∙ simp (length-append, length-replicate) in
     let s : leading isSpace rest ≡ spaces = omega (arith, rw (append-nil rest) at (spaces-over spaces [])) in
-    rw (verb-is text word rest v b, takes-one v n, after-is text word rest v b) (le-ltb (leading isLetter text + leading isSpace rest) (length text) (omega (arith, run-is text word rest v b)))
+    rw (verb-is text word rest v b, no-argument-false v n, after-is text word rest v b) (le-ltb (leading isLetter text + leading isSpace rest) (length text) (omega (arith, run-is text word rest v b)))
 
 present : (text word rest : List ℕ) (v : ℕ) → BeginsWithVerb text word rest v → TakesNoArgument v → 0 < length rest → argumentFits text ≡ false
 unfolding argumentFits
-present text word rest v b p h = rw (verb-is text word rest v b, takes-none v p, after-is text word rest v b) (ne-eqb (length rest) 0 (omega arith))
+present text word rest v b p h = rw (verb-is text word rest v b, no-argument-true v p, after-is text word rest v b) (ne-eqb (length rest) 0 (omega arith))
 
 -- ---- the number of a row is the answer's
 
@@ -105,17 +105,17 @@ module _ (line : List ℕ) where
 
     row-35 : hasVerb text ≡ true → argumentFits text ≡ false → Row
     unfolding argumentFits
-    row-35 s a = record { k = 35; positive = omega arith; reads = reads-35 line l e p s a; row = go (takes-none-or-one (verbOf text)) }
+    row-35 s a = record { k = 35; positive = omega arith; reads = reads-35 line l e p s a; row = go (no-argument-dec (verbOf text)) }
       where
         begins : BeginsWithVerb text (take (leading isLetter text) text) (afterVerb text) (verbOf text)
         begins = has-verb-begins text s
 
         go : Dec (TakesNoArgument (verbOf text)) → RefusedBy line 35
         go (yes b) =
-            let n = eqb-false (length (afterVerb text)) 0 (rw (takes-none (verbOf text) b) at a) in
+            let n = eqb-false (length (afterVerb text)) 0 (rw (no-argument-true (verbOf text) b) at a) in
             by-35-present text _ _ _ l (ends-whole line e) (printable-at text p) begins b (omega arith)
         go (no b) =
-            let n = ltb-false (argumentAt text) (length text) (rw (takes-one (verbOf text) b) at a) in
+            let n = ltb-false (argumentAt text) (length text) (rw (no-argument-false (verbOf text) b) at a) in
             by-35-missing text _ _ (leading isSpace (afterVerb text)) l (ends-whole line e) (printable-at text p) (rw (only-spaces n) at begins) b
 
   judged : Passed line ⊎ Row

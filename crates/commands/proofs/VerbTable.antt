@@ -104,15 +104,15 @@ own-number v h = eqb-true (numberFrom 1 verbs (getD verbs v [])) (suc v) (each-b
 
 -- ---- PASV and SPAS
 
-pub takes-none : (v : ℕ) → TakesNoArgument v → takesNoArgument v ≡ true
-takes-none v (inl e) = rw e
-takes-none v (inr e) = rw e
+pub no-argument-true : (v : ℕ) → TakesNoArgument v → takesNoArgument v ≡ true
+no-argument-true v (inl e) = rw e
+no-argument-true v (inr e) = rw e
 
-pub takes-one : (v : ℕ) → (TakesNoArgument v → ⊥) → takesNoArgument v ≡ false
-takes-one v n = rw (ne-eqb v 2 (λ e. n (inl e)), ne-eqb v 7 (λ e. n (inr e)))
+pub no-argument-false : (v : ℕ) → (TakesNoArgument v → ⊥) → takesNoArgument v ≡ false
+no-argument-false v n = rw (ne-eqb v 2 (λ e. n (inl e)), ne-eqb v 7 (λ e. n (inr e)))
 
-pub takes-none-or-one : (v : ℕ) → Dec (TakesNoArgument v)
-takes-none-or-one v = go (ℕ-discrete v 2) (ℕ-discrete v 7)
+pub no-argument-dec : (v : ℕ) → Dec (TakesNoArgument v)
+no-argument-dec v = go (ℕ-discrete v 2) (ℕ-discrete v 7)
   where
     go : Dec (v ≡ 2) → Dec (v ≡ 7) → Dec (TakesNoArgument v)
     go (yes a) b = yes (inl a)
