@@ -1,10 +1,10 @@
 pub mod VerbNames
 pub mod Letters
-mod Runs
-mod Printables
-mod Verbs
-mod Parts
-pub mod Answers
-mod Begins
-pub mod Refusals
-pub mod Looks
+mod Spaces
+mod Printable
+mod VerbTable
+mod LineParts
+pub mod Lines
+mod BeginsWithVerb
+pub mod Refused
+pub mod Accepted

@@ -3,7 +3,8 @@ use Prim.Native.Nat.{ℕ, _-_, _≤_, _<_}
 use mathlib.Core.Path.{_≡_}
 use mathlib.Core.Logic.{_⊎_}
 use mathlib.Core.Bool.{true, false}
-use Rattle.commands.specs.Line.{isLetter, upper}
+use Rattle.octets.specs.Text.{isLetter}
+use Rattle.commands.specs.Line.{upper}
 
 pub record Letters : Type 0 where
   -- A to Z

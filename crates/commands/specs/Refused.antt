@@ -4,13 +4,13 @@ use mathlib.Core.Path.{_≡_}
 use mathlib.Core.Logic.{_⊎_, _≢_}
 use mathlib.Core.List.{List, [], _∷_, _++_}
 use lib.ListN.{length, getD, replicate}
-use Rattle.commands.specs.Line.{readOf, partOf, number, verb}
-use Rattle.commands.specs.Accepted.{Printable, Names, Bare}
+use Rattle.commands.specs.Line.{readOf, argumentOf, number, verb}
+use Rattle.commands.specs.Accepted.{Printable, IsVerb, TakesNoArgument}
 
--- the text begins with the verb v; a space follows or nothing does, so the word is the longest run of letters
-pub record Begins (text word rest : List ℕ) (v : ℕ) : Type 0 where
+-- the text begins with the verb v; a space follows or nothing does, so the word is all the letters that the text begins with
+pub record BeginsWithVerb (text word rest : List ℕ) (v : ℕ) : Type 0 where
   pub whole : text ≡ word ++ rest
-  pub names : Names word v
+  pub verb-is : IsVerb word v
   pub followed : (rest ≡ []) ⊎ (getD rest 0 0 ≡ 32)
 
 pub data RefusedBy (line : List ℕ) : ℕ → Type 0 where
@@ -23,16 +23,16 @@ pub data RefusedBy (line : List ℕ) : ℕ → Type 0 where
       → RefusedBy line 33
   -- the text before them begins with no verb
   by-34 : (text : List ℕ) → length line ≤ 2048 → line ≡ text ++ (13 ∷ 10 ∷ []) → Printable text
-      → ((word rest : List ℕ) (v : ℕ) → Begins text word rest v → ⊥) → RefusedBy line 34
+      → ((word rest : List ℕ) (v : ℕ) → BeginsWithVerb text word rest v → ⊥) → RefusedBy line 34
   -- the argument is missing: nothing but spaces follows the verb
   by-35-missing : (text word : List ℕ) (v spaces : ℕ) → length line ≤ 2048 → line ≡ text ++ (13 ∷ 10 ∷ []) → Printable text
-      → Begins text word (replicate spaces 32) v → (Bare v → ⊥) → RefusedBy line 35
+      → BeginsWithVerb text word (replicate spaces 32) v → (TakesNoArgument v → ⊥) → RefusedBy line 35
   -- something follows PASV or SPAS
-  by-35-present : (text word rest : List ℕ) (v : ℕ) → length line ≤ 2048 → line ≡ text ++ (13 ∷ 10 ∷ []) → Printable text → Begins text word rest v
-      → Bare v → 0 < length rest → RefusedBy line 35
+  by-35-present : (text word rest : List ℕ) (v : ℕ) → length line ≤ 2048 → line ≡ text ++ (13 ∷ 10 ∷ []) → Printable text → BeginsWithVerb text word rest v
+      → TakesNoArgument v → 0 < length rest → RefusedBy line 35
 
 pub record Refusals : Type 0 where
-  -- a line is refused by no number but its row's; with `Lines` every line has a row or is accepted
+  -- a line is refused by no number but its row's; with `AcceptedLines` every line has a row or is accepted
   pub refused-is : (line : List ℕ) → 0 < number (readOf line) → RefusedBy line (number (readOf line))
   -- and by the number of its row, with no verb and no part of it handed back
-  pub refused-only : (line : List ℕ) (k : ℕ) → RefusedBy line k → (number (readOf line) ≡ k) × (verb (readOf line) ≡ 0) × (partOf (readOf line) line ≡ [])
+  pub refused-only : (line : List ℕ) (k : ℕ) → RefusedBy line k → (number (readOf line) ≡ k) × (verb (readOf line) ≡ 0) × (argumentOf (readOf line) line ≡ [])

@@ -1,9 +1,11 @@
 // Command lines.
+use octets::text;
+use octets::text::Kind;
 ghost use Prim.Native.Nat.{_<_};
 ghost use mathlib.Core.Path.{_≡_};
 ghost use mathlib.Core.List.{[], map};
 ghost use lib.ListN.{getD};
-ghost use Rattle.commands.specs.Line.{isLetter, upper, isPrintable, printable, letterRun, spaceRun, verbs, isBare, same, verbNumber, endsInCrLf, textReadOf, readOf, partOf};
+ghost use Rattle.commands.specs.Line.{upper, verbs, takesNoArgument, equalTexts, verbNumber, endsInCrLf, readTextOf, readOf, argumentOf};
 
 // The longest line, CR LF counted.
 pub const LINE_LIMIT: usize = 2048;
@@ -34,21 +36,6 @@ pub enum Line {
     Refused(u8),
 }
 
-fn is_letter(b: u8) -> bool
-    ensures { λ r. ⌜ r ≡ isLetter b ⌝ }
-{
-    if b < b'A' {
-        return false;
-    }
-    if b <= b'Z' {
-        return true;
-    }
-    if b < b'a' {
-        return false;
-    }
-    b <= b'z'
-}
-
 fn upper(b: u8) -> u8
     ensures { λ r. ⌜ r ≡ upper b ⌝ }
 {
@@ -61,60 +48,10 @@ fn upper(b: u8) -> u8
     b - 32
 }
 
-fn is_printable(b: u8) -> bool
-    ensures { λ r. ⌜ r ≡ isPrintable b ⌝ }
-{
-    if b < 32 {
-        return false;
-    }
-    b <= 126
-}
-
-fn printable(text: &[u8]) -> bool
-    ensures { λ r. ⌜ r ≡ printable (now (text .entry)) ⌝ }
-{
-    let mut i = 0;
-    while i < text.len() {
-        if !is_printable(text[i]) {
-            return false;
-        }
-        i += 1;
-    }
-    true
-}
-
-// How many letters the text begins with.
-fn letter_run(text: &[u8]) -> usize
-    ensures { λ r. ⌜ r ≡ letterRun (now (text .entry)) ⌝ }
-{
-    let mut i = 0;
-    while i < text.len() {
-        if !is_letter(text[i]) {
-            return i;
-        }
-        i += 1;
-    }
-    i
-}
-
-// How many spaces the text begins with.
-fn space_run(text: &[u8]) -> usize
-    ensures { λ r. ⌜ r ≡ spaceRun (now (text .entry)) ⌝ }
-{
-    let mut i = 0;
-    while i < text.len() {
-        if text[i] != b' ' {
-            return i;
-        }
-        i += 1;
-    }
-    i
-}
-
 // The word is the verb v of the table, in letters of either case.
 fn is_verb(word: &[u8], v: usize) -> bool
     requires { ⌜ v < 12 ⌝ }
-    ensures { λ r. ⌜ r ≡ same (map upper (now (word .entry))) (getD verbs v []) ⌝ }
+    ensures { λ r. ⌜ r ≡ equalTexts (map upper (now (word .entry))) (getD verbs v []) ⌝ }
 {
     if word.len() != 4 {
         return false;
@@ -143,8 +80,8 @@ fn verb_number(word: &[u8]) -> u8
     0
 }
 
-fn is_bare(verb: u8) -> bool
-    ensures { λ r. ⌜ r ≡ isBare verb ⌝ }
+fn takes_no_argument(verb: u8) -> bool
+    ensures { λ r. ⌜ r ≡ takesNoArgument verb ⌝ }
 {
     if verb == PASV {
         return true;
@@ -167,16 +104,16 @@ fn ends_in_cr_lf(line: &[u8]) -> bool
 
 // What the bytes before CR LF say.
 fn read_text(text: &[u8]) -> Line
-    ensures { λ r. ⌜ r ≡ textReadOf (now (text .entry)) ⌝ }
+    ensures { λ r. ⌜ r ≡ readTextOf (now (text .entry)) ⌝ }
 {
     let to = text.len();
-    let n = letter_run(text);
+    let n = text::leading(Kind::Letter, text);
     let verb = verb_number(&text[..n]);
     if verb == 0 {
         return Line::Refused(34);
     }
     if n == to {
-        if is_bare(verb) {
+        if takes_no_argument(verb) {
             return Line::Command { verb, from: n, to };
         }
         return Line::Refused(35);
@@ -184,10 +121,10 @@ fn read_text(text: &[u8]) -> Line
     if text[n] != b' ' {
         return Line::Refused(34);
     }
-    if is_bare(verb) {
+    if takes_no_argument(verb) {
         return Line::Refused(35);
     }
-    let from = n + space_run(&text[n..]);
+    let from = n + text::leading(Kind::Space, &text[n..]);
     if from == to {
         return Line::Refused(35);
     }
@@ -205,15 +142,15 @@ pub fn read(line: &[u8]) -> Line
         return Line::Refused(32);
     }
     let to = n - 2;
-    if !printable(&line[..to]) {
+    if text::leading(Kind::Printable, &line[..to]) < to {
         return Line::Refused(33);
     }
     read_text(&line[..to])
 }
 
-// The argument of the command, where the line lies; no byte where the line is refused or its verb takes none.
+// The part of the line that is the argument; no byte where the line is refused or its verb takes none.
 pub fn argument(line: &[u8]) -> &[u8]
-    ensures { λ r. ⌜ now r ≡ partOf (readOf (now (line .entry))) (now (line .entry)) ⌝ }
+    ensures { λ r. ⌜ now r ≡ argumentOf (readOf (now (line .entry))) (now (line .entry)) ⌝ }
 {
     let Line::Command { verb: _, from, to } = read(line) else {
         return &line[..0];

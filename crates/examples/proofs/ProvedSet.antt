@@ -1,7 +1,8 @@
 -- The proved set, by computation.
 use mathlib.Core.Path.{refl}
 use Rattle.octets.specs.Digits.{fromLittle, fromBig, toLittle, toBig}
-use Rattle.octets.specs.Decimal.{digitRun, digitsOnly, numberOf}
+use Rattle.octets.specs.Decimal.{numberOf}
+use Rattle.octets.specs.Text.{all, leading}
 use Rattle.eblock.specs.Descriptor.{has, faultOf}
 use Rattle.eblock.specs.Header.{secondOf, thirdOf, bytesOf, refusalOf, meant, readNumber, readOf, writeNumber, secondField, writeOf, leftBy, number, writtenNumber, writtenBytes}
 use Rattle.ledger.specs.Answer.{loadedNumber}
@@ -17,6 +18,6 @@ use Rattle.transfer.specs.Calls.{callOf, runBy, begun}
 use Rattle.examples.specs.ProvedSet.{ProvedSet}
 
 pub proved-set : ProvedSet
-unfolding fromLittle fromBig toLittle toBig digitRun digitsOnly numberOf has faultOf secondOf thirdOf bytesOf refusalOf meant readNumber readOf writeNumber secondField writeOf leftBy number writtenNumber writtenBytes loadedNumber size total join shares inside endsBy lengthWrong zeros rule obeys pairsOf lent bound rangeOf inFront parts added mergedFrom rangesOf loaded laidOut readRanges rangesLeft stateNumber heldNumber nextNumber leftNumber heldBytes numbersOf readState stateAt putState putFault putCount sum endedOf usedOf leftOf isFinal verdictOf storedOf fresh startOf startLeaves payloadLength askedOf claimFault idle heldFits restFits channelFits channelsFit apart apartFrom restsApart countFits faultFits fitsLedger fits ends opens faults claimsRange heeds judges heads stores byteOn byteOf bytesBy refusalIn receiveOf callOf runBy begun
+unfolding fromLittle fromBig toLittle toBig leading all numberOf has faultOf secondOf thirdOf bytesOf refusalOf meant readNumber readOf writeNumber secondField writeOf leftBy number writtenNumber writtenBytes loadedNumber size total join shares inside endsBy lengthWrong zeros rule obeys pairsOf lent bound rangeOf inFront parts added mergedFrom rangesOf loaded laidOut readRanges rangesLeft stateNumber heldNumber nextNumber leftNumber heldBytes numbersOf readState stateAt putState putFault putCount sum endedOf usedOf leftOf isFinal verdictOf storedOf fresh startOf startLeaves payloadLength askedOf claimFault idle heldFits restFits channelFits channelsFit apart apartFrom restsApart countFits faultFits fitsLedger fits ends opens faults claimsRange heeds judges heads stores byteOn byteOf bytesBy refusalIn receiveOf callOf runBy begun
 proved-set =
     ((refl, refl, refl), ((refl, refl, refl), ((refl, refl, refl, refl), ((refl, refl, refl, refl), ((refl, refl, refl, refl), ((refl, refl, refl, refl), ((refl, refl, refl), ((refl, refl, refl), ((refl, refl, refl), ((refl, refl, refl), ((refl, refl), ((refl, refl), ((refl, refl), tt)))))))))))))

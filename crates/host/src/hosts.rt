@@ -1,10 +1,10 @@
 // Host-ports.
 use hostlists::list;
 use hostlists::list::Hosts;
-use hostports::hosts;
-use hostports::hosts::Step;
+use hostports::host_port;
+use hostports::host_port::ParsedHostPort;
 ghost use mathlib.Core.Path.{_≡_};
-ghost use Rattle.hostlists.specs.HostList.{fillOf, leftBy};
+ghost use Rattle.hostlists.specs.HostList.{fillOf, fillAfter};
 ghost use Rattle.hostports.specs.HostPort.{hostPortAt};
 ghost use Rattle.host.specs.Hosts.{listOf, foundOf};
 
@@ -19,15 +19,15 @@ pub struct List {
 pub struct Found {
     // address * 65,536 + port.
     pub value: u64,
-    // The place behind it.
+    // The place after it.
     pub next: usize,
-    // 1 where a host-port stands at the place, else 0.
+    // 1 where a host-port is at the place, else 0.
     pub found: u8,
 }
 
 #[no_mangle]
 pub extern "C" fn cob_hosts_read(text: &[u8], list: &mut [u64]) -> List
-    ensures { λ r. ⌜ (r ≡ listOf (fillOf (now (text .entry)) (now (list .entry)))) × (now (list .exit) ≡ leftBy (now (text .entry)) (now (list .entry))) ⌝ }
+    ensures { λ r. ⌜ (r ≡ listOf (fillOf (now (text .entry)) (now (list .entry)))) × (now (list .exit) ≡ fillAfter (now (text .entry)) (now (list .entry))) ⌝ }
 {
     let answer = list::fill(text, list);
     match answer {
@@ -47,14 +47,14 @@ pub extern "C" fn cob_hosts_read(text: &[u8], list: &mut [u64]) -> List
 pub extern "C" fn cob_host_at(text: &[u8], at: usize) -> Found
     ensures { λ r. ⌜ r ≡ foundOf (hostPortAt (now (text .entry)) at) ⌝ }
 {
-    let step = hosts::step_at(text, at);
-    match step {
-        Step::Host { value, next } => Found {
+    let parsed = host_port::read_at(text, at);
+    match parsed {
+        ParsedHostPort::HostPort { value, next } => Found {
             value: value,
             next: next,
             found: 1,
         },
-        Step::Malformed => Found {
+        ParsedHostPort::Malformed => Found {
             value: 0,
             next: 0,
             found: 0,

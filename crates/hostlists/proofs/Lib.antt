@@ -1,3 +1,3 @@
 pub mod HostList
-pub mod ListTexts
+pub mod HostListsRead
 pub mod HostLists

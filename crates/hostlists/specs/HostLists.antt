@@ -5,13 +5,13 @@ use mathlib.Core.Logic.{_⊎_}
 use mathlib.Core.List.{List, [], _∷_, _++_}
 use lib.ListN.{length, replicate}
 use Rattle.hostports.specs.HostPorts.{HostPortText, written, address, port}
-use Rattle.hostlists.specs.HostList.{listed, trouble, hostsOf, fillOf, leftBy, number, count}
+use Rattle.hostlists.specs.HostList.{parsed, trouble, hostsOf, fillOf, fillAfter, number, count}
 
 -- host-ports as they are written, one space between
-unfoldable pub spaced : List HostPortText → List ℕ
-spaced [] = []
-spaced (h ∷ []) = written h
-spaced (h ∷ i ∷ hs) = written h ++ 32 ∷ spaced (i ∷ hs)
+unfoldable pub withSpaces : List HostPortText → List ℕ
+withSpaces [] = []
+withSpaces (h ∷ []) = written h
+withSpaces (h ∷ i ∷ hs) = written h ++ 32 ∷ withSpaces (i ∷ hs)
 
 -- what a host-port becomes, and what each of a list does
 abbrev pub value : HostPortText → ℕ
@@ -26,7 +26,7 @@ pub record ListText (text : List ℕ) : Type 0 where
   pub hosts : List HostPortText
   pub one-or-more : 1 ≤ length hosts
   pub at-most-64 : length hosts ≤ 64
-  pub says : text ≡ spaced hosts
+  pub says : text ≡ withSpaces hosts
 
 -- a text with a space and a further byte after its 64th host-port
 pub record LongerText (text : List ℕ) : Type 0 where
@@ -34,15 +34,15 @@ pub record LongerText (text : List ℕ) : Type 0 where
   pub further : ℕ
   pub rest : List ℕ
   pub are-64 : length hosts ≡ 64
-  pub says : text ≡ spaced hosts ++ (32 ∷ further ∷ rest)
+  pub says : text ≡ withSpaces hosts ++ (32 ∷ further ∷ rest)
 
 -- what a text is read as
 pub record HostLists : Type 0 where
   -- a text that is a list has 1 to 64 host-ports
-  pub one-to-64 : (text vs : List ℕ) → hostsOf text ≡ listed vs → (1 ≤ length vs) × (length vs ≤ 64)
+  pub one-to-64 : (text vs : List ℕ) → hostsOf text ≡ parsed vs → (1 ≤ length vs) × (length vs ≤ 64)
   -- a list is read as its host-ports, and nothing else is read as a list
-  pub list-reads : (text : List ℕ) (l : ListText text) → hostsOf text ≡ listed (values (l .hosts))
-  pub only-lists : (text vs : List ℕ) → hostsOf text ≡ listed vs → (l : ListText text) × (vs ≡ values (l .hosts))
+  pub list-reads : (text : List ℕ) (l : ListText text) → hostsOf text ≡ parsed (values (l .hosts))
+  pub only-lists : (text vs : List ℕ) → hostsOf text ≡ parsed vs → (l : ListText text) × (vs ≡ values (l .hosts))
   -- 42: after the 64th come a space and a further byte, and only there
   pub longer-42 : (text : List ℕ) → LongerText text → hostsOf text ≡ trouble 42
   pub only-longer : (text : List ℕ) → hostsOf text ≡ trouble 42 → LongerText text
@@ -57,14 +57,14 @@ TooShort list = length list < 64
 -- what filling a lent list answers, and what it leaves there: 43 first, then what the text is
 pub record Filling : Type 0 where
   -- 43: a list lent with fewer than 64 entries stays as it is
-  pub number-43 : (text list : List ℕ) → TooShort list → (number (fillOf text list) ≡ 43) × (count (fillOf text list) ≡ 0) × (leftBy text list ≡ list)
+  pub number-43 : (text list : List ℕ) → TooShort list → (number (fillOf text list) ≡ 43) × (count (fillOf text list) ≡ 0) × (fillAfter text list ≡ list)
   -- 41 and 42: the whole list is zero
   pub number-41 : (text list : List ℕ) → (TooShort list → ⊥) → (ListText text → ⊥) → (LongerText text → ⊥)
-      → (number (fillOf text list) ≡ 41) × (count (fillOf text list) ≡ 0) × (leftBy text list ≡ replicate (length list) 0)
+      → (number (fillOf text list) ≡ 41) × (count (fillOf text list) ≡ 0) × (fillAfter text list ≡ replicate (length list) 0)
   pub number-42 : (text list : List ℕ) → (TooShort list → ⊥) → LongerText text
-      → (number (fillOf text list) ≡ 42) × (count (fillOf text list) ≡ 0) × (leftBy text list ≡ replicate (length list) 0)
+      → (number (fillOf text list) ≡ 42) × (count (fillOf text list) ≡ 0) × (fillAfter text list ≡ replicate (length list) 0)
   -- else how many host-ports there are, and the list has them and then zeros
   pub number-0 : (text list : List ℕ) → (TooShort list → ⊥) → (l : ListText text)
       → (number (fillOf text list) ≡ 0)
       × (count (fillOf text list) ≡ length (l .hosts))
-      × (leftBy text list ≡ values (l .hosts) ++ replicate (length list - length (l .hosts)) 0)
+      × (fillAfter text list ≡ values (l .hosts) ++ replicate (length list - length (l .hosts)) 0)

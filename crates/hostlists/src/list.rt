@@ -1,11 +1,11 @@
 // A list of host-ports, stored in a list that is lent.
-use hostports::hosts;
-use hostports::hosts::Step;
+use hostports::host_port;
+use hostports::host_port::ParsedHostPort;
 use octets::entries;
 ghost use mathlib.Core.Path.{_≡_};
 ghost use Prim.Native.Nat.{_≤_};
 ghost use lib.ListN.{length};
-ghost use Rattle.hostlists.specs.HostList.{hostLimit, Stored, emptied, fillOf, leftBy};
+ghost use Rattle.hostlists.specs.HostList.{hostLimit, StoreResult, clearAfter, fillOf, fillAfter};
 
 // The most host-ports of a list, and the fewest entries that may be lent.
 pub const HOST_LIMIT: usize = 64;
@@ -21,13 +21,13 @@ pub enum Hosts {
 // Reads the text from its start, storing each host-port as it comes.
 fn store(text: &[u8], list: &mut [u64]) -> Hosts
     requires { ⌜ hostLimit ≤ length (now list) ⌝ }
-    ensures { λ r. ⌜ Stored (now (text .entry)) r (now (list .exit)) ⌝ }
+    ensures { λ r. ⌜ StoreResult (now (text .entry)) r (now (list .exit)) ⌝ }
 {
     let mut at = 0;
     let mut n = 0;
     while n < HOST_LIMIT {
-        let found = hosts::step_at(text, at);
-        let Step::Host { value, next } = found else {
+        let found = host_port::read_at(text, at);
+        let ParsedHostPort::HostPort { value, next } = found else {
             return Hosts::Refused(41);
         };
         list[n] = value;
@@ -48,7 +48,7 @@ fn store(text: &[u8], list: &mut [u64]) -> Hosts
 
 // Zero in every entry from one on.
 fn clear(list: &mut [u64], from: usize)
-    ensures { λ _. ⌜ now (list .exit) ≡ emptied from (now (list .entry)) ⌝ }
+    ensures { λ _. ⌜ now (list .exit) ≡ clearAfter from (now (list .entry)) ⌝ }
 {
     if from < list.len() {
         entries::clear(&mut list[from..]);
@@ -57,7 +57,7 @@ fn clear(list: &mut [u64], from: usize)
 
 // Fills the lent list with the text's host-ports. Every entry that holds none is zero afterwards, and where the text is refused all are.
 pub fn fill(text: &[u8], list: &mut [u64]) -> Hosts
-    ensures { λ r. ⌜ (r ≡ fillOf (now (text .entry)) (now (list .entry))) × (now (list .exit) ≡ leftBy (now (text .entry)) (now (list .entry))) ⌝ }
+    ensures { λ r. ⌜ (r ≡ fillOf (now (text .entry)) (now (list .entry))) × (now (list .exit) ≡ fillAfter (now (text .entry)) (now (list .entry))) ⌝ }
 {
     if list.len() < HOST_LIMIT {
         return Hosts::Refused(43);

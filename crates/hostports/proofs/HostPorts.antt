@@ -2,15 +2,15 @@
 use Prim.Native.Nat.{ℕ, _^_}
 use mathlib.Core.Path.{_≡_, refl, subst}
 use mathlib.Core.List.{List}
-use Rattle.hostports.specs.declared.hosts.Step.{Step}
-use Rattle.hostports.specs.declared.hosts.Step.the-variants.{Host, Malformed}
+use Rattle.hostports.specs.declared.host_port.ParsedHostPort.{ParsedHostPort}
+use Rattle.hostports.specs.declared.host_port.ParsedHostPort.the-variants.{HostPort, Malformed}
 use Rattle.hostports.specs.HostPort.{hostPortAt, number, valueOf, placeAfter}
 use Rattle.hostports.specs.HostPorts.{HostPortText, WrittenAt, HostPorts}
 use Rattle.hostports.proofs.HostPort.{Within, within-host-port}
-use Rattle.hostports.proofs.WrittenReads.{six-written}
-use Rattle.hostports.proofs.ReadsWritten.{six-read}
+use Rattle.hostports.proofs.HostPortsWritten.{six-written}
+use Rattle.hostports.proofs.HostPortsRead.{six-read}
 
-numbered-0 : (s : Step) (v next : ℕ) → s ≡ Host v next → (number s ≡ 0) × (valueOf s ≡ v) × (placeAfter s ≡ next)
+numbered-0 : (s : ParsedHostPort) (v next : ℕ) → s ≡ HostPort v next → (number s ≡ 0) × (valueOf s ≡ v) × (placeAfter s ≡ next)
 unfolding number valueOf placeAfter
 numbered-0 s v next e = (rw e, rw e, rw e)
 
@@ -19,9 +19,9 @@ numbered-41 : (text : List ℕ) (at : ℕ) → ((h : HostPortText) → WrittenAt
 unfolding number valueOf placeAfter
 numbered-41 text at none = go (hostPortAt text at) refl
   where
-    go : (s : Step) → hostPortAt text at ≡ s → (number s ≡ 41) × (valueOf s ≡ 0) × (placeAfter s ≡ 0)
+    go : (s : ParsedHostPort) → hostPortAt text at ≡ s → (number s ≡ 41) × (valueOf s ≡ 0) × (placeAfter s ≡ 0)
     go Malformed e = (refl, refl, refl)
-    go (Host v next) e = let f = six-read text at v next e in absurd (none (f .0) (f .1))
+    go (HostPort v next) e = let f = six-read text at v next e in absurd (none (f .0) (f .1))
 
 pub host-ports : HostPorts
 host-ports =

@@ -1,5 +1,5 @@
-mod Held
+mod ReaderLaws
 pub mod HostPort
-pub mod WrittenReads
-pub mod ReadsWritten
+pub mod HostPortsWritten
+pub mod HostPortsRead
 pub mod HostPorts

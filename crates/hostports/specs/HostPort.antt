@@ -4,9 +4,12 @@ use mathlib.Core.Bool.{cond, _&&_}
 use mathlib.Core.List.{List}
 use lib.Dec.{leb, eqb}
 use lib.ListN.{getD, take, drop}
-use Rattle.octets.specs.Decimal.{digitRun, numberOf}
-use Rattle.hostports.specs.declared.hosts.Step.{Step}
-use Rattle.hostports.specs.declared.hosts.Step.the-variants.{Host, Malformed}
+use Rattle.octets.specs.Decimal.{numberOf}
+use Rattle.octets.specs.Text.{isDigit, leading}
+use Rattle.hostports.specs.declared.host_port.ParsedNumber.{ParsedNumber}
+use Rattle.hostports.specs.declared.host_port.ParsedNumber.the-variants.{Number, Malformed as NoNumber}
+use Rattle.hostports.specs.declared.host_port.ParsedHostPort.{ParsedHostPort}
+use Rattle.hostports.specs.declared.host_port.ParsedHostPort.the-variants.{HostPort, Malformed}
 
 -- the byte between two numbers
 abbrev pub comma : ℕ
@@ -19,38 +22,38 @@ digitLimit = 3
 abbrev pub valueLimit : ℕ
 valueLimit = 255
 
--- one number at a place: 1 to 3 digits, at most 255. The step says its value and the place after it.
-unfoldable pub numberAt : List ℕ → ℕ → Step
+-- one number at a place: 1 to 3 digits, at most 255; its value and the place after it
+unfoldable pub numberAt : List ℕ → ℕ → ParsedNumber
 numberAt text at =
-    let k = digitRun (drop at text) in
+    let k = leading isDigit (drop at text) in
     let n = numberOf (take k (drop at text)) in
-    cond (leb 1 k && (leb k digitLimit && leb n valueLimit)) (Host n (at + k)) Malformed
+    cond (leb 1 k && (leb k digitLimit && leb n valueLimit)) (Number n (at + k)) NoNumber
 
--- a number after another: each counts 256 times the next
-unfoldable pub joined : ℕ → Step → Step
-joined v Malformed = Malformed
-joined v (Host w next) = Host (v * 256 + w) next
+-- what a number makes with what comes after it: nothing well formed where it is none
+unfoldable pub andThen : ParsedNumber → (ℕ → ℕ → ParsedHostPort) → ParsedHostPort
+andThen NoNumber on = Malformed
+andThen (Number v next) on = on v next
 
--- what a step says, with n more numbers after it, a comma before each
-unfoldable pub moreAt : ℕ → List ℕ → Step → Step
-moreAt zero text s = s
-moreAt (suc n) text Malformed = Malformed
-moreAt (suc n) text (Host v at) = moreAt n text (cond (eqb (getD text at 0) comma) (joined v (numberAt text (at + 1))) Malformed)
+-- the numbers so far make v and end before a place; n more come after them, a comma before each. Each counts 256 times the next.
+unfoldable pub moreAt : ℕ → List ℕ → ℕ → ℕ → ParsedHostPort
+moreAt zero text v at = HostPort v at
+moreAt (suc n) text v at =
+    cond (eqb (getD text at 0) comma) (andThen (numberAt text (at + 1)) (λ w next. moreAt n text (v * 256 + w) next)) Malformed
 
 -- six numbers, which make address * 65,536 + port
-unfoldable pub hostPortAt : List ℕ → ℕ → Step
-hostPortAt text at = moreAt 5 text (numberAt text at)
+unfoldable pub hostPortAt : List ℕ → ℕ → ParsedHostPort
+hostPortAt text at = andThen (numberAt text at) (moreAt 5 text)
 
--- document 01's number for each case of a step, 0 where nothing is refused
-unfoldable pub number : Step → ℕ
-number (Host v next) = 0
+-- document 01's number for each case, 0 where nothing is refused
+unfoldable pub number : ParsedHostPort → ℕ
+number (HostPort v next) = 0
 number Malformed = 41
 
 -- the values of each case: the host-port, and the place after it; 0 where there is none
-unfoldable pub valueOf : Step → ℕ
-valueOf (Host v next) = v
+unfoldable pub valueOf : ParsedHostPort → ℕ
+valueOf (HostPort v next) = v
 valueOf Malformed = 0
 
-unfoldable pub placeAfter : Step → ℕ
-placeAfter (Host v next) = next
+unfoldable pub placeAfter : ParsedHostPort → ℕ
+placeAfter (HostPort v next) = next
 placeAfter Malformed = 0

@@ -4,15 +4,16 @@ use mathlib.Core.Path.{_≡_}
 use mathlib.Core.Bool.{true, false}
 use mathlib.Core.List.{List, [], _∷_, _++_}
 use lib.ListN.{length, drop}
-use Rattle.octets.specs.Decimal.{isDigit, digitsOnly, numberOf}
-use Rattle.hostports.specs.declared.hosts.Step.the-variants.{Host}
+use Rattle.octets.specs.Decimal.{numberOf}
+use Rattle.octets.specs.Text.{isDigit, all}
+use Rattle.hostports.specs.declared.host_port.ParsedHostPort.the-variants.{HostPort}
 use Rattle.hostports.specs.HostPort.{hostPortAt, number, valueOf, placeAfter}
 
 -- a number of at most 255, written in 1 to 3 digits, leading zeros being fine
 pub record Numeral : Type 0 where
   pub text : List ℕ
   pub value : ℕ
-  pub digits : digitsOnly text ≡ true
+  pub digits : all isDigit text ≡ true
   pub one-or-more : 1 ≤ length text
   pub at-most-three : length text ≤ 3
   pub says : numberOf text ≡ value
@@ -52,9 +53,9 @@ pub record WrittenAt (text : List ℕ) (at : ℕ) (h : HostPortText) : Type 0 wh
 pub record HostPorts : Type 0 where
   -- six numbers with commas between, at any place of a text, with nothing or a byte that is no digit after them, are a host-port:
   -- address * 65,536 + port, and the place after it
-  pub written-reads : (text : List ℕ) (at : ℕ) (h : HostPortText) → WrittenAt text at h → hostPortAt text at ≡ Host (address h * 65536 + port h) (at + length (written h))
+  pub written-reads : (text : List ℕ) (at : ℕ) (h : HostPortText) → WrittenAt text at h → hostPortAt text at ≡ HostPort (address h * 65536 + port h) (at + length (written h))
   -- whatever reads as a host-port is written so
-  pub reads-written : (text : List ℕ) (at v next : ℕ) → hostPortAt text at ≡ Host v next
+  pub reads-written : (text : List ℕ) (at v next : ℕ) → hostPortAt text at ≡ HostPort v next
       → (h : HostPortText) × WrittenAt text at h × (v ≡ address h * 65536 + port h) × (next ≡ at + length (written h))
   -- the number is 0 where a host-port is written at the place, with its values
   pub number-0 : (text : List ℕ) (at : ℕ) (h : HostPortText) → WrittenAt text at h
@@ -63,4 +64,4 @@ pub record HostPorts : Type 0 where
   pub number-41 : (text : List ℕ) (at : ℕ) → ((h : HostPortText) → WrittenAt text at h → ⊥)
       → (number (hostPortAt text at) ≡ 41) × (valueOf (hostPortAt text at) ≡ 0) × (placeAfter (hostPortAt text at) ≡ 0)
   -- whatever text it is read from, a host-port fits 48 bits
-  pub fits-48-bits : (text : List ℕ) (at v next : ℕ) → hostPortAt text at ≡ Host v next → v < 2 ^ 48
+  pub fits-48-bits : (text : List ℕ) (at v next : ℕ) → hostPortAt text at ≡ HostPort v next → v < 2 ^ 48

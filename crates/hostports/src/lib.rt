@@ -1,2 +1,2 @@
 // The control channel's host-ports, one by one (document 01, "Control lines").
-pub mod hosts;
+pub mod host_port;

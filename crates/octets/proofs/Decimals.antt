@@ -1,20 +1,21 @@
 -- The laws of decimal text: how many digits a number has, and that reading and writing undo each other.
 use Prim.Native.Nat.{ℕ, zero, suc, _+_, _*_, _/_, _%_, _^_, _≤_, _<_}
 use mathlib.Core.Path.{_≡_, refl, sym, ap, _∙_}
-use mathlib.Core.Bool.{Bool, true, false, _&&_, not, and-eq-true-iff, and-assoc, and-false, and-true, false≢true}
+use mathlib.Core.Bool.{Bool, true, false, _&&_, not, and-eq-true-iff, and-true, false≢true}
 use mathlib.Core.Logic.{_⊎_, inl, inr}
 use mathlib.Core.List.{List, [], _∷_, _++_, map, map-append}
 use native.Mathlib.Omega.{arith}
 use native.Mathlib.Numerals.{add-one}
 use native.Mathlib.Nat.{pow-suc, one-le-pow, le-refl, mod-eq-of-lt}
 use native.Mathlib.Decide.{decLt}
-use borrow.Author.Tests.{lt-ltb, le-ltb, le-leb, lt-leb, leb-true, ne-eqb, eqb-false, not-true}
-use lib.Dec.{leb, ltb, eqb}
+use borrow.Author.Tests.{lt-ltb, le-ltb, lt-leb, ne-eqb, eqb-false, not-true}
+use lib.Dec.{leb, eqb}
 use lib.ListN.{length, getD, take, drop, length-map, take-append-drop}
-use lib.Seq.{take-suc, drop-cons}
+use lib.Seq.{take-suc}
 use Rattle.octets.specs.Digits.{Below, fromBig, toBig, toLittle}
-use Rattle.octets.specs.Decimal.{isDigit, digitsOnly, digitRun, numberOf, widthBy, width, inDigits, decimal, plain, readOf, digitValue, digitByte}
-use Rattle.octets.specs.declared.decimal.Number.the-variants.{Value, Nothing}
+use Rattle.octets.specs.Decimal.{numberOf, widthBy, width, inDigits, decimal, plain, digitValue, digitByte}
+use Rattle.octets.specs.Text.{isDigit, all}
+use Rattle.octets.proofs.Texts.{between-true, true-between, all-append}
 use Rattle.octets.proofs.Digits.{length-toBig, fromBig-snoc, fromBig-grows, fromBig-lt, fromBig-first, toBig-suc, below-toBig, big-reads-back, big-writes-back}
 
 -- ---- how many digits
@@ -117,58 +118,26 @@ numberOf-more text i h =
 
 -- ---- a text of digits
 
-pub digitsOnly-append : (xs ys : List ℕ) → digitsOnly (xs ++ ys) ≡ (digitsOnly xs && digitsOnly ys)
-unfolding digitsOnly
-digitsOnly-append [] ys = refl
-digitsOnly-append (x ∷ xs) ys = rw (digitsOnly-append xs ys) (sym (and-assoc (isDigit x) (digitsOnly xs) (digitsOnly ys)))
-
-pub digit-is : (b : ℕ) → 48 ≤ b → b ≤ 57 → isDigit b ≡ true
-digit-is b h g = rw (le-leb 48 b h, le-leb b 57 g)
-
-pub digit-bounds : (b : ℕ) → isDigit b ≡ true → (48 ≤ b) × (b ≤ 57)
-digit-bounds b h =
-    let p = and-eq-true-iff (leb 48 b) (leb b 57) .0 h in
-    (leb-true 48 b (p .0), leb-true b 57 (p .1))
-
--- a byte that is none spoils the text
-pub digitsOnly-not : (text : List ℕ) (i : ℕ) → i < length text → isDigit (getD text i 0) ≡ false → digitsOnly text ≡ false
-unfolding digitsOnly
-digitsOnly-not [] i h e = absurd (omega arith)
-digitsOnly-not (b ∷ bs) zero h e = rw e
-digitsOnly-not (b ∷ bs) (suc i) h e = rw (digitsOnly-not bs i (omega arith) e) (and-false (isDigit b))
-
 digit-byte : (d : ℕ) → d < 10 → isDigit (digitByte d) ≡ true
-digit-byte d h = digit-is (digitByte d) (omega arith) (omega arith)
+digit-byte d h = between-true 48 57 (digitByte d) (omega arith) (omega arith)
 
-digits-bytes : (ds : List ℕ) → Below 10 ds → digitsOnly (map digitByte ds) ≡ true
-unfolding digitsOnly
+digits-bytes : (ds : List ℕ) → Below 10 ds → all isDigit (map digitByte ds) ≡ true
+unfolding all
 digits-bytes [] h = refl
 digits-bytes (d ∷ ds) h = rw (digit-byte d (h .0), digits-bytes ds (h .1))
 
-pub digitsOnly-inDigits : (w n : ℕ) → digitsOnly (inDigits w n) ≡ true
+pub all-inDigits : (w n : ℕ) → all isDigit (inDigits w n) ≡ true
 unfolding inDigits
-digitsOnly-inDigits w n = digits-bytes (toBig 10 w n) (below-toBig 10 w n (omega arith))
+all-inDigits w n = digits-bytes (toBig 10 w n) (below-toBig 10 w n (omega arith))
 
-values-below : (text : List ℕ) → digitsOnly text ≡ true → Below 10 (map digitValue text)
-unfolding digitsOnly
+values-below : (text : List ℕ) → all isDigit text ≡ true → Below 10 (map digitValue text)
+unfolding all
 values-below [] h = tt
 values-below (b ∷ bs) h =
-    let p = and-eq-true-iff (isDigit b) (digitsOnly bs) .0 h in
-    (omega (arith, digit-bounds b (p .0)), values-below bs (p .1))
+    let p = and-eq-true-iff (isDigit b) (all isDigit bs) .0 h in
+    (omega (arith, true-between 48 57 b (p .0)), values-below bs (p .1))
 
 -- ---- reading a text from its front
-
-pub digitRun-stops : (text : List ℕ) (i : ℕ) → i < length text → isDigit (getD text i 0) ≡ false → digitRun (drop i text) ≡ 0
-unfolding digitRun
-digitRun-stops text i h e = rw (drop-cons text i 0, e)
-
-pub digitRun-goes : (text : List ℕ) (i : ℕ) → i < length text → isDigit (getD text i 0) ≡ true → digitRun (drop i text) ≡ suc (digitRun (drop (i + 1) text))
-unfolding digitRun
-digitRun-goes text i h e = rw (drop-cons text i 0, e, add-one i)
-
-pub digitsOnly-more : (text : List ℕ) (i : ℕ) → i < length text → isDigit (getD text i 0) ≡ true → digitsOnly (take i text) ≡ true → digitsOnly (take (i + 1) text) ≡ true
-unfolding digitsOnly
-digitsOnly-more text i h e d = rw (add-one i, take-suc text i 0, digitsOnly-append (take i text) (getD text i 0 ∷ []), e, d)
 
 -- a first part that says more than the limit settles it
 pub numberOf-above : (text : List ℕ) (i limit : ℕ) → limit < numberOf (take i text) → leb (numberOf text) limit ≡ false
@@ -187,12 +156,12 @@ values-of-bytes (d ∷ ds) =
     let e : digitValue (digitByte d) ≡ d = omega arith in
     rw (e, values-of-bytes ds)
 
-bytes-of-values : (text : List ℕ) → digitsOnly text ≡ true → map digitByte (map digitValue text) ≡ text
-unfolding digitsOnly
+bytes-of-values : (text : List ℕ) → all isDigit text ≡ true → map digitByte (map digitValue text) ≡ text
+unfolding all
 bytes-of-values [] h = refl
 bytes-of-values (b ∷ bs) h =
-    let p = and-eq-true-iff (isDigit b) (digitsOnly bs) .0 h in
-    let e : digitByte (digitValue b) ≡ b = omega (arith, digit-bounds b (p .0)) in
+    let p = and-eq-true-iff (isDigit b) (all isDigit bs) .0 h in
+    let e : digitByte (digitValue b) ≡ b = omega (arith, true-between 48 57 b (p .0)) in
     rw (e, bytes-of-values bs (p .1))
 
 -- written in enough digits, leading zeros or not, it reads back
@@ -205,29 +174,29 @@ unfolding decimal
 decimal-reads-back n = inDigits-reads-back (width n) n (width-fits n)
 
 -- a text of digits is a number in as many digits as it has
-pub inDigits-writes-back : (text : List ℕ) → digitsOnly text ≡ true → inDigits (length text) (numberOf text) ≡ text
+pub inDigits-writes-back : (text : List ℕ) → all isDigit text ≡ true → inDigits (length text) (numberOf text) ≡ text
 unfolding numberOf inDigits
 inDigits-writes-back text h =
     rw (← length-map text digitValue) (ap (map digitByte) (big-writes-back 10 (map digitValue text) (values-below text h)) ∙ bytes-of-values text h)
 
-pub numberOf-lt : (text : List ℕ) → digitsOnly text ≡ true → numberOf text < 10 ^ length text
+pub numberOf-lt : (text : List ℕ) → all isDigit text ≡ true → numberOf text < 10 ^ length text
 unfolding numberOf
 numberOf-lt text h = rw (length-map text digitValue) at (fromBig-lt 10 (map digitValue text) (values-below text h))
 
 -- the digits of a text without leading zeros are those of its number
-plain-digits : (text : List ℕ) → plain text ≡ true → digitsOnly text ≡ true
-unfolding plain digitsOnly
+plain-digits : (text : List ℕ) → plain text ≡ true → all isDigit text ≡ true
+unfolding plain all
 plain-digits [] h = refl
 plain-digits (b ∷ []) h = rw h
-plain-digits (b ∷ c ∷ rest) h = and-eq-true-iff (not (eqb b 48)) (digitsOnly (b ∷ c ∷ rest)) .0 h .1
+plain-digits (b ∷ c ∷ rest) h = and-eq-true-iff (not (eqb b 48)) (all isDigit (b ∷ c ∷ rest)) .0 h .1
 
-first-above : (b : ℕ) (bs : List ℕ) → not (eqb b 48) && digitsOnly (b ∷ bs) ≡ true → 0 < digitValue b
-unfolding digitsOnly
+first-above : (b : ℕ) (bs : List ℕ) → not (eqb b 48) && all isDigit (b ∷ bs) ≡ true → 0 < digitValue b
+unfolding all
 first-above b bs h =
-    let p = and-eq-true-iff (not (eqb b 48)) (digitsOnly (b ∷ bs)) .0 h in
-    let q = and-eq-true-iff (isDigit b) (digitsOnly bs) .0 (p .1) in
+    let p = and-eq-true-iff (not (eqb b 48)) (all isDigit (b ∷ bs)) .0 h in
+    let q = and-eq-true-iff (isDigit b) (all isDigit bs) .0 (p .1) in
     let ne : ¬ (b ≡ 48) = eqb-false b 48 (not-true (eqb b 48) (p .0)) in
-    omega (arith, digit-bounds b (q .0))
+    omega (arith, true-between 48 57 b (q .0))
 
 plain-width : (text : List ℕ) → plain text ≡ true → width (numberOf text) ≡ length text
 unfolding plain numberOf
@@ -247,23 +216,23 @@ decimal-writes-back text h = rw (plain-width text h) (inDigits-writes-back text 
 -- a text of digits whose first is not 0
 leads : List ℕ → Bool
 leads [] = false
-leads (b ∷ bs) = not (eqb b 48) && digitsOnly (b ∷ bs)
+leads (b ∷ bs) = not (eqb b 48) && all isDigit (b ∷ bs)
 
 leads-more : (text : List ℕ) (d : ℕ) → d < 10 → leads text ≡ true → leads (text ++ (digitByte d ∷ [])) ≡ true
-unfolding leads digitsOnly
+unfolding leads all
 leads-more [] d h e = absurd (false≢true e)
 leads-more (b ∷ bs) d h e =
-    let p = and-eq-true-iff (not (eqb b 48)) (digitsOnly (b ∷ bs)) .0 e in
-    rw (p .0, digitsOnly-append bs (digitByte d ∷ []), digit-byte d h, and-true (digitsOnly bs)) (p .1)
+    let p = and-eq-true-iff (not (eqb b 48)) (all isDigit (b ∷ bs)) .0 e in
+    rw (p .0, all-append isDigit bs (digitByte d ∷ []), digit-byte d h, and-true (all isDigit bs)) (p .1)
 
 leads-plain : (text : List ℕ) → leads text ≡ true → plain text ≡ true
-unfolding leads plain digitsOnly
+unfolding leads plain all
 leads-plain [] h = h
 leads-plain (b ∷ []) h = and-eq-true-iff (isDigit b) true .0 (and-eq-true-iff (not (eqb b 48)) (isDigit b && true) .0 h .1) .0
 leads-plain (b ∷ c ∷ rest) h = h
 
 leads-small : (n : ℕ) → n < 10 → 0 < n → leads (decimal n) ≡ true
-unfolding leads digitsOnly
+unfolding leads all
 leads-small n h g = rw (decimal-small n h, ne-eqb (digitByte n) 48 (omega arith), digit-byte n h)
 
 decimal-leads : (k n : ℕ) → n ≤ k → 0 < n → leads (decimal n) ≡ true

@@ -6,14 +6,14 @@ use mathlib.Core.List.{List}
 use native.Mathlib.Omega.{arith}
 use lib.ListN.{length, take}
 use lib.Seq.{take-all}
-use Rattle.octets.specs.Digits.{Below, fromLittle, fromBig, toLittle, toBig}
+use Rattle.octets.specs.Digits.{fromLittle, fromBig, toLittle, toBig}
 use Rattle.octets.specs.Decimal.{readOf, width, inDigits, decimal, plain}
 use Rattle.octets.specs.RoundTrip.{RoundTrip}
 use Rattle.octets.specs.declared.decimal.Number.the-variants.{Value}
 use Rattle.octets.proofs.Digits
 use Rattle.octets.proofs.Digits.{length-toLittle, length-toBig}
 use Rattle.octets.proofs.Decimals
-use Rattle.octets.proofs.Decimals.{decimal-is-plain, digitsOnly-inDigits, inDigits-reads-back, inDigits-writes-back, length-inDigits, width-fits, width-some}
+use Rattle.octets.proofs.Decimals.{decimal-is-plain, all-inDigits, inDigits-reads-back, inDigits-writes-back, length-inDigits, width-fits, width-some}
 use Rattle.octets.proofs.Readings.{readOf-value, readOf-read}
 
 -- ---- bytes: eight at most are all read
@@ -31,7 +31,7 @@ decimal-back : (n limit : ℕ) → n ≤ limit → readOf (inDigits (width n) n)
 decimal-back n limit h =
     let w = width n in
     let e = inDigits-reads-back w n (width-fits n) in
-    readOf-value (inDigits w n) limit (omega (arith, length-inDigits w n, width-some n)) (digitsOnly-inDigits w n) (omega (arith, e)) ∙ ap Value e
+    readOf-value (inDigits w n) limit (omega (arith, length-inDigits w n, width-some n)) (all-inDigits w n) (omega (arith, e)) ∙ ap Value e
 
 digits-back : (text : List ℕ) (n limit : ℕ) → readOf text limit ≡ Value n → inDigits (length text) n ≡ text
 digits-back text n limit h =

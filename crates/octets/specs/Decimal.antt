@@ -1,16 +1,13 @@
 -- A number in decimal: bytes 48 to 57, the most significant digit first.
 use Prim.Native.Nat.{ℕ, zero, suc, _+_, _-_, _/_}
-use mathlib.Core.Bool.{Bool, true, false, cond, _&&_, not}
+use mathlib.Core.Bool.{Bool, false, cond, _&&_, not}
 use mathlib.Core.List.{List, [], _∷_, map}
 use lib.Dec.{leb, ltb, eqb}
 use lib.ListN.{length}
 use Rattle.octets.specs.Digits.{fromBig, toBig}
+use Rattle.octets.specs.Text.{isDigit, all}
 use Rattle.octets.specs.declared.decimal.Number.{Number}
 use Rattle.octets.specs.declared.decimal.Number.the-variants.{Value, Nothing}
-
--- the byte is one of 48 to 57
-abbrev pub isDigit : ℕ → Bool
-isDigit b = leb 48 b && leb b 57
 
 -- what a digit says, and the byte of a digit
 abbrev pub digitValue : ℕ → ℕ
@@ -19,23 +16,13 @@ digitValue b = b - 48
 abbrev pub digitByte : ℕ → ℕ
 digitByte d = 48 + d
 
--- every byte of the text is a digit
-unfoldable pub digitsOnly : List ℕ → Bool
-digitsOnly [] = true
-digitsOnly (b ∷ bs) = isDigit b && digitsOnly bs
-
--- how many digits the text begins with
-unfoldable pub digitRun : List ℕ → ℕ
-digitRun [] = 0
-digitRun (b ∷ bs) = cond (isDigit b) (suc (digitRun bs)) 0
-
 -- the number that a text of digits says, in whole numbers
 unfoldable pub numberOf : List ℕ → ℕ
 numberOf text = fromBig 10 (map digitValue text)
 
 -- what reading a whole text answers: its number, where it is one digit or more and says at most the limit
 unfoldable pub readOf : List ℕ → ℕ → Number
-readOf text limit = cond (ltb 0 (length text) && (digitsOnly text && leb (numberOf text) limit)) (Value (numberOf text)) Nothing
+readOf text limit = cond (ltb 0 (length text) && (all isDigit text && leb (numberOf text) limit)) (Value (numberOf text)) Nothing
 
 -- how many digits n has without leading zeros, 0 having one. The first argument bounds the depth, and n itself is enough.
 unfoldable pub widthBy : ℕ → ℕ → ℕ
@@ -59,4 +46,4 @@ decimal n = inDigits (width n) n
 unfoldable pub plain : List ℕ → Bool
 plain [] = false
 plain (b ∷ []) = isDigit b
-plain (b ∷ c ∷ rest) = not (eqb b 48) && digitsOnly (b ∷ c ∷ rest)
+plain (b ∷ c ∷ rest) = not (eqb b 48) && all isDigit (b ∷ c ∷ rest)

@@ -5,7 +5,8 @@ use mathlib.Core.Logic.{_⊎_}
 use mathlib.Core.List.{List, [], _∷_, _++_}
 use lib.ListN.{length, getD}
 use Rattle.octets.specs.Digits.{fromLittle, fromBig}
-use Rattle.octets.specs.Decimal.{digitRun, numberOf, readOf}
+use Rattle.octets.specs.Decimal.{numberOf, readOf}
+use Rattle.octets.specs.Text.{isDigit, leading}
 use Rattle.octets.specs.declared.decimal.Number.the-variants.{Value, Nothing}
 
 pub record Reading : Type 0 where
@@ -26,6 +27,6 @@ pub record Reading : Type 0 where
   pub no-digit : (text : List ℕ) (limit i : ℕ) → i < length text → (getD text i 0 < 48) ⊎ (57 < getD text i 0) → readOf text limit ≡ Nothing
   pub above-limit : (text : List ℕ) (limit : ℕ) → limit < numberOf text → readOf text limit ≡ Nothing
   -- the digits that a text begins with: those before its first byte that is none, or all
-  pub run-fits : (text : List ℕ) → digitRun text ≤ length text
-  pub run-digits : (text : List ℕ) (i : ℕ) → i < digitRun text → (48 ≤ getD text i 0) × (getD text i 0 ≤ 57)
-  pub run-stops : (text : List ℕ) → digitRun text < length text → (getD text (digitRun text) 0 < 48) ⊎ (57 < getD text (digitRun text) 0)
+  pub run-fits : (text : List ℕ) → leading isDigit text ≤ length text
+  pub run-digits : (text : List ℕ) (i : ℕ) → i < leading isDigit text → (48 ≤ getD text i 0) × (getD text i 0 ≤ 57)
+  pub run-stops : (text : List ℕ) → leading isDigit text < length text → (getD text (leading isDigit text) 0 < 48) ⊎ (57 < getD text (leading isDigit text) 0)

@@ -1,35 +1,14 @@
 // Numbers in decimal digits, the most significant digit first.
+use crate::text::Kind;
+use crate::text::is_of;
 ghost use mathlib.Core.Path.{_≡_};
 ghost use lib.ListN.{length};
-ghost use Rattle.octets.specs.Decimal.{isDigit, digitRun, width, inDigits, readOf};
+ghost use Rattle.octets.specs.Decimal.{width, inDigits, readOf};
 
 // What a text says: a number, or nothing, where it is empty, has a byte that is no digit, or says more than the limit.
 pub enum Number {
     Value(u64),
     Nothing,
-}
-
-fn is_digit(b: u8) -> bool
-    ensures { λ r. ⌜ r ≡ isDigit b ⌝ }
-{
-    if b < 48 {
-        return false;
-    }
-    b <= 57
-}
-
-// How many digits the text begins with.
-pub fn run(text: &[u8]) -> usize
-    ensures { λ r. ⌜ r ≡ digitRun (now (text .entry)) ⌝ }
-{
-    let mut i = 0;
-    while i < text.len() {
-        if !is_digit(text[i]) {
-            return i;
-        }
-        i += 1;
-    }
-    i
 }
 
 // The number that the whole text says, at any length, where it is at most the limit.
@@ -43,7 +22,7 @@ pub fn read(text: &[u8], limit: u64) -> Number
     let mut i = 0;
     while i < text.len() {
         let b = text[i];
-        if !is_digit(b) {
+        if !is_of(Kind::Digit, b) {
             return Number::Nothing;
         }
         let d = (b - 48) as u64;

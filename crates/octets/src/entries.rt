@@ -1,4 +1,4 @@
-// Runs of numbers.
+// Lists of entries.
 ghost use mathlib.Core.Path.{_≡_};
 ghost use lib.ListN.{length, replicate};
 

@@ -1,6 +1,8 @@
-// Numbers in bytes and in decimal digits, and runs of numbers. Every function here is total: it reads or fills the whole part that it is lent.
+// Numbers in bytes and in decimal digits, the kinds of a text's bytes, and lists of entries. Every function takes any input: a reader of
+// bytes reads eight at most, a writer fills all that it is lent.
 pub mod big;
 pub mod decimal;
 pub mod entries;
 pub mod little;
+pub mod text;
 mod width;

@@ -1,4 +1,4 @@
-// The widest number that a u64 holds.
+// How many bytes are read as one number.
 ghost use mathlib.Core.Path.{_≡_};
 ghost use Prim.Native.Nat.{min};
 

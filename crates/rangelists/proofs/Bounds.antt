@@ -7,7 +7,8 @@ use native.Mathlib.Omega.{arith}
 use borrow.Author.Tests.{le-leb, lt-leb, leb-true, eq-eqb, ne-eqb, eqb-true}
 use lib.Dec.{leb, eqb}
 use lib.ListN.{length, getD, take, drop, List·getD-eq-default}
-use Rattle.octets.specs.Decimal.{digitRun, digitsOnly, numberOf, readOf}
+use Rattle.octets.specs.Decimal.{numberOf, readOf}
+use Rattle.octets.specs.Text.{isDigit, all, leading}
 use Rattle.octets.specs.declared.decimal.Number.the-variants.{Value, Nothing}
 use Rattle.octets.proofs.Readings.{digits-at, at-digits}
 use Rattle.rangelists.specs.RangeText.{endLimit, digitLimit, bound, boundOf, rangeOf}
@@ -44,9 +45,9 @@ bound-value text n h = go (bound text) h
 pub bound-is : (text : List ℕ) → bound text ≡ true → Bound text (numberOf text)
 unfolding bound
 bound-is text h =
-    let p = and-eq-true-iff (leb 1 (length text) && leb (length text) digitLimit) (digitsOnly text && leb (numberOf text) endLimit) .0 h in
+    let p = and-eq-true-iff (leb 1 (length text) && leb (length text) digitLimit) (all isDigit text && leb (numberOf text) endLimit) .0 h in
     let l = and-eq-true-iff (leb 1 (length text)) (leb (length text) digitLimit) .0 (p .0) in
-    let q = and-eq-true-iff (digitsOnly text) (leb (numberOf text) endLimit) .0 (p .1) in
+    let q = and-eq-true-iff (all isDigit text) (leb (numberOf text) endLimit) .0 (p .1) in
     record {
       shortest = leb-true 1 (length text) (l .0);
       longest = omega (arith, leb-true (length text) digitLimit (l .1));
@@ -68,50 +69,50 @@ is-bound text value h =
 -- ---- a range
 
 module _ (text : List ℕ) where
-  pub range-no-hyphen : (getD text (digitRun text) 0 ≡ 45 → ⊥) → rangeOf text ≡ Malformed
+  pub range-no-hyphen : (getD text (leading isDigit text) 0 ≡ 45 → ⊥) → rangeOf text ≡ Malformed
   unfolding rangeOf
-  range-no-hyphen n = rw (ne-eqb (getD text (digitRun text) 0) 45 n, and-false (bound (take (digitRun text) text)))
+  range-no-hyphen n = rw (ne-eqb (getD text (leading isDigit text) 0) 45 n, and-false (bound (take (leading isDigit text) text)))
 
-  pub range-short : length text ≤ digitRun text → rangeOf text ≡ Malformed
+  pub range-short : length text ≤ leading isDigit text → rangeOf text ≡ Malformed
   range-short h = range-no-hyphen (λ e. omega (arith, e, List·getD-eq-default text 0 h))
 
-  pub range-no-start : bound (take (digitRun text) text) ≡ false → rangeOf text ≡ Malformed
+  pub range-no-start : bound (take (leading isDigit text) text) ≡ false → rangeOf text ≡ Malformed
   unfolding rangeOf
   range-no-start e = rw e
 
-  module _ (a : bound (take (digitRun text) text) ≡ true) (h : getD text (digitRun text) 0 ≡ 45) where
-    pub range-no-end : bound (drop (suc (digitRun text)) text) ≡ false → rangeOf text ≡ Malformed
+  module _ (a : bound (take (leading isDigit text) text) ≡ true) (h : getD text (leading isDigit text) 0 ≡ 45) where
+    pub range-no-end : bound (drop (suc (leading isDigit text)) text) ≡ false → rangeOf text ≡ Malformed
     unfolding rangeOf
-    range-no-end e = rw (a, eq-eqb (getD text (digitRun text) 0) 45 h, e)
+    range-no-end e = rw (a, eq-eqb (getD text (leading isDigit text) 0) 45 h, e)
 
-    module _ (b : bound (drop (suc (digitRun text)) text) ≡ true) where
-      pub range-falling : numberOf (drop (suc (digitRun text)) text) < numberOf (take (digitRun text) text) → rangeOf text ≡ Malformed
+    module _ (b : bound (drop (suc (leading isDigit text)) text) ≡ true) where
+      pub range-falling : numberOf (drop (suc (leading isDigit text)) text) < numberOf (take (leading isDigit text) text) → rangeOf text ≡ Malformed
       unfolding rangeOf
       range-falling l =
-          rw (a, eq-eqb (getD text (digitRun text) 0) 45 h, b, lt-leb (numberOf (take (digitRun text) text)) (numberOf (drop (suc (digitRun text)) text)) l)
+          rw (a, eq-eqb (getD text (leading isDigit text) 0) 45 h, b, lt-leb (numberOf (take (leading isDigit text) text)) (numberOf (drop (suc (leading isDigit text)) text)) l)
 
-      pub range-places : numberOf (take (digitRun text) text) ≤ numberOf (drop (suc (digitRun text)) text)
-          → rangeOf text ≡ Places (numberOf (take (digitRun text) text)) (suc (numberOf (drop (suc (digitRun text)) text)))
+      pub range-places : numberOf (take (leading isDigit text) text) ≤ numberOf (drop (suc (leading isDigit text)) text)
+          → rangeOf text ≡ Places (numberOf (take (leading isDigit text) text)) (suc (numberOf (drop (suc (leading isDigit text)) text)))
       unfolding rangeOf
       range-places l =
-          rw (a, eq-eqb (getD text (digitRun text) 0) 45 h, b, le-leb (numberOf (take (digitRun text) text)) (numberOf (drop (suc (digitRun text)) text)) l)
+          rw (a, eq-eqb (getD text (leading isDigit text) 0) 45 h, b, le-leb (numberOf (take (leading isDigit text) text)) (numberOf (drop (suc (leading isDigit text)) text)) l)
 
 -- ---- what was read as places
 
 pub record Sound (text : List ℕ) (s e : ℕ) : Type 0 where
-  pub start : bound (take (digitRun text) text) ≡ true
-  pub hyphen : getD text (digitRun text) 0 ≡ 45
-  pub end : bound (drop (suc (digitRun text)) text) ≡ true
-  pub rising : numberOf (take (digitRun text) text) ≤ numberOf (drop (suc (digitRun text)) text)
-  pub start-is : numberOf (take (digitRun text) text) ≡ s
-  pub end-is : e ≡ suc (numberOf (drop (suc (digitRun text)) text))
+  pub start : bound (take (leading isDigit text) text) ≡ true
+  pub hyphen : getD text (leading isDigit text) 0 ≡ 45
+  pub end : bound (drop (suc (leading isDigit text)) text) ≡ true
+  pub rising : numberOf (take (leading isDigit text) text) ≤ numberOf (drop (suc (leading isDigit text)) text)
+  pub start-is : numberOf (take (leading isDigit text) text) ≡ s
+  pub end-is : e ≡ suc (numberOf (drop (suc (leading isDigit text)) text))
 
 pub range-sound : (text : List ℕ) (s e : ℕ) → rangeOf text ≡ Places s e → Sound text s e
 unfolding rangeOf
 range-sound text s e h = go (bound a) (eqb (getD text k 0) 45) (bound b) (leb (numberOf a) (numberOf b)) refl refl refl refl h
   where
     k : ℕ
-    k = digitRun text
+    k = leading isDigit text
 
     a : List ℕ
     a = take k text

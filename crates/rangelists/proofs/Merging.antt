@@ -15,7 +15,8 @@ use Rattle.claims.specs.Claim.{Joins}
 use Rattle.ledger.proofs.Joined.{join-ruled}
 use Rattle.ledger.proofs.Lents.{pairsOf-lent, rule-lent, rule-ruled, lent-pairsOf}
 use Rattle.ledger.proofs.Odd.{obeys-even}
-use Rattle.rangelists.specs.RangeText.{commaRun, parts, rangesOf, rangeOf, Merged, merged, trouble, added, mergedFrom, Says}
+use Rattle.octets.specs.Text.{isNotComma, leading}
+use Rattle.rangelists.specs.RangeText.{parts, rangesOf, rangeOf, Merged, merged, trouble, added, mergedFrom, Says}
 use Rattle.rangelists.specs.declared.ranges.Range.{Range}
 use Rattle.rangelists.specs.declared.ranges.Range.the-variants.{Places, Malformed}
 use Rattle.rangelists.proofs.Commas.{parts-first, parts-last, parts-next}
@@ -89,22 +90,22 @@ module _ (t l : List ℕ) (s e : ℕ) (h : rangeOf t ≡ Places s e) (o : obeys 
 
 -- ---- the list, as the code walks it: the text up to the first comma is joined
 
-module _ (r k : ℕ) (ps : Pairs) (text l : List ℕ) (q : Says (added r ps (rangeOf (take (commaRun text) text)) merged) k l) where
+module _ (r k : ℕ) (ps : Pairs) (text l : List ℕ) (q : Says (added r ps (rangeOf (take (leading isNotComma text) text)) merged) k l) where
   pub walk-stop : 0 < k → mergedFrom r ps (parts text) ≡ trouble k
   walk-stop h = go (parts-first text)
     where
-      go : ((ts : List (List ℕ)) × (parts text ≡ take (commaRun text) text ∷ ts)) → mergedFrom r ps (parts text) ≡ trouble k
-      go (ts, e) = rw e (merged-stop r k ps (take (commaRun text) text) ts (q .stopped h))
+      go : ((ts : List (List ℕ)) × (parts text ≡ take (leading isNotComma text) text ∷ ts)) → mergedFrom r ps (parts text) ≡ trouble k
+      go (ts, e) = rw e (merged-stop r k ps (take (leading isNotComma text) text) ts (q .stopped h))
 
-  pub walk-last : k ≡ 0 → commaRun text ≡ length text → mergedFrom r ps (parts text) ≡ merged (pairsOf l)
+  pub walk-last : k ≡ 0 → leading isNotComma text ≡ length text → mergedFrom r ps (parts text) ≡ merged (pairsOf l)
   unfolding mergedFrom
   walk-last z e =
-      let w : take (commaRun text) text ≡ text = take-all (commaRun text) text (omega arith) in
+      let w : take (leading isNotComma text) text ≡ text = take-all (leading isNotComma text) text (omega arith) in
       rw (parts-last text e) (merged-on r ps (pairsOf l) text [] (rw w at (q .done z .1)))
 
-  pub walk-next : k ≡ 0 → commaRun text < length text → mergedFrom r ps (parts text) ≡ mergedFrom r (pairsOf l) (parts (drop (suc (commaRun text)) text))
+  pub walk-next : k ≡ 0 → leading isNotComma text < length text → mergedFrom r ps (parts text) ≡ mergedFrom r (pairsOf l) (parts (drop (suc (leading isNotComma text)) text))
   walk-next z h =
-      rw (parts-next text h) (merged-on r ps (pairsOf l) (take (commaRun text) text) (parts (drop (suc (commaRun text)) text)) (q .done z .1))
+      rw (parts-next text h) (merged-on r ps (pairsOf l) (take (leading isNotComma text) text) (parts (drop (suc (leading isNotComma text)) text)) (q .done z .1))
 
 -- ---- the ledger before the first range, and behind the last
 

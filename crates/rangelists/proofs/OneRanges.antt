@@ -1,15 +1,17 @@
 -- `OneRange` holds.
 use Prim.Native.Nat.{ℕ, suc, _≤_, _<_}
 use mathlib.Core.Path.{_≡_, refl, _∙_}
-use mathlib.Core.Bool.{true, and-eq-true-iff}
-use mathlib.Core.List.{List, [], _∷_, _++_}
+use mathlib.Core.Bool.{true}
+use mathlib.Core.List.{List, _∷_, _++_}
 use native.Mathlib.Omega.{arith}
 use native.Mathlib.Decide.{decLt}
 use native.Mathlib.Numerals.{add-one}
 use lib.ListN.{length, getD, drop, take, List·getD-eq-default}
 use lib.Seq.{take-append-seam, getD-append-seam, drop-append-add, split-at}
-use Rattle.octets.specs.Decimal.{isDigit, digitRun, digitsOnly, numberOf}
+use Rattle.octets.specs.Decimal.{numberOf}
+use Rattle.octets.specs.Text.{isDigit, all, leading}
 use Rattle.octets.proofs.Readings.{digits-at}
+use Rattle.octets.proofs.Texts.{leading-append}
 use Rattle.rangelists.specs.RangeText.{rangeOf}
 use Rattle.rangelists.specs.OneRange.{Bound, IsRange, OneRange}
 use Rattle.rangelists.specs.declared.ranges.Range.{Range}
@@ -17,24 +19,21 @@ use Rattle.rangelists.specs.declared.ranges.Range.the-variants.{Places, 
 use Rattle.rangelists.proofs.Bounds.{bound-is, is-bound, range-places, range-sound}
 
 -- the digits before a hyphen are those that the text begins with
-digitRun-over : (ds es : List ℕ) → digitsOnly ds ≡ true → digitRun (ds ++ (45 ∷ es)) ≡ length ds
-unfolding digitRun digitsOnly
-digitRun-over [] es h = refl
-digitRun-over (d ∷ ds) es h =
-    let p = and-eq-true-iff (isDigit d) (digitsOnly ds) .0 h in
-    rw (p .0, digitRun-over ds es (p .1))
+run-over : (ds es : List ℕ) → all isDigit ds ≡ true → leading isDigit (ds ++ (45 ∷ es)) ≡ length ds
+unfolding leading
+run-over ds es h = omega (arith, leading-append isDigit ds (45 ∷ es) h)
 
 module _ (text : List ℕ) (first last : ℕ) (r : IsRange text first last) where
-  run-is : digitRun text ≡ length (r .before)
-  run-is = rw (r .hyphen) (digitRun-over (r .before) (r .after) (digits-at (r .before) (r .start .digits)))
+  run-is : leading isDigit text ≡ length (r .before)
+  run-is = rw (r .hyphen) (run-over (r .before) (r .after) (digits-at (r .before) (r .start .digits)))
 
-  before-is : take (digitRun text) text ≡ r .before
+  before-is : take (leading isDigit text) text ≡ r .before
   before-is = rw (run-is, r .hyphen) (take-append-seam (r .before) (45 ∷ r .after))
 
-  hyphen-is : getD text (digitRun text) 0 ≡ 45
+  hyphen-is : getD text (leading isDigit text) 0 ≡ 45
   hyphen-is = rw (run-is, r .hyphen) (getD-append-seam (r .before) 45 (r .after) 0)
 
-  after-is : drop (suc (digitRun text)) text ≡ r .after
+  after-is : drop (suc (leading isDigit text)) text ≡ r .after
   after-is = rw (run-is, r .hyphen, ← add-one (length (r .before))) (drop-append-add (r .before) (45 ∷ r .after) 1)
 
   pub range-reads : rangeOf text ≡ Places first (suc last)
@@ -45,7 +44,7 @@ module _ (text : List ℕ) (first last : ℕ) (r : IsRange text first last) wher
 range-only : (text : List ℕ) (s e : ℕ) → rangeOf text ≡ Places s e → (last : ℕ) × (e ≡ suc last) × IsRange text s last
 range-only text s e h =
     let r = range-sound text s e h in
-    let k = digitRun text in
+    let k = leading isDigit text in
     let a = take k text in
     let b = drop (suc k) text in
     let split : text ≡ a ++ (45 ∷ b) = go (decLt k (length text)) in
@@ -55,10 +54,10 @@ range-only text s e h =
       record { before = a; after = b; hyphen = split; start = start; end = bound-is b (r .end); rising = omega (arith, r .rising, r .start-is) },
     )
   where
-    go : Dec (digitRun text < length text) → text ≡ take (digitRun text) text ++ (45 ∷ drop (suc (digitRun text)) text)
-    go (yes l) = rw (range-sound text s e h .hyphen) at (split-at text (digitRun text) 0 l)
+    go : Dec (leading isDigit text < length text) → text ≡ take (leading isDigit text) text ++ (45 ∷ drop (suc (leading isDigit text)) text)
+    go (yes l) = rw (range-sound text s e h .hyphen) at (split-at text (leading isDigit text) 0 l)
     go (no l) =
-        let g : length text ≤ digitRun text = omega arith in
+        let g : length text ≤ leading isDigit text = omega arith in
         absurd (omega (arith, range-sound text s e h .hyphen, List·getD-eq-default text 0 g))
 
 else-malformed : (text : List ℕ) → ((first last : ℕ) → IsRange text first last → ⊥) → rangeOf text ≡ Malformed

@@ -9,8 +9,9 @@ use lib.Dec.{leb}
 use lib.ListN.{length, take, drop}
 use lib.Seq.{take-at}
 use Rattle.octets.specs.Cases.{AllHold}
-use Rattle.octets.specs.Decimal.{digitsOnly, width, decimal}
-use Rattle.octets.proofs.Decimals.{width-some, digitsOnly-inDigits, decimal-reads-back, length-decimal, width-20}
+use Rattle.octets.specs.Decimal.{width, decimal}
+use Rattle.octets.specs.Text.{isDigit, all}
+use Rattle.octets.proofs.Decimals.{width-some, all-inDigits, decimal-reads-back, length-decimal, width-20}
 use Rattle.octets.proofs.Readings.{at-digits}
 use Rattle.ledger.specs.Pairs.{Pairs, none, pair, size, Ruled, join, endsBy}
 use Rattle.ledger.specs.Ledger.{largest, lengthWrong, obeys, pairsOf, roomOf}
@@ -30,9 +31,9 @@ use Rattle.rangelists.proofs.Parted.{no-comma-cons, no-comma-append, pa
 
 -- ---- one range
 
-digits-decimal : (n : ℕ) → digitsOnly (decimal n) ≡ true
+digits-decimal : (n : ℕ) → all isDigit (decimal n) ≡ true
 unfolding decimal
-digits-decimal n = digitsOnly-inDigits (width n) n
+digits-decimal n = all-inDigits (width n) n
 
 bound-decimal : (n : ℕ) → n ≤ 18446744073709551614 → Bound (decimal n) n
 bound-decimal n h =

@@ -5,7 +5,8 @@ use mathlib.Core.Bool.{Bool, true, cond, _&&_, not}
 use mathlib.Core.List.{List, [], _∷_, _++_}
 use lib.Dec.{leb, ltb, eqb}
 use lib.ListN.{length, getD, take, drop, replicate}
-use Rattle.octets.specs.Decimal.{digitRun, digitsOnly, numberOf, decimal}
+use Rattle.octets.specs.Decimal.{numberOf, decimal}
+use Rattle.octets.specs.Text.{isDigit, all, leading}
 use Rattle.octets.specs.declared.decimal.Number.{Number}
 use Rattle.octets.specs.declared.decimal.Number.the-variants.{Value, Nothing}
 use Rattle.ledger.specs.Pairs.{Pairs, none, pair, size, hit, join}
@@ -29,7 +30,7 @@ digitLimit = 20
 
 -- a number of 1 to 20 digits, at most the largest end
 unfoldable pub bound : List ℕ → Bool
-bound text = (leb 1 (length text) && leb (length text) digitLimit) && (digitsOnly text && leb (numberOf text) endLimit)
+bound text = (leb 1 (length text) && leb (length text) digitLimit) && (all isDigit text && leb (numberOf text) endLimit)
 
 -- what reading such a number answers
 unfoldable pub boundOf : List ℕ → Number
@@ -38,7 +39,7 @@ boundOf text = cond (bound text) (Value (numberOf text)) Nothing
 -- all the text between two commas: a number, a hyphen, and a number that is no less. It holds the places from the first up to the second.
 unfoldable pub rangeOf : List ℕ → Range
 rangeOf text =
-    let k = digitRun text in
+    let k = leading isDigit text in
     let a = take k text in
     let b = drop (suc k) text in
     cond (bound a && (eqb (getD text k 0) 45 && (bound b && leb (numberOf a) (numberOf b)))) (Places (numberOf a) (suc (numberOf b))) Malformed
@@ -53,11 +54,6 @@ inFront b (t ∷ ts) = (b ∷ t) ∷ ts
 unfoldable pub parts : List ℕ → List (List ℕ)
 parts [] = [] ∷ []
 parts (b ∷ bs) = cond (eqb b 44) ([] ∷ parts bs) (inFront b (parts bs))
-
--- how many bytes stand before the first comma
-unfoldable pub commaRun : List ℕ → ℕ
-commaRun [] = 0
-commaRun (b ∷ bs) = cond (eqb b 44) 0 (suc (commaRun bs))
 
 -- what a list says: the merged set, or the number of the first trouble in reading order
 pub data Merged : Type 0 where

@@ -6,12 +6,14 @@ use ledger::rule;
 use octets::decimal;
 use octets::decimal::Number;
 use octets::entries;
+use octets::text;
+use octets::text::Kind;
 ghost use mathlib.Core.Path.{_≡_};
 ghost use mathlib.Core.Bool.{true};
 ghost use Prim.Native.Nat.{_+_, _≤_, _<_};
 ghost use lib.ListN.{length};
 ghost use Rattle.ledger.specs.Ledger.{entryLimit, largest, obeys, pairsOf, roomOf};
-ghost use Rattle.rangelists.specs.RangeText.{boundOf, rangeOf, commaRun, added, mergedFrom, Says, merged, parts, readRanges, rangesLeft, comma, rangeText, rangesText, putAt, writeRanges, rangesWritten};
+ghost use Rattle.rangelists.specs.RangeText.{boundOf, rangeOf, added, mergedFrom, Says, merged, parts, readRanges, rangesLeft, comma, rangeText, rangesText, putAt, writeRanges, rangesWritten};
 
 // What the text between two commas says: the places from start up to end, end not counted, or nothing that is well formed.
 pub enum Range {
@@ -145,7 +147,7 @@ fn one_number(text: &[u8]) -> Number
 fn one_range(text: &[u8]) -> Range
     ensures { λ r. ⌜ r ≡ rangeOf (now (text .entry)) ⌝ }
 {
-    let k = decimal::run(text);
+    let k = text::leading(Kind::Digit, text);
     if text.len() <= k {
         return Range::Malformed;
     }
@@ -165,20 +167,6 @@ fn one_range(text: &[u8]) -> Range
         start: a,
         end: b + 1,
     }
-}
-
-// How many bytes stand before the first comma.
-fn until_comma(text: &[u8]) -> usize
-    ensures { λ r. ⌜ r ≡ commaRun (now (text .entry)) ⌝ }
-{
-    let mut i = 0;
-    while i < text.len() {
-        if text[i] == b',' {
-            return i;
-        }
-        i += 1;
-    }
-    i
 }
 
 // Joins the range that a text says to the ledger: 0, or the number of the trouble.
@@ -202,7 +190,7 @@ fn join_list(text: &[u8], ledger: &mut [u64]) -> u8
 {
     let mut at = 0;
     loop {
-        let end = at + until_comma(&text[at..]);
+        let end = at + text::leading(Kind::NotComma, &text[at..]);
         let k = join_text(&text[at..end], ledger);
         if 0 < k {
             return k;

@@ -7,17 +7,17 @@ use native.Mathlib.Omega.{arith}
 use native.Mathlib.Decide.{decLt}
 use borrow.Author.Tests.{le-leb, lt-leb}
 use lib.Dec.{leb}
-use Rattle.replies.specs.Reply.{among, classOf, number, digit, Classes}
+use Rattle.replies.specs.Reply.{between, classOf, number, digit, Classes}
 use Rattle.replies.specs.declared.reply.Class.{Class}
 use Rattle.replies.specs.declared.reply.Class.the-variants.{Preliminary, Completion, Intermediate, Transient, Permanent, Refused}
 
-inside : (first last code : ℕ) → first ≤ code → code ≤ last → among first last code ≡ true
+inside : (first last code : ℕ) → first ≤ code → code ≤ last → between first last code ≡ true
 inside first last code h g = rw (le-leb first code h, le-leb code last g)
 
-under : (first last code : ℕ) → code < first → among first last code ≡ false
+under : (first last code : ℕ) → code < first → between first last code ≡ false
 under first last code h = rw (lt-leb first code h)
 
-past : (first last code : ℕ) → last < code → among first last code ≡ false
+past : (first last code : ℕ) → last < code → between first last code ≡ false
 past first last code h = rw (lt-leb code last h) (and-false (leb first code))
 
 pub preliminary : (code : ℕ) → 100 ≤ code → code ≤ 199 → classOf code ≡ Preliminary

@@ -8,16 +8,16 @@ use Rattle.replies.specs.declared.reply.Class.{Class}
 use Rattle.replies.specs.declared.reply.Class.the-variants.{Preliminary, Completion, Intermediate, Transient, Permanent, Refused}
 
 -- from first to last, both counted
-abbrev pub among : ℕ → ℕ → ℕ → Bool
-among first last code = leb first code && leb code last
+abbrev pub between : ℕ → ℕ → ℕ → Bool
+between first last code = leb first code && leb code last
 
 unfoldable pub classOf : ℕ → Class
 classOf code =
-    cond (among 100 199 code) Preliminary
-    (cond (among 200 299 code) Completion
-    (cond (among 300 399 code) Intermediate
-    (cond (among 400 499 code) Transient
-    (cond (among 500 599 code) Permanent (Refused 36)))))
+    cond (between 100 199 code) Preliminary
+    (cond (between 200 299 code) Completion
+    (cond (between 300 399 code) Intermediate
+    (cond (between 400 499 code) Transient
+    (cond (between 500 599 code) Permanent (Refused 36)))))
 
 -- document 01's number for each case, 0 where nothing is refused
 unfoldable pub number : Class → ℕ

@@ -4,9 +4,9 @@ use mathlib.Core.Path.{_≡_, sym, _∙_}
 use native.Mathlib.Omega.{arith}
 use borrow.Author.Needs.{needs}
 use lib.ListN.{length}
-use Rattle.commands.specs.Line.{readOf, partOf}
+use Rattle.commands.specs.Line.{readOf, argumentOf}
 use Rattle.commands.specs.declared.line.Line.the-variants.{Command}
-use Rattle.commands.proofs.Answers.{reads-within}
+use Rattle.commands.proofs.Lines.{reads-within}
 use Rattle.commands.proofs.line.argument.Statement.{statement}
 use Rattle.commands.proofs.line.argument.Tie as tie
 
@@ -33,7 +33,7 @@ slice-aggregate-result : tie.Need-slice-aggregate-result
 slice-aggregate-result c = search needs
 
 returns : tie.Need-returns
-unfolding partOf
+unfolding argumentOf
 returns c =
     let r = c .before .before .before in
     rw (sym (r .read .ensures) ∙ c .before .enum-told .given .1)
@@ -48,7 +48,7 @@ part-result-end : tie.Need-part-result-end
 part-result-end c = omega (arith, within (c .before))
 
 returns-2 : tie.Need-returns-2
-unfolding partOf
+unfolding argumentOf
 returns-2 c = rw (reading (c .before .before))
 
 pub argument-spec : {M : Type 1} → statement M

@@ -5,13 +5,13 @@ use mathlib.Core.List.{[], map}
 use native.Mathlib.Omega.{arith}
 use borrow.Author.Needs.{needs}
 use lib.ListN.{length, getD, drop, length-map, List·getD-map}
-use Rattle.commands.specs.Line.{upper, verbs, same}
-use Rattle.commands.proofs.Verbs.{same-goes, same-stops, same-ends, same-lengths, four-letters}
+use Rattle.commands.specs.Line.{upper, verbs, equalTexts}
+use Rattle.commands.proofs.VerbTable.{equal-goes, equal-stops, equal-ends, equal-lengths, four-letters}
 use Rattle.commands.proofs.line.is_verb.Statement.{statement}
 use Rattle.commands.proofs.line.is_verb.Tie as tie
 
 abbrev Inv-loop : tie.InvT-loop
-Inv-loop word v k₀ k = (k ≤ 4) × (same (drop k (map upper word)) (drop k (getD verbs v [])) ≡ same (map upper word) (getD verbs v []))
+Inv-loop word v k₀ k = (k ≤ 4) × (equalTexts (drop k (map upper word)) (drop k (getD verbs v [])) ≡ equalTexts (map upper word) (getD verbs v []))
 
 abbrev μ-loop : tie.MeasureT-loop
 μ-loop word v k₀ k = 4 - k
@@ -28,7 +28,7 @@ returns c =
     let x = c .before .before .args in
     let n = four-letters (x .v) (c .before .before .pre) in
     let w = length-map (x .word .now) upper in
-    sym (same-lengths (map upper (x .word .now)) (getD verbs (x .v) []) (λ e. c .if1 .taken (omega arith)))
+    sym (equal-lengths (map upper (x .word .now)) (getD verbs (x .v) []) (λ e. c .if1 .taken (omega arith)))
 
 loop-holds : tie.Need-loop-holds Inv-loop μ-loop
 loop-holds c = (omega arith, refl)
@@ -54,7 +54,7 @@ returns-2 c =
     let x = l .before .before .before .args in
     let n = sizes l in
     let u = c .before .before .upper .ensures ∙ sym (List·getD-map upper (x .word .now) (l .loop .k) 0) in
-    let g = same-stops (map upper (x .word .now)) (getD verbs (x .v) []) (l .loop .k) (omega arith) (omega arith) (λ q. c .if2 .taken (u ∙ q)) in
+    let g = equal-stops (map upper (x .word .now)) (getD verbs (x .v) []) (l .loop .k) (omega arith) (omega arith) (λ q. c .if2 .taken (u ∙ q)) in
     sym g ∙ l .loop .inv .1
 
 add-k : tie.Need-add-k Inv-loop μ-loop
@@ -69,7 +69,7 @@ loop-again c =
     let x = l .before .before .before .args in
     let n = sizes l in
     let u = c .before .before .upper .ensures ∙ sym (List·getD-map upper (x .word .now) (l .loop .k) 0) in
-    let g = same-goes (map upper (x .word .now)) (getD verbs (x .v) []) (l .loop .k) (omega arith) (omega arith) (sym u ∙ c .if2 .left) in
+    let g = equal-goes (map upper (x .word .now)) (getD verbs (x .v) []) (l .loop .k) (omega arith) (omega arith) (sym u ∙ c .if2 .left) in
     (omega arith, sym g ∙ l .loop .inv .1)
 
 returns-3 : tie.Need-returns-3 Inv-loop μ-loop
@@ -77,7 +77,7 @@ returns-3 c =
     let l = c .before in
     let x = l .before .before .before .args in
     let n = sizes l in
-    sym (same-ends (map upper (x .word .now)) (getD verbs (x .v) []) (l .loop .k) (omega arith) (omega arith)) ∙ l .loop .inv .1
+    sym (equal-ends (map upper (x .word .now)) (getD verbs (x .v) []) (l .loop .k) (omega arith) (omega arith)) ∙ l .loop .inv .1
 
 pub is-verb-spec : {M : Type 1} → statement M
 is-verb-spec =

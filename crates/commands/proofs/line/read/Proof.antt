@@ -1,13 +1,16 @@
 -- `line::read`.
+use Prim.Native.Nat.{_-_}
 use mathlib.Core.Path.{_≡_, sym, _∙_}
 use mathlib.Core.Bool.{true}
 use native.Mathlib.Omega.{arith}
 use borrow.Author.Needs.{needs}
 use borrow.Author.Tests.{not-true, not-false}
-use lib.ListN.{length-take}
-use Rattle.commands.specs.Line.{endsInCrLf}
-use Rattle.commands.proofs.Answers.{reads-31, reads-32, reads-33, reads-text}
-use Rattle.commands.proofs.Parts.{ends-long}
+use lib.ListN.{length, length-take}
+use Rattle.octets.specs.Text.{isPrintable}
+use Rattle.octets.proofs.Texts.{leading-short, leading-whole}
+use Rattle.commands.specs.Line.{textOf, endsInCrLf}
+use Rattle.commands.proofs.Lines.{reads-31, reads-32, reads-33, reads-text}
+use Rattle.commands.proofs.LineParts.{ends-long}
 use Rattle.commands.proofs.line.read.Statement.{statement}
 use Rattle.commands.proofs.line.read.Tie as tie
 
@@ -28,17 +31,19 @@ returns-2 c =
 sub-to : tie.Need-sub-to
 sub-to c = ends-long (c .before .before .before .before .args .line .now) (ends c)
 
-slice-aggregate-printable : tie.Need-slice-aggregate-printable
-slice-aggregate-printable c = simp length-take (omega arith)
+slice-aggregate-leading : tie.Need-slice-aggregate-leading
+slice-aggregate-leading c = simp length-take (omega arith)
 
-printable-requires : tie.Need-printable-requires
-printable-requires c κs = search needs
+leading-requires : tie.Need-leading-requires
+leading-requires c κs = search needs
 
 returns-3 : tie.Need-returns-3
 returns-3 c =
     let e = c .before .before .before in
     let f = e .before .before in
-    sym (reads-33 (f .before .before .args .line .now) (f .if1 .left) (ends e) (sym (c .before .printable .ensures) ∙ not-true (c .before .printable .result) (c .if3 .taken)))
+    let line = f .before .before .args .line .now in
+    let p = leading-short isPrintable (textOf line) (omega (arith, c .before .leading .ensures, length-take (length line - 2) line)) in
+    sym (reads-33 line (f .if1 .left) (ends e) p)
 
 slice-aggregate-read-text : tie.Need-slice-aggregate-read-text
 slice-aggregate-read-text c = simp length-take (omega arith)
@@ -51,8 +56,9 @@ returns-4 c =
     let d = c .before .before in
     let e = d .before .before .before in
     let f = e .before .before in
-    let p = sym (d .before .printable .ensures) ∙ not-false (d .before .printable .result) (d .if3 .left) in
-    c .read-text .ensures ∙ sym (reads-text (f .before .before .args .line .now) (f .if1 .left) (ends e) p)
+    let line = f .before .before .args .line .now in
+    let p = leading-whole isPrintable (textOf line) (omega (arith, d .before .leading .ensures, length-take (length line - 2) line)) in
+    c .read-text .ensures ∙ sym (reads-text line (f .if1 .left) (ends e) p)
 
 pub read-spec : {M : Type 1} → statement M
 read-spec =
@@ -62,8 +68,8 @@ read-spec =
     ends-in-cr-lf-requires
     returns-2
     sub-to
-    slice-aggregate-printable
-    printable-requires
+    slice-aggregate-leading
+    leading-requires
     returns-3
     slice-aggregate-read-text
     read-text-requires

@@ -5,13 +5,13 @@ use mathlib.Core.List.{map}
 use native.Mathlib.Omega.{arith}
 use borrow.Author.Needs.{needs}
 use lib.ListN.{drop}
-use Rattle.commands.specs.Line.{upper, verbs, numbered, verbNumber}
-use Rattle.commands.proofs.Verbs.{numbered-hit, numbered-miss}
+use Rattle.commands.specs.Line.{upper, verbs, numberFrom, verbNumber}
+use Rattle.commands.proofs.VerbTable.{number-from-found, number-from-next}
 use Rattle.commands.proofs.line.verb_number.Statement.{statement}
 use Rattle.commands.proofs.line.verb_number.Tie as tie
 
 abbrev Inv-loop : tie.InvT-loop
-Inv-loop word v₀ v = (v ≤ 12) × (numbered (v + 1) (drop v verbs) (map upper word) ≡ verbNumber word)
+Inv-loop word v₀ v = (v ≤ 12) × (numberFrom (v + 1) (drop v verbs) (map upper word) ≡ verbNumber word)
 
 abbrev μ-loop : tie.MeasureT-loop
 μ-loop word v₀ v = 12 - v
@@ -33,7 +33,7 @@ returns : tie.Need-returns Inv-loop μ-loop
 returns c =
     let l = c .before .before .before in
     let w = map upper (l .before .before .args .word .now) in
-    sym (numbered-hit verbs w (l .loop .v) (omega arith) (sym (c .before .is-verb .ensures) ∙ c .if1 .taken)) ∙ l .loop .inv .1
+    sym (number-from-found verbs w (l .loop .v) (omega arith) (sym (c .before .is-verb .ensures) ∙ c .if1 .taken)) ∙ l .loop .inv .1
 
 add-v : tie.Need-add-v Inv-loop μ-loop
 add-v c = omega arith
@@ -45,11 +45,11 @@ loop-again : tie.Need-loop-again Inv-loop μ-loop
 loop-again c =
     let l = c .before .before .before in
     let w = map upper (l .before .before .args .word .now) in
-    let g = numbered-miss verbs w (l .loop .v) (omega arith) (sym (c .before .is-verb .ensures) ∙ c .if1 .left) in
+    let g = number-from-next verbs w (l .loop .v) (omega arith) (sym (c .before .is-verb .ensures) ∙ c .if1 .left) in
     (omega arith, sym g ∙ l .loop .inv .1)
 
 returns-2 : tie.Need-returns-2 Inv-loop μ-loop
-unfolding numbered
+unfolding numberFrom
 returns-2 c =
     let l = c .before in
     let e : l .loop .v ≡ 12 = omega arith in

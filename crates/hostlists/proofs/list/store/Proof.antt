@@ -6,7 +6,7 @@ use borrow.Author.Needs.{needs}
 use lib.ListN.{length, take, length-set}
 use Rattle.hostports.specs.HostPort.{hostPortAt}
 use Rattle.hostlists.specs.HostList.{hostLimit, listAt, hostsOf}
-use Rattle.hostports.specs.declared.hosts.Step.the-variants.{Host}
+use Rattle.hostports.specs.declared.host_port.ParsedHostPort.the-variants.{HostPort}
 use Rattle.hostports.proofs.HostPort.{host-port-place}
 use Rattle.hostlists.proofs.HostList.{list-malformed, list-ends, list-broken, list-goes-on, list-empty, list-full, following, following-more, stored-trouble, stored-last}
 use Rattle.hostlists.proofs.list.store.Statement.{statement}
@@ -27,22 +27,22 @@ says c =
     let m : suc (hostLimit - (l .loop .n + 1)) ≡ hostLimit - l .loop .n = omega arith in
     rw m (sym (l .loop .inv .3))
 
-step-is : (c : tie.After-found Inv-loop μ-loop) → let l = c .before .before .before .before in
-    hostPortAt (l .before .before .before .args .text .now) (l .loop .at) ≡ Host (c .found .given .0 .0) (c .found .given .0 .1 .0)
-step-is c = sym (c .before .before .step-at .ensures) ∙ c .found .given .1
+found-is : (c : tie.After-found Inv-loop μ-loop) → let l = c .before .before .before .before in
+    hostPortAt (l .before .before .before .args .text .now) (l .loop .at) ≡ HostPort (c .found .given .0 .0) (c .found .given .0 .1 .0)
+found-is c = sym (c .before .before .read-at .ensures) ∙ c .found .given .1
 
 -- the place after a host-port is in the text or at its end
 place-within : (c : tie.After-found Inv-loop μ-loop) → c .found .given .0 .1 .0 ≤ length (c .before .before .before .before .before .before .before .args .text .now)
 place-within c =
     let l = c .before .before .before .before in
-    host-port-place (l .before .before .before .args .text .now) (l .loop .at) _ _ (step-is c)
+    host-port-place (l .before .before .before .args .text .now) (l .loop .at) _ _ (found-is c)
 
 loop-holds : tie.Need-loop-holds Inv-loop μ-loop
 unfolding following hostsOf
 loop-holds c = (omega arith, c .before .before .pre, refl, refl)
 
-step-at-requires : tie.Need-step-at-requires Inv-loop μ-loop
-step-at-requires c κs = search needs
+read-at-requires : tie.Need-read-at-requires Inv-loop μ-loop
+read-at-requires c κs = search needs
 
 enum-known-found : tie.Need-enum-known-found Inv-loop μ-loop
 enum-known-found c = search needs
@@ -58,7 +58,7 @@ returns c =
     let d = c .before .before .before in
     let l = d .before in
     let s = l .before .before .before .args .text .now in
-    stored-trouble s (l .loop .list) _ _ 41 (says d) (list-malformed _ s (l .loop .at) (sym (c .before .before .step-at .ensures) ∙ c .enum-told .given .1))
+    stored-trouble s (l .loop .list) _ _ 41 (says d) (list-malformed _ s (l .loop .at) (sym (c .before .before .read-at .ensures) ∙ c .enum-told .given .1))
 
 mul-list : tie.Need-mul-list Inv-loop μ-loop
 mul-list c = omega arith
@@ -78,7 +78,7 @@ returns-2 c =
     let d = f .before .before .before in
     let l = d .before in
     let s = l .before .before .before .args .text .now in
-    stored-last s (l .loop .list) (l .loop .n) _ _ (omega arith) (says d) (list-ends _ s (l .loop .at) _ _ (step-is f) (c .if1 .taken))
+    stored-last s (l .loop .list) (l .loop .n) _ _ (omega arith) (says d) (list-ends _ s (l .loop .at) _ _ (found-is f) (c .if1 .taken))
 
 shared-slice-read-if2 : tie.Need-shared-slice-read-if2 Inv-loop μ-loop
 shared-slice-read-if2 c = omega (arith, place-within (c .before .before .before))
@@ -92,7 +92,7 @@ returns-3 c =
     let d = f .before .before .before in
     let l = d .before in
     let s = l .before .before .before .args .text .now in
-    stored-trouble s _ _ _ 41 (says d) (list-broken _ s (l .loop .at) _ _ (step-is f) (c .before .before .if1 .left) (c .if2 .taken))
+    stored-trouble s _ _ _ 41 (says d) (list-broken _ s (l .loop .at) _ _ (found-is f) (c .before .before .if1 .left) (c .if2 .taken))
 
 add-at : tie.Need-add-at Inv-loop μ-loop
 add-at c = omega (arith, place-within (c .before .before .before .before))
@@ -106,7 +106,7 @@ loop-again c =
     let d = f .before .before .before in
     let l = d .before in
     let s = l .before .before .before .args .text .now in
-    let e = list-goes-on (hostLimit - (l .loop .n + 1)) s (l .loop .at) _ _ (step-is f) (c .before .before .if1 .left) (c .if2 .left) in (
+    let e = list-goes-on (hostLimit - (l .loop .n + 1)) s (l .loop .at) _ _ (found-is f) (c .before .before .if1 .left) (c .if2 .left) in (
       omega arith,
       l .loop .inv .1,
       simp length-set (l .loop .inv .2),
@@ -138,7 +138,7 @@ store-spec =
     Inv-loop
     μ-loop
     loop-holds
-    step-at-requires
+    read-at-requires
     enum-known-found
     enum-told
     same-length

@@ -8,27 +8,29 @@ use borrow.Author.Tests.{le-ltb, not-true, not-false}
 use lib.ListN.{length, getD, take}
 use lib.Seq.{take-all}
 use Rattle.octets.specs.Digits.{fromBig, fromLittle}
-use Rattle.octets.specs.Decimal.{isDigit, digitsOnly, numberOf, digitValue, readOf}
-use Rattle.octets.proofs.Decimals.{digit-bounds, digitsOnly-not, digitsOnly-more, numberOf-more, numberOf-above}
+use Rattle.octets.specs.Decimal.{numberOf, digitValue, readOf}
+use Rattle.octets.specs.Text.{isDigit, all}
+use Rattle.octets.proofs.Texts.{true-between, all-not, all-more}
+use Rattle.octets.proofs.Decimals.{numberOf-more, numberOf-above}
 use Rattle.octets.proofs.Readings.{readOf-spoilt, readOf-above, readOf-value}
 use Rattle.octets.proofs.decimal.read.Statement.{statement}
 use Rattle.octets.proofs.decimal.read.Tie as tie
 
 abbrev Inv-loop : tie.InvT-loop
 Inv-loop text limit n₀ i₀ n i =
-    (i ≤ length text) × (n ≤ limit) × (digitsOnly (take i text) ≡ true) × (n ≡ numberOf (take i text))
+    (i ≤ length text) × (n ≤ limit) × (all isDigit (take i text) ≡ true) × (n ≡ numberOf (take i text))
 
 abbrev μ-loop : tie.MeasureT-loop
 μ-loop text limit n₀ i₀ n i = length text - i
 
 -- the byte at hand, where it is a digit
 digit : (c : tie.Else2 Inv-loop μ-loop) → let l = c .before .before .before .before in isDigit (getD (l .before .before .before .args .text .now) (l .loop .i) 0) ≡ true
-digit c = sym (c .before .is-digit .ensures) ∙ not-false (c .before .is-digit .result) (c .if2 .left)
+digit c = sym (c .before .is-of .ensures) ∙ not-false (c .before .is-of .result) (c .if2 .left)
 
 bounds : (c : tie.Else2 Inv-loop μ-loop) → let l = c .before .before .before .before in let b = getD (l .before .before .before .args .text .now) (l .loop .i) 0 in (48 ≤ b) × (b ≤ 57)
 bounds c =
     let l = c .before .before .before .before in
-    digit-bounds (getD (l .before .before .before .args .text .now) (l .loop .i) 0) (digit c)
+    true-between 48 57 (getD (l .before .before .before .args .text .now) (l .loop .i) 0) (digit c)
 
 -- the number of the bytes up to the one at hand
 one-more : (c : tie.In-loop Inv-loop μ-loop) → let l = c .before in let s = l .before .before .before .args .text .now in
@@ -43,22 +45,22 @@ unfolding readOf
 returns c = rw (le-ltb 0 (length (c .before .before .args .text .now)) (omega arith))
 
 loop-holds : tie.Need-loop-holds Inv-loop μ-loop
-unfolding digitsOnly numberOf fromBig fromLittle
+unfolding all numberOf fromBig fromLittle
 loop-holds c = (omega arith, omega arith, refl, refl)
 
 shared-slice-read-b : tie.Need-shared-slice-read-b Inv-loop μ-loop
 shared-slice-read-b c = omega arith
 
-is-digit-requires : tie.Need-is-digit-requires Inv-loop μ-loop
-is-digit-requires c κs = search needs
+is-of-requires : tie.Need-is-of-requires Inv-loop μ-loop
+is-of-requires c κs = search needs
 
 returns-2 : tie.Need-returns-2 Inv-loop μ-loop
 returns-2 c =
     let d = c .before in
     let l = d .before .before .before in
     let x = l .before .before .before .args in
-    let n = sym (d .is-digit .ensures) ∙ not-true (d .is-digit .result) (c .if2 .taken) in
-    sym (readOf-spoilt (x .text .now) (x .limit) (digitsOnly-not (x .text .now) (l .loop .i) (omega arith) n))
+    let n = sym (d .is-of .ensures) ∙ not-true (d .is-of .result) (c .if2 .taken) in
+    sym (readOf-spoilt (x .text .now) (x .limit) (all-not isDigit (x .text .now) (l .loop .i) (omega arith) n))
 
 sub-d : tie.Need-sub-d Inv-loop μ-loop
 sub-d c = omega (arith, bounds c)
@@ -100,7 +102,7 @@ loop-again c =
     let l = e .before .before .before .before in
     let s = l .before .before .before .args .text .now in
     let m = one-more (e .before .before .before) in
-    (omega arith, omega arith, digitsOnly-more s (l .loop .i) (omega arith) (digit e) (l .loop .inv .2), sym m)
+    (omega arith, omega arith, all-more isDigit s (l .loop .i) (omega arith) (digit e) (l .loop .inv .2), sym m)
 
 returns-5 : tie.Need-returns-5 Inv-loop μ-loop
 returns-5 c =
@@ -120,7 +122,7 @@ read-spec =
     returns
     loop-holds
     shared-slice-read-b
-    is-digit-requires
+    is-of-requires
     returns-2
     sub-d
     cast-d

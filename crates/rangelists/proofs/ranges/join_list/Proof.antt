@@ -8,8 +8,9 @@ use borrow.Author.Needs.{needs}
 use lib.ListN.{length, take, drop, length-drop}
 use lib.Seq.{take-all, drop-drop}
 use Rattle.ledger.specs.Ledger.{obeys, pairsOf, roomOf}
-use Rattle.rangelists.specs.RangeText.{commaRun, merged, added, rangeOf, mergedFrom, parts, Says}
-use Rattle.rangelists.proofs.Commas.{commaRun-le}
+use Rattle.rangelists.specs.RangeText.{merged, added, rangeOf, mergedFrom, parts, Says}
+use Rattle.octets.specs.Text.{isNotComma, leading}
+use Rattle.octets.proofs.Texts.{leading-le}
 use Rattle.rangelists.proofs.Merging.{says-stopped, says-done, walk-stop, walk-last, walk-next}
 use Rattle.rangelists.proofs.ranges.join_list.Statement.{statement}
 use Rattle.rangelists.proofs.ranges.join_list.Tie as tie
@@ -23,31 +24,31 @@ abbrev μ-loop : tie.MeasureT-loop
 μ-loop text ledger₀ at₀ ledger at = length text - at
 
 -- the comma that the code finds is the next one
-ends : (c : tie.After-until-comma Inv-loop μ-loop) → let k = c .before .before in let s = k .before .before .before .args .text .now in
-    c .until-comma .result ≡ commaRun (drop (k .loop .at) s)
+ends : (c : tie.After-leading Inv-loop μ-loop) → let k = c .before .before in let s = k .before .before .before .args .text .now in
+    c .leading .result ≡ leading isNotComma (drop (k .loop .at) s)
 ends c =
     let k = c .before .before in
     let s = k .before .before .before .args .text .now in
     let h : length (drop (k .loop .at) s) ≤ length s - k .loop .at = simp length-drop (omega arith) in
-    c .until-comma .ensures ∙ ap commaRun (take-all (length s - k .loop .at) (drop (k .loop .at) s) h)
+    c .leading .ensures ∙ ap (leading isNotComma) (take-all (length s - k .loop .at) (drop (k .loop .at) s) h)
 
-ends-le : (c : tie.After-until-comma Inv-loop μ-loop) → let k = c .before .before in let s = k .before .before .before .args .text .now in
-    k .loop .at + c .until-comma .result ≤ length s
+ends-le : (c : tie.After-leading Inv-loop μ-loop) → let k = c .before .before in let s = k .before .before .before .args .text .now in
+    k .loop .at + c .leading .result ≤ length s
 ends-le c =
     let k = c .before .before in
     let s = k .before .before .before .args .text .now in
-    omega (arith, ends c, commaRun-le (drop (k .loop .at) s), length-drop (k .loop .at) s)
+    omega (arith, ends c, leading-le isNotComma (drop (k .loop .at) s), length-drop (k .loop .at) s)
 
 -- what was joined is the text up to that comma
 said : (c : tie.After-join-text Inv-loop μ-loop) → let k = c .before .before .before .before .before in let x = k .before .before .before .args in
     let d = drop (k .loop .at) (x .text .now) in
-    Says (added (roomOf (x .ledger .now)) (pairsOf (k .loop .ledger)) (rangeOf (take (commaRun d) d)) merged) (c .join-text .result) (c .join-text .last .1 .0)
+    Says (added (roomOf (x .ledger .now)) (pairsOf (k .loop .ledger)) (rangeOf (take (leading isNotComma d) d)) merged) (c .join-text .result) (c .join-text .last .1 .0)
 said c =
     let u = c .before .before .before in
     let k = u .before .before in
     let x = k .before .before .before .args in
     let d = drop (k .loop .at) (x .text .now) in
-    let e : k .loop .at + u .until-comma .result - k .loop .at ≡ commaRun d = omega (arith, ends u) in
+    let e : k .loop .at + u .leading .result - k .loop .at ≡ leading isNotComma d = omega (arith, ends u) in
     rw (e, k .loop .inv .1) at (c .join-text .ensures)
 
 loop-holds : tie.Need-loop-holds Inv-loop μ-loop
@@ -55,17 +56,17 @@ loop-holds c =
     let st = c .before .before in
     (omega arith, refl, st .pre, refl)
 
-sub-until-comma : tie.Need-sub-until-comma Inv-loop μ-loop
-sub-until-comma c = omega arith
+sub-leading : tie.Need-sub-leading Inv-loop μ-loop
+sub-leading c = omega arith
 
-part-until-comma-start : tie.Need-part-until-comma-start Inv-loop μ-loop
-part-until-comma-start c = omega arith
+part-leading-start : tie.Need-part-leading-start Inv-loop μ-loop
+part-leading-start c = omega arith
 
-part-until-comma-end : tie.Need-part-until-comma-end Inv-loop μ-loop
-part-until-comma-end c = omega arith
+part-leading-end : tie.Need-part-leading-end Inv-loop μ-loop
+part-leading-end c = omega arith
 
-until-comma-requires : tie.Need-until-comma-requires Inv-loop μ-loop
-until-comma-requires c κs = search needs
+leading-requires : tie.Need-leading-requires Inv-loop μ-loop
+leading-requires c κs = search needs
 
 add-end : tie.Need-add-end Inv-loop μ-loop
 add-end c = omega (arith, ends-le c)
@@ -108,7 +109,7 @@ returns-2 c =
     let k = j .before .before .before .before .before in
     let s = k .before .before .before .args .text .now in
     let z : j .join-text .result ≡ 0 = omega arith in
-    let e : commaRun (drop (k .loop .at) s) ≡ length (drop (k .loop .at) s) = omega (arith, ends (j .before .before .before), length-drop (k .loop .at) s) in
+    let e : leading isNotComma (drop (k .loop .at) s) ≡ length (drop (k .loop .at) s) = omega (arith, ends (j .before .before .before), length-drop (k .loop .at) s) in
     says-done _ _ (said j .done z .0) (sym (k .loop .inv .3) ∙ walk-last _ _ _ (drop (k .loop .at) s) _ (said j) z e)
 
 add-at : tie.Need-add-at Inv-loop μ-loop
@@ -126,13 +127,13 @@ loop-again c =
     let s = x .text .now in
     let d = drop (k .loop .at) s in
     let z : j .join-text .result ≡ 0 = omega arith in
-    let h : commaRun d < length d = omega (arith, ends u, ends-le u, length-drop (k .loop .at) s) in
-    let e : k .loop .at + suc (commaRun d) ≡ k .loop .at + u .until-comma .result + 1 = omega (arith, ends u) in (
+    let h : leading isNotComma d < length d = omega (arith, ends u, ends-le u, length-drop (k .loop .at) s) in
+    let e : k .loop .at + suc (leading isNotComma d) ≡ k .loop .at + u .leading .result + 1 = omega (arith, ends u) in (
       omega (arith, ends-le u),
       j .join-text .kept .1 .0 ∙ k .loop .inv .1,
       said j .done z .0,
       ap (λ (n : ℕ). mergedFrom (roomOf (x .ledger .now)) (pairsOf (j .join-text .last .1 .0)) (parts (drop n s))) (sym e)
-          ∙ ap (λ (t : List ℕ). mergedFrom (roomOf (x .ledger .now)) (pairsOf (j .join-text .last .1 .0)) (parts t)) (sym (drop-drop (suc (commaRun d)) (k .loop .at) s))
+          ∙ ap (λ (t : List ℕ). mergedFrom (roomOf (x .ledger .now)) (pairsOf (j .join-text .last .1 .0)) (parts t)) (sym (drop-drop (suc (leading isNotComma d)) (k .loop .at) s))
           ∙ sym (walk-next _ _ _ d _ (said j) z h)
           ∙ k .loop .inv .3,
     )
@@ -144,10 +145,10 @@ join-list-spec =
     Inv-loop
     μ-loop
     loop-holds
-    sub-until-comma
-    part-until-comma-start
-    part-until-comma-end
-    until-comma-requires
+    sub-leading
+    part-leading-start
+    part-leading-end
+    leading-requires
     add-end
     sub-join-text
     part-join-text-start

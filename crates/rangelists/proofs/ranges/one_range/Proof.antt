@@ -6,48 +6,49 @@ use native.Mathlib.Omega.{arith}
 use borrow.Author.Needs.{needs}
 use lib.ListN.{length, getD, take, drop, length-drop, length-take}
 use lib.Seq.{take-all}
-use Rattle.octets.specs.Decimal.{digitRun, numberOf}
+use Rattle.octets.specs.Decimal.{numberOf}
+use Rattle.octets.specs.Text.{isDigit, leading}
 use Rattle.rangelists.specs.RangeText.{bound, boundOf}
 use Rattle.rangelists.proofs.Bounds.{bound-nothing, bound-value, bound-is, range-no-hyphen, range-short, range-no-start, range-no-end, range-falling, range-places}
 use Rattle.rangelists.proofs.ranges.one_range.Statement.{statement}
 use Rattle.rangelists.proofs.ranges.one_range.Tie as tie
 
-hyphen : (c : tie.Else2) → let s = c .before .before .before .before .before .args .text .now in getD s (digitRun s) 0 ≡ 45
-hyphen c = rw (c .before .before .before .run .ensures) at (c .if2 .left)
+hyphen : (c : tie.Else2) → let s = c .before .before .before .before .before .args .text .now in getD s (leading isDigit s) 0 ≡ 45
+hyphen c = rw (c .before .before .before .leading .ensures) at (c .if2 .left)
 
 -- the number before the hyphen, and the one behind it
 start-is : (c : tie.After-one-number) → let s = c .before .before .before .before .before .before .before .args .text .now in
-    c .one-number .result ≡ boundOf (take (digitRun s) s)
-start-is c = rw (c .before .before .before .before .before .run .ensures) at (c .one-number .ensures)
+    c .one-number .result ≡ boundOf (take (leading isDigit s) s)
+start-is c = rw (c .before .before .before .before .before .leading .ensures) at (c .one-number .ensures)
 
 start-value : (c : tie.After-a) → let s = c .before .before .before .before .before .before .before .before .before .args .text .now in
-    (bound (take (digitRun s) s) ≡ true) × (numberOf (take (digitRun s) s) ≡ c .a .given .0 .0)
+    (bound (take (leading isDigit s) s) ≡ true) × (numberOf (take (leading isDigit s) s) ≡ c .a .given .0 .0)
 start-value c =
     let s = c .before .before .before .before .before .before .before .before .before .args .text .now in
-    bound-value (take (digitRun s) s) (c .a .given .0 .0) (sym (start-is (c .before .before)) ∙ c .a .given .1)
+    bound-value (take (leading isDigit s) s) (c .a .given .0 .0) (sym (start-is (c .before .before)) ∙ c .a .given .1)
 
 end-is : (c : tie.After-one-number2) → let r = c .before .before .before .before .before .before .before .before .before .before in
     let s = r .before .before .args .text .now in
-    c .one-number2 .result ≡ boundOf (drop (suc (digitRun s)) s)
+    c .one-number2 .result ≡ boundOf (drop (suc (leading isDigit s)) s)
 end-is c =
     let r = c .before .before .before .before .before .before .before .before .before .before in
     let s = r .before .before .args .text .now in
-    let k = r .run .result in
+    let k = r .leading .result in
     let h : length (drop (k + 1) s) ≤ length s - (k + 1) = simp length-drop (omega arith) in
-    let e : k + 1 ≡ suc (digitRun s) = omega (arith, r .run .ensures) in
+    let e : k + 1 ≡ suc (leading isDigit s) = omega (arith, r .leading .ensures) in
     c .one-number2 .ensures ∙ ap boundOf (take-all (length s - (k + 1)) (drop (k + 1) s) h ∙ ap (λ (n : ℕ). drop n s) e)
 
 end-value : (c : tie.After-b) → let s = c .before .before .before .before .before .before .before .before .before .before .before .before .before .before .args .text .now in
-    (bound (drop (suc (digitRun s)) s) ≡ true) × (numberOf (drop (suc (digitRun s)) s) ≡ c .b .given .0 .0)
+    (bound (drop (suc (leading isDigit s)) s) ≡ true) × (numberOf (drop (suc (leading isDigit s)) s) ≡ c .b .given .0 .0)
 end-value c =
     let s = c .before .before .before .before .before .before .before .before .before .before .before .before .before .before .args .text .now in
-    bound-value (drop (suc (digitRun s)) s) (c .b .given .0 .0) (sym (end-is (c .before .before)) ∙ c .b .given .1)
+    bound-value (drop (suc (leading isDigit s)) s) (c .b .given .0 .0) (sym (end-is (c .before .before)) ∙ c .b .given .1)
 
-run-requires : tie.Need-run-requires
-run-requires c κs = search needs
+leading-requires : tie.Need-leading-requires
+leading-requires c κs = search needs
 
 returns : tie.Need-returns
-returns c = sym (range-short (c .before .before .before .args .text .now) (omega (arith, c .before .run .ensures)))
+returns c = sym (range-short (c .before .before .before .args .text .now) (omega (arith, c .before .leading .ensures)))
 
 shared-slice-read-if2 : tie.Need-shared-slice-read-if2
 shared-slice-read-if2 c = search needs
@@ -56,7 +57,7 @@ returns-2 : tie.Need-returns-2
 returns-2 c =
     let r = c .before .before .before in
     let s = r .before .before .args .text .now in
-    sym (range-no-hyphen s (rw (r .run .ensures) at (c .if2 .taken)))
+    sym (range-no-hyphen s (rw (r .leading .ensures) at (c .if2 .taken)))
 
 slice-aggregate-one-number : tie.Need-slice-aggregate-one-number
 slice-aggregate-one-number c = simp length-take (omega arith)
@@ -74,7 +75,7 @@ returns-3 : tie.Need-returns-3
 returns-3 c =
     let n = c .before .before in
     let s = n .before .before .before .before .before .before .before .args .text .now in
-    sym (range-no-start s (bound-nothing (take (digitRun s) s) (sym (start-is n) ∙ c .enum-told .given .1)))
+    sym (range-no-start s (bound-nothing (take (leading isDigit s) s) (sym (start-is n) ∙ c .enum-told .given .1)))
 
 add-one-number : tie.Need-add-one-number
 add-one-number c = search needs
@@ -102,7 +103,7 @@ returns-4 c =
     let n = c .before .before in
     let a = n .before .before .before in
     let s = a .before .before .before .before .before .before .before .before .before .args .text .now in
-    sym (range-no-end s (start-value a .0) (hyphen (a .before .before .before .before)) (bound-nothing (drop (suc (digitRun s)) s) (sym (end-is n) ∙ c .enum-told2 .given .1)))
+    sym (range-no-end s (start-value a .0) (hyphen (a .before .before .before .before)) (bound-nothing (drop (suc (leading isDigit s)) s) (sym (end-is n) ∙ c .enum-told2 .given .1)))
 
 returns-5 : tie.Need-returns-5
 returns-5 c =
@@ -111,18 +112,18 @@ returns-5 c =
     let s = a .before .before .before .before .before .before .before .before .before .args .text .now in
     sym (range-falling s (start-value a .0) (hyphen (a .before .before .before .before)) (end-value b .0) (omega (arith, start-value a .1, end-value b .1)))
 
-add-t17 : tie.Need-add-t17
-add-t17 c =
+add-t18 : tie.Need-add-t18
+add-t18 c =
     let b = c .before .before in
     let s = b .before .before .before .before .before .before .before .before .before .before .before .before .before .before .args .text .now in
-    omega (arith, end-value b .1, bound-is (drop (suc (digitRun s)) s) (end-value b .0) .most)
+    omega (arith, end-value b .1, bound-is (drop (suc (leading isDigit s)) s) (end-value b .0) .most)
 
 returns-6 : tie.Need-returns-6
 returns-6 c =
     let b = c .before .before in
     let a = b .before .before .before .before .before in
     let s = a .before .before .before .before .before .before .before .before .before .args .text .now in
-    let e : c .before .before .b .given .0 .0 + 1 ≡ suc (numberOf (drop (suc (digitRun s)) s)) = omega (arith, end-value b .1) in
+    let e : c .before .before .b .given .0 .0 + 1 ≡ suc (numberOf (drop (suc (leading isDigit s)) s)) = omega (arith, end-value b .1) in
     rw (e, ← start-value a .1)
     (sym (range-places s (start-value a .0) (hyphen (a .before .before .before .before)) (end-value b .0) (omega (arith, start-value a .1, end-value b .1))))
 
@@ -130,7 +131,7 @@ pub one-range-spec : {M : Type 1} → statement M
 one-range-spec =
     tie.close
     (tie.spec
-    run-requires
+    leading-requires
     returns
     shared-slice-read-if2
     returns-2
@@ -148,5 +149,5 @@ one-range-spec =
     enum-told-2
     returns-4
     returns-5
-    add-t17
+    add-t18
     returns-6)

@@ -1,0 +1,151 @@
+-- What reads as a host-port is written as one.
+use Prim.Native.Nat.{ℕ, suc, _+_, _*_, _≤_, _<_}
+use mathlib.Core.Path.{_≡_, refl, sym, ap, _∙_}
+use mathlib.Core.Bool.{Bool, true, false, cond, _&&_, and-eq-true-iff}
+use mathlib.Core.List.{List, [], _∷_, _++_}
+use native.Mathlib.Omega.{arith}
+use native.Mathlib.Numerals.{add-one}
+use borrow.Author.Tests.{ltb-true, ltb-false, leb-true, eqb-true}
+use lib.Dec.{leb, ltb, eqb}
+use lib.ListN.{length, getD, take, drop, take-append-drop, List·getD-eq-default}
+use lib.Seq.{length-take-le, drop-cons}
+use Rattle.octets.specs.Decimal.{numberOf}
+use Rattle.octets.specs.Text.{isDigit, leading}
+use Rattle.octets.proofs.Texts.{leading-le, all-leading, leading-rest}
+use Rattle.hostports.specs.declared.host_port.ParsedNumber.{ParsedNumber}
+use Rattle.hostports.specs.declared.host_port.ParsedNumber.the-variants.{Number, Malformed as NoNumber}
+use Rattle.hostports.specs.declared.host_port.ParsedHostPort.the-variants.{HostPort, Malformed}
+use Rattle.hostports.specs.HostPort.{comma, digitLimit, valueLimit, numberAt, andThen, moreAt, hostPortAt}
+use Rattle.hostports.specs.HostPorts.{Numeral, NoDigit, HostPortText, written, address, port, WrittenAt}
+use Rattle.hostports.proofs.HostPort.{more-done}
+use Rattle.hostports.proofs.HostPortsWritten.{after, commaThen, after-more, written-rest, written-place}
+
+-- after the digits that a text begins with there is no digit
+none-leads : (rest : List ℕ) → leading isDigit rest ≡ 0 → NoDigit rest
+unfolding leading
+none-leads [] h = tt
+none-leads (b ∷ bs) h = go (isDigit b) refl h
+  where
+    go : (t : Bool) → isDigit b ≡ t → cond t (suc (leading isDigit bs)) 0 ≡ 0 → isDigit b ≡ false
+    go true e h = absurd (omega arith)
+    go false e h = e
+
+run-stops : (text : List ℕ) → NoDigit (drop (leading isDigit text) text)
+run-stops text = none-leads (drop (leading isDigit text) text) (leading-rest isDigit text)
+
+-- a number that is read is written there, with no digit after it
+pub record NumeralAt (text : List ℕ) (at v next : ℕ) : Type 0 where
+  pub a : Numeral
+  pub rest : List ℕ
+  pub there : drop at text ≡ a .text ++ rest
+  pub no-digit : NoDigit rest
+  pub says : v ≡ a .value
+  pub place : next ≡ at + length (a .text)
+
+never : (v next : ℕ) → Malformed ≡ HostPort v next → ⊥
+never v next e = let z : _≡_ {A = ℕ} 0 1 = cc in omega arith
+
+same-host-port : (v p w q : ℕ) → HostPort v p ≡ HostPort w q → (v ≡ w) × (p ≡ q)
+same-host-port v p w q e = (cc, cc)
+
+number-read : (text : List ℕ) (at v next : ℕ) → numberAt text at ≡ Number v next → NumeralAt text at v next
+unfolding numberAt
+number-read text at v next = go (leb 1 k && (leb k digitLimit && leb n valueLimit)) refl
+  where
+    k : ℕ
+    k = leading isDigit (drop at text)
+
+    digits : List ℕ
+    digits = take k (drop at text)
+
+    n : ℕ
+    n = numberOf digits
+
+    go : (t : Bool) → leb 1 k && (leb k digitLimit && leb n valueLimit) ≡ t → cond t (Number n (at + k)) NoNumber ≡ Number v next → NumeralAt text at v next
+    go false e h = absurd (let z : _≡_ {A = ℕ} 0 1 = cc in omega arith)
+    go true e h =
+        let p = and-eq-true-iff (leb 1 k) (leb k digitLimit && leb n valueLimit) .0 e in
+        let q = and-eq-true-iff (leb k digitLimit) (leb n valueLimit) .0 (p .1) in
+        let one : 1 ≤ k = leb-true 1 k (p .0) in
+        let three : k ≤ digitLimit = leb-true k digitLimit (q .0) in
+        let low : n ≤ valueLimit = leb-true n valueLimit (q .1) in
+        let size : length digits ≡ k = length-take-le k (drop at text) (leading-le isDigit (drop at text)) in
+        record {
+          a = record { text = digits; value = n; digits = all-leading isDigit (drop at text); one-or-more = omega arith; at-most-three = omega arith; says = refl; small = omega arith };
+          rest = drop k (drop at text);
+          there = sym (take-append-drop k (drop at text));
+          no-digit = run-stops (drop at text);
+          says = cc;
+          place = rw size (cc);
+        }
+
+-- a comma and a number are written where a further number is read, and what comes after them is read on from there
+record MoreAt (n : ℕ) (text : List ℕ) (v at w next : ℕ) : Type 0 where
+  a : Numeral
+  rest : List ℕ
+  there : drop at text ≡ commaThen a rest
+  no-digit : NoDigit rest
+  on : moreAt n text (v * 256 + a .value) (at + 1 + length (a .text)) ≡ HostPort w next
+
+-- a byte that is not 0 is in the text
+pub byte-there : (text : List ℕ) (at b : ℕ) → 1 ≤ b → getD text at 0 ≡ b → drop at text ≡ b ∷ drop (at + 1) text
+byte-there text at b h e = go (ltb at (length text)) refl
+  where
+    go : (t : Bool) → ltb at (length text) ≡ t → drop at text ≡ b ∷ drop (at + 1) text
+    go true i =
+        let inside : at < length text = ltb-true at (length text) i in
+        rw (add-one at, drop-cons text at 0, e)
+    go false o =
+        let z : getD text at 0 ≡ 0 = List·getD-eq-default text 0 (ltb-false at (length text) o) in
+        absurd (omega arith)
+
+more-read : (n : ℕ) (text : List ℕ) (v at w next : ℕ) → moreAt (suc n) text v at ≡ HostPort w next → MoreAt n text v at w next
+unfolding moreAt andThen
+more-read n text v at w next = go (eqb (getD text at 0) comma) refl (numberAt text (at + 1)) refl
+  where
+    go : (t : Bool) → eqb (getD text at 0) comma ≡ t → (s : ParsedNumber) → numberAt text (at + 1) ≡ s → cond t (andThen s (λ u place. moreAt n text (v * 256 + u) place)) Malformed ≡ HostPort w next → MoreAt n text v at w next
+    go false c s e h = absurd (never w next h)
+    go true c NoNumber e h = absurd (never w next h)
+    go true c (Number u place) e h =
+        let m = number-read text (at + 1) u place e in
+        record {
+          a = m .a;
+          rest = m .rest;
+          there = byte-there text at 44 (omega arith) (eqb-true (getD text at 0) comma c) ∙ ap (λ (l : List ℕ). 44 ∷ l) (m .there);
+          no-digit = m .no-digit;
+          on = rw (← m .says, ← m .place) h;
+        }
+
+-- a value is named, so that what comes after it does not write it out
+given : {A R : Type 0} → A → (A → R) → R
+given x f = f x
+
+-- six numbers, commas between, are written where they are read
+pub six-read : (text : List ℕ) (at v next : ℕ) → hostPortAt text at ≡ HostPort v next
+    → (h : HostPortText) × WrittenAt text at h × (v ≡ address h * 65536 + port h) × (next ≡ at + length (written h))
+unfolding hostPortAt andThen
+six-read text at v next = go (numberAt text at) refl
+  where
+    go : (s : ParsedNumber) → numberAt text at ≡ s → andThen s (moreAt 5 text) ≡ HostPort v next
+        → (h : HostPortText) × WrittenAt text at h × (v ≡ address h * 65536 + port h) × (next ≡ at + length (written h))
+    go NoNumber e g = absurd (never v next g)
+    go (Number u place) e g =
+        given (number-read text at u place e) (λ m₀.
+        given (more-read 4 text (m₀ .a .value) (at + length (m₀ .a .text)) v next (rw (← m₀ .says, ← m₀ .place) g)) (λ m₁.
+        given (more-read 3 text _ _ v next (m₁ .on)) (λ m₂.
+        given (more-read 2 text _ _ v next (m₂ .on)) (λ m₃.
+        given (more-read 1 text _ _ v next (m₃ .on)) (λ m₄.
+        given (more-read 0 text _ _ v next (m₄ .on)) (λ m₅.
+        let h : HostPortText = record { a = m₀ .a; b = m₁ .a; c = m₂ .a; d = m₃ .a; e = m₄ .a; f = m₅ .a } in
+        let p₁ = at + length (h .a .text) in
+        let p₂ = p₁ + 1 + length (h .b .text) in
+        let p₃ = p₂ + 1 + length (h .c .text) in
+        let p₄ = p₃ + 1 + length (h .d .text) in
+        let r₀ : m₀ .rest ≡ commaThen (h .b) (m₁ .rest) = sym (after text at (h .a .text) (m₀ .rest) (m₀ .there)) ∙ m₁ .there in
+        let r₁ : m₁ .rest ≡ commaThen (h .c) (m₂ .rest) = sym (after-more text p₁ (h .b) (m₁ .rest) (m₁ .there)) ∙ m₂ .there in
+        let r₂ : m₂ .rest ≡ commaThen (h .d) (m₃ .rest) = sym (after-more text p₂ (h .c) (m₂ .rest) (m₂ .there)) ∙ m₃ .there in
+        let r₃ : m₃ .rest ≡ commaThen (h .e) (m₄ .rest) = sym (after-more text p₃ (h .d) (m₃ .rest) (m₃ .there)) ∙ m₄ .there in
+        let r₄ : m₄ .rest ≡ commaThen (h .f) (m₅ .rest) = sym (after-more text p₄ (h .e) (m₄ .rest) (m₄ .there)) ∙ m₅ .there in
+        let there : drop at text ≡ written h ++ m₅ .rest = m₀ .there ∙ rw (r₀, r₁, r₂, r₃, r₄) (sym (written-rest h (m₅ .rest))) in
+        let end = same-host-port _ _ v next (sym (more-done text _ _) ∙ m₅ .on) in
+        (h, record { rest = m₅ .rest; there = there; no-digit = m₅ .no-digit }, omega (arith, end .0), sym (end .1) ∙ written-place h at)))))))
