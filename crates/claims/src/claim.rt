@@ -1,6 +1,7 @@
 // Claiming a range in a ledger, in place: first the judgement, which only reads, then the change, which cannot fail.
 use crate::shift;
 use ledger::rule;
+use ranges::search;
 ghost use mathlib.Core.Path.{_≡_};
 ghost use mathlib.Core.Bool.{true, _&&_};
 ghost use lib.Dec.{ltb};
@@ -24,20 +25,26 @@ pub enum Room {
     At(Spot),
 }
 
+// Whether the pair with the number i is used and ends below the place.
+fn ends_below(ledger: &[u64], i: usize, place: u64) -> bool
+    ensures { λ r. ⌜ r ≡ (ltb 0 (getD (now (ledger .entry)) (2 * i + 1) 0) && ltb (getD (now (ledger .entry)) (2 * i + 1) 0) place) ⌝ }
+{
+    if ledger.len() / 2 <= i {
+        return false;
+    }
+    let b = ledger[2 * i + 1];
+    if b == 0 {
+        return false;
+    }
+    b < place
+}
+
 // The place for a range: in a ledger by the rule, the number of pairs that end below its start.
 fn place(ledger: &[u64], start: u64) -> usize
     ensures { λ r. ⌜ (r ≤ roomOf (now (ledger .entry))) × (obeys (now (ledger .entry)) ≡ true → r ≡ below start (pairsOf (now (ledger .entry)))) ⌝ }
 {
-    let room = ledger.len() / 2;
     let mut k = 0;
-    while k < room {
-        let b = ledger[2 * k + 1];
-        if b == 0 {
-            return k;
-        }
-        if start <= b {
-            return k;
-        }
+    while ends_below(ledger, k, start) {
         k += 1;
     }
     k
@@ -48,15 +55,8 @@ fn reach(ledger: &[u64], at: usize, end: u64) -> usize
     requires { ⌜ at ≤ roomOf (now ledger) ⌝ }
     ensures { λ r. ⌜ (at ≤ r) × (r ≤ roomOf (now (ledger .entry))) × (obeys (now (ledger .entry)) ≡ true → at ≤ upTo end (pairsOf (now (ledger .entry))) → r ≡ upTo end (pairsOf (now (ledger .entry)))) ⌝ }
 {
-    let room = ledger.len() / 2;
     let mut k = at;
-    while k < room {
-        if ledger[2 * k + 1] == 0 {
-            return k;
-        }
-        if end < ledger[2 * k] {
-            return k;
-        }
+    while search::pair_starts_by(ledger, k, end) {
         k += 1;
     }
     k

@@ -9,7 +9,7 @@ use native.Mathlib.Omega.{arith}
 use native.Mathlib.Decide.{decLe}
 use borrow.Author.Tests.{le-leb, lt-leb, ne-eqb, ltb-true, ltb-false, leb-true, leb-false}
 use lib.Dec.{leb, ltb, eqb}
-use lib.ListN.{getD}
+use lib.ListN.{length, getD}
 use Rattle.ledger.specs.Pairs.{Pairs, none, pair, size, Ruled, inside, upTo}
 use Rattle.ledger.specs.Ledger.{zeros, rule, obeys, pairsOf, roomOf}
 use Rattle.ledger.proofs.Lents.{First, unused, used, rule-first, rule-ruled, size-pairsOf}
@@ -17,6 +17,11 @@ use Rattle.ledger.proofs.Spots.{endAt, upTo-on, upTo-stops, upTo-le}
 use Rattle.ledger.proofs.Rules.{zeros-at}
 
 -- ---- one pair of entries
+
+pub past-end : (l : List ℕ) (i : ℕ) → length l ≤ i → getD l i 0 ≡ 0
+past-end [] i h = refl
+past-end (a ∷ l) zero h = absurd (omega arith)
+past-end (a ∷ l) (suc i) h = past-end l i (omega arith)
 
 module _ (a b : ℕ) (rest : List ℕ) (i : ℕ) where
   start-on : getD (a ∷ b ∷ rest) (2 * suc i) 0 ≡ getD rest (2 * i) 0

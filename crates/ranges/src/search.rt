@@ -19,6 +19,16 @@ fn starts_by(ledger: &[u64], i: usize, place: u64) -> bool
     ledger[2 * i] <= place
 }
 
+// The same for any number: a pair past the last is not used.
+pub fn pair_starts_by(ledger: &[u64], i: usize, place: u64) -> bool
+    ensures { λ r. ⌜ r ≡ (ltb 0 (getD (now (ledger .entry)) (2 * i + 1) 0) && leb (getD (now (ledger .entry)) (2 * i) 0) place) ⌝ }
+{
+    if ledger.len() / 2 <= i {
+        return false;
+    }
+    starts_by(ledger, i, place)
+}
+
 // In a ledger by the rule, how many pairs, from the first on, are used and start at the place or before it.
 fn started(ledger: &[u64], place: u64) -> usize
     ensures { λ r. ⌜ (r ≤ roomOf (now (ledger .entry))) × (obeys (now (ledger .entry)) ≡ true → r ≡ upTo place (pairsOf (now (ledger .entry)))) ⌝ }
