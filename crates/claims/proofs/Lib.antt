@@ -1,8 +1,8 @@
-mod Shifted
-mod Sharing
-mod Spliced
-mod Joining
+mod ShiftLoops
+mod Shares
+mod ShiftedPairs
+mod JoinRoom
 mod PairCounts
-mod Merging
-mod Judgements
+mod JoinInPlace
+mod Judged
 pub mod ClaimLaws

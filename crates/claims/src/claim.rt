@@ -10,7 +10,7 @@ ghost use lib.ListN.{getD, set};
 ghost use Rattle.ledger.specs.Pairs.{size, join, shares, below, upTo};
 ghost use Rattle.ledger.specs.Ledger.{obeys, pairsOf, lent, roomOf};
 ghost use Rattle.claims.specs.Claim.{spotOf, Judges, Puts, Joins};
-ghost use Rattle.claims.specs.Shift.{closed};
+ghost use Rattle.claims.specs.Shift.{inserted, closed};
 
 // Where a range goes: the pairs that it becomes one with are those from `at` up to `past`, counted in pairs.
 pub struct Spot {
@@ -153,21 +153,28 @@ fn widen(ledger: &mut [u64], at: usize, past: usize, used: usize, start: u64, en
     shift::close(ledger, first + 2, behind, 2 * used);
 }
 
+// Makes a pair of its own at `at` of the range from start to end, where not all pairs are used.
+fn put_own(ledger: &mut [u64], at: usize, used: usize, start: u64, end: u64)
+    requires { ⌜ (at ≤ used) × (used ≤ roomOf (now ledger)) ⌝ }
+    ensures { λ _. ⌜ (used < roomOf (now (ledger .entry)) → now (ledger .exit) ≡ inserted (now (ledger .entry)) (2 * at) (2 * used) start end) ⌝ }
+{
+    if used == ledger.len() / 2 {
+        return;
+    }
+    shift::insert(ledger, 2 * at, 2 * used, start, end);
+}
+
 // Makes one pair of the range from start to end and the pairs from `at` up to `past`, or a pair of its own, where there is one for it.
 fn merge(ledger: &mut [u64], at: usize, past: usize, start: u64, end: u64)
     requires { ⌜ (at ≤ past) × (past ≤ roomOf (now ledger)) ⌝ }
     ensures { λ _. ⌜ (obeys (now (ledger .entry)) ≡ true → start < end → at ≡ below start (pairsOf (now (ledger .entry))) → past ≡ upTo end (pairsOf (now (ledger .entry))) → size (join start end (pairsOf (now (ledger .entry)))) ≤ roomOf (now (ledger .entry)) → now (ledger .exit) ≡ lent (roomOf (now (ledger .entry))) (join start end (pairsOf (now (ledger .entry))))) ⌝ }
 {
-    let room = ledger.len() / 2;
     let used = reach(ledger, past, rule::LARGEST);
     if at != past {
         widen(ledger, at, past, used, start, end);
         return;
     }
-    if used == room {
-        return;
-    }
-    shift::insert(ledger, 2 * at, 2 * used, start, end);
+    put_own(ledger, at, used, start, end);
 }
 
 // Claims the range from start to end at the spot that `judge` answered for it. For any other spot, a ledger that breaks the rule or an empty

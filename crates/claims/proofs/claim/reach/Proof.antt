@@ -9,7 +9,7 @@ use lib.ListN.{drop}
 use Rattle.ledger.specs.Pairs.{upTo}
 use Rattle.ledger.specs.Ledger.{pairsOf, roomOf}
 use Rattle.ledger.proofs.Spots.{upTo-on, upTo-stops}
-use Rattle.claims.proofs.Joining.{upTo-from}
+use Rattle.claims.proofs.JoinRoom.{upTo-from}
 use Rattle.claims.proofs.PairCounts.{Counts, counted, stopped}
 use Rattle.claims.proofs.claim.reach.Statement.{statement}
 use Rattle.claims.proofs.claim.reach.Tie as tie

@@ -1,6 +1,6 @@
 -- The judgement of a range, case by case: its number, and its spot where it is accepted.
 use Prim.Native.Nat.{ℕ, _≤_, _<_}
-use mathlib.Core.Path.{_≡_, refl, sym, _∙_}
+use mathlib.Core.Path.{_≡_, refl, sym, ap, _∙_}
 use mathlib.Core.Logic.{_↔_}
 use mathlib.Core.Bool.{Bool, true, false, cond, true≢false}
 use mathlib.Core.List.{List}
@@ -14,9 +14,29 @@ use Rattle.claims.specs.declared.claim.Spot.{Spot}
 use Rattle.claims.specs.declared.claim.Room.{Room}
 use Rattle.claims.specs.declared.claim.Room.the-variants.{Shares, Full, At}
 use Rattle.ledger.proofs.Spots.{upTo-le}
-use Rattle.claims.proofs.Joining.{fits, at-past}
+use Rattle.claims.proofs.JoinRoom.{fits, at-past}
 
--- the three cases
+-- ---- the answers are not each other
+
+pub shares-not-at : (spot : Spot) → Shares ≡ At spot → ⊥
+unfolding roomNumber
+shares-not-at spot e = let n : _≡_ {A = ℕ} 17 0 = ap roomNumber e in omega arith
+
+pub full-not-at : (spot : Spot) → Full ≡ At spot → ⊥
+unfolding roomNumber
+full-not-at spot e = let n : _≡_ {A = ℕ} 18 0 = ap roomNumber e in omega arith
+
+spotIn : Spot → Room → Spot
+spotIn x Shares = x
+spotIn x Full = x
+spotIn x (At spot) = spot
+
+pub same-spot : (x y : Spot) → At x ≡ At y → x ≡ y
+unfolding spotIn
+same-spot x y e = ap (spotIn x) e
+
+-- ---- the three cases
+
 pub data Case (r s e : ℕ) (ps : Pairs) : Room → Type 0 where
   shared : shares s e ps ≡ true → Case r s e ps Shares
   full : shares s e ps ≡ false → r < size (join s e ps) → Case r s e ps Full
@@ -70,7 +90,7 @@ module _ (r s e : ℕ) (ps : Pairs) where
 module _ (s e : ℕ) (l : List ℕ) (spot : Spot) (q : judged (roomOf l) s e (pairsOf l) ≡ At spot) where
   pub spot-is : spot ≡ spotOf s e (pairsOf l)
   unfolding roomNumber
-  spot-is = let n = numbers (roomOf l) s e (pairsOf l) .3 (rw q) in cc
+  spot-is = same-spot spot (spotOf s e (pairsOf l)) (sym q ∙ numbers (roomOf l) s e (pairsOf l) .3 (rw q))
 
   pub spot-room : size (join s e (pairsOf l)) ≤ roomOf l
   unfolding roomNumber

@@ -11,8 +11,8 @@ use Rattle.ledger.specs.Ledger.{largest, obeys, pairsOf, lent, roomOf}
 use Rattle.claims.specs.Shift.{inserted, closed}
 use Rattle.ledger.proofs.Rules.{start-is, end-is}
 use Rattle.ledger.proofs.Spots.{rest, splice, startAt, endAt, reached-some, join-is, upTo-le, upTo-all}
-use Rattle.claims.proofs.Spliced.{insert-lent, close-lent}
-use Rattle.claims.proofs.Joining.{even, ruled, fits, form, at-past, size-joined}
+use Rattle.claims.proofs.ShiftedPairs.{insert-lent, close-lent}
+use Rattle.claims.proofs.JoinRoom.{even, ruled, fits, form, at-past, size-joined}
 
 module _ (l : List ℕ) (o : obeys l ≡ true) where
   -- the pairs that start by the largest number are all
@@ -21,9 +21,9 @@ module _ (l : List ℕ) (o : obeys l ≡ true) where
 
   module _ (s e : ℕ) (h : s < e) where
     -- a pair of its own
-    pub put-own : below s (pairsOf l) ≡ upTo e (pairsOf l) → size (join s e (pairsOf l)) ≤ roomOf l
+    pub own-joined : below s (pairsOf l) ≡ upTo e (pairsOf l) → size (join s e (pairsOf l)) ≤ roomOf l
         → inserted l (2 * below s (pairsOf l)) (2 * size (pairsOf l)) s e ≡ lent (roomOf l) (join s e (pairsOf l))
-    put-own x g =
+    own-joined x g =
         let ps = pairsOf l in
         let r = roomOf l in
         let at = below s ps in
@@ -34,10 +34,10 @@ module _ (l : List ℕ) (o : obeys l ≡ true) where
         ∙ ap (lent r) (sym j)
 
     -- the pairs of the spot widened to one
-    pub put-wide : (below s (pairsOf l) ≡ upTo e (pairsOf l) → ⊥)
+    pub wide-joined : (below s (pairsOf l) ≡ upTo e (pairsOf l) → ⊥)
         → closed (set (set l (2 * below s (pairsOf l)) (min (getD l (2 * below s (pairsOf l)) 0) s)) (2 * below s (pairsOf l) + 1) (max (getD l (2 * upTo e (pairsOf l) - 1) 0) e)) (2 * below s (pairsOf l) + 2) (2 * upTo e (pairsOf l)) (2 * size (pairsOf l))
         ≡ lent (roomOf l) (join s e (pairsOf l))
-    put-wide x =
+    wide-joined x =
         let ps = pairsOf l in
         let r = roomOf l in
         let at = below s ps in
