@@ -11,7 +11,7 @@ use Rattle.ledger.specs.Ledger.{obeys, pairsOf}
 use Rattle.transfer.specs.declared.state.Transfer.{Transfer}
 use Rattle.transfer.specs.Channel.{channelCount, heldLimit}
 use Rattle.transfer.specs.Fit.{pairLimit, channelsFit, restsApart, countFits, faultFits, fitsLedger}
-use Rattle.channels.specs.Survey.{unfit, surveyWhere, allFit, ledgerFits}
+use Rattle.channels.specs.Survey.{allFit, ledgerFits}
 
 -- eight tests, the last moved to the front
 moved : (a b o e k r n f : Bool) → (a && (b && (o && (e && (k && (r && (n && f))))))) ≡ ((a && b) && (f && (((o && e) && (k && r)) && n)))
@@ -38,19 +38,3 @@ fits-by-parts t l h g =
     (restsApart (t .channels))
     (countFits t)
     (faultFits t))
-
--- the last of two tests, made only of what the first one found
-module _ (t : Transfer) (first last tested : Bool) (h : first ≡ true → tested ≡ last) where
-  pub last-fails : tested ≡ false → unfit ≡ surveyWhere (first && last) t
-  last-fails e = go first refl
-    where
-      go : (b : Bool) → first ≡ b → unfit ≡ surveyWhere (b && last) t
-      go true y = rw (← h y, e)
-      go false y = refl
-
-  pub last-holds : tested ≡ true → surveyWhere first t ≡ surveyWhere (first && last) t
-  last-holds e = go first refl
-    where
-      go : (b : Bool) → first ≡ b → surveyWhere b t ≡ surveyWhere (b && last) t
-      go true y = rw (← h y, e)
-      go false y = refl

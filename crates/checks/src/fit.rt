@@ -18,6 +18,9 @@ fn surveyed(t: Transfer, ledger: &[u64]) -> Survey
         return survey::unfit();
     }
     let found = survey::survey_channels(t, ledger);
+    if !found.fits {
+        return survey::unfit();
+    }
     if !numbers::count_fits(t.count, found.used) {
         return survey::unfit();
     }

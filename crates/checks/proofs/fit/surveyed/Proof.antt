@@ -1,15 +1,15 @@
 -- `fit::surveyed`: a test that fails says so; the rest decide.
 use mathlib.Core.Path.{_≡_, refl, sym, ap, _∙_}
-use mathlib.Core.Bool.{Bool, true, _&&_}
+use mathlib.Core.Bool.{true, _&&_}
 use borrow.Author.Needs.{needs}
 use borrow.Author.Tests.{not-true, not-false}
 use Rattle.transfer.specs.Fit.{countFits, faultFits, fitsLedger}
 use Rattle.counts.proofs.Sum.{length-mapped}
 use Rattle.channels.specs.declared.survey.Survey.{Survey}
 use Rattle.channels.specs.Survey.{allFit, ledgerFits}
-use Rattle.channels.proofs.SurveyFields.{used-where}
+use Rattle.channels.proofs.SurveyFields.{fits-where, used-where}
 use Rattle.checks.specs.FitSurvey.{surveyOf}
-use Rattle.checks.proofs.FitParts.{fits-by-parts, last-fails, last-holds}
+use Rattle.checks.proofs.FitParts.{fits-by-parts}
 use Rattle.checks.proofs.fit.surveyed.Statement.{statement}
 use Rattle.checks.proofs.fit.surveyed.Tie as tie
 
@@ -59,9 +59,6 @@ returns-2 c =
 survey-channels-requires : tie.Need-survey-channels-requires
 survey-channels-requires c κs = search needs
 
-count-fits-requires : tie.Need-count-fits-requires
-count-fits-requires c κs = search needs
-
 unfit-requires-3 : tie.Need-unfit-requires-3
 unfit-requires-3 c κs = search needs
 
@@ -70,37 +67,56 @@ count-last : (c : tie.Else2) → let x = c .before .before .before .before .befo
     fitsLedger (x .t) (x .ledger .now) ≡ ((ledgerFits (x .t) (x .ledger .now) && allFit (x .t) (x .ledger .now)) && countFits (x .t))
 count-last c = let q = c .before in fault-next q ∙ rw (not-false (q .fault-fits .result) (c .if2 .left))
 
--- where the channels fit, the count's test is FIT's
-count-told : (c : tie.After-count-fits) → let x = c .before .before .before .before .before .before .before .args in
-    (ledgerFits (x .t) (x .ledger .now) && allFit (x .t) (x .ledger .now)) ≡ true → c .count-fits .result ≡ countFits (x .t)
-count-told c y =
-    let s = c .before in
-    let t = s .before .before .before .before .before .before .args .t in
-    c .count-fits .ensures t refl (sym (ap (λ (v : Survey). v .used) (s .survey-channels .ensures) ∙ used-where _ t y))
+-- the survey's own test
+told : (c : tie.After-survey-channels) → let x = c .before .before .before .before .before .before .args in
+    (ledgerFits (x .t) (x .ledger .now) && allFit (x .t) (x .ledger .now)) ≡ c .survey-channels .result .fits
+told c =
+    let x = c .before .before .before .before .before .before .args in
+    sym (ap (λ (v : Survey). v .fits) (c .survey-channels .ensures) ∙ fits-where (ledgerFits (x .t) (x .ledger .now) && allFit (x .t) (x .ledger .now)) (x .t))
 
 returns-3 : tie.Need-returns-3
 unfolding surveyOf
 returns-3 c =
     let f = c .before in
-    let n = f .before in
-    let e = n .before .before in
-    let x = e .before .before .before .before .before .args in
-    let first = ledgerFits (x .t) (x .ledger .now) && allFit (x .t) (x .ledger .now) in
-    c .unfit3 .ensures
-    ∙ last-fails (x .t) first (countFits (x .t)) (n .count-fits .result) (count-told n) (not-true (n .count-fits .result) (f .if3 .taken))
-    ∙ rw (count-last e)
+    let s = f .before .before in
+    c .unfit3 .ensures ∙ rw (count-last (s .before), told s, not-true (s .survey-channels .result .fits) (f .if3 .taken))
+
+-- the channels fit, and the test of their count is FIT's
+all-fit : (c : tie.Else3) → let x = c .before .before .before .before .before .before .before .before .args in
+    (ledgerFits (x .t) (x .ledger .now) && allFit (x .t) (x .ledger .now)) ≡ true
+all-fit c = let s = c .before .before in told s ∙ not-false (s .survey-channels .result .fits) (c .if3 .left)
+
+count-told : (c : tie.After-count-fits) → c .count-fits .result ≡ countFits (c .before .before .before .before .before .before .before .before .before .args .t)
+count-told c =
+    let e = c .before in
+    let s = e .before .before in
+    let x = s .before .before .before .before .before .before .args in
+    let b = ledgerFits (x .t) (x .ledger .now) && allFit (x .t) (x .ledger .now) in
+    c .count-fits .ensures (x .t) refl (sym (ap (λ (v : Survey). v .used) (s .survey-channels .ensures) ∙ used-where b (x .t) (all-fit e)))
+
+count-fits-requires : tie.Need-count-fits-requires
+count-fits-requires c κs = search needs
+
+unfit-requires-4 : tie.Need-unfit-requires-4
+unfit-requires-4 c κs = search needs
 
 returns-4 : tie.Need-returns-4
 unfolding surveyOf
 returns-4 c =
+    let f = c .before in
+    let n = f .before in
+    let e = n .before in
+    let z = sym (count-told n) ∙ not-true (n .count-fits .result) (f .if4 .taken) in
+    c .unfit4 .ensures ∙ rw (count-last (e .before .before .before), all-fit e, z)
+
+returns-5 : tie.Need-returns-5
+unfolding surveyOf
+returns-5 c =
     let n = c .before in
-    let s = n .before in
-    let e = s .before in
-    let x = e .before .before .before .before .before .args in
-    let first = ledgerFits (x .t) (x .ledger .now) && allFit (x .t) (x .ledger .now) in
-    s .survey-channels .ensures
-    ∙ last-holds (x .t) first (countFits (x .t)) (n .count-fits .result) (count-told n) (not-false (n .count-fits .result) (c .if3 .left))
-    ∙ rw (count-last e)
+    let e = n .before in
+    let s = e .before .before in
+    let y = sym (count-told n) ∙ not-false (n .count-fits .result) (c .if4 .left) in
+    s .survey-channels .ensures ∙ rw (count-last (s .before), all-fit e, y)
 
 pub surveyed-spec : {M : Type 1} → statement M
 surveyed-spec =
@@ -113,7 +129,9 @@ surveyed-spec =
     unfit-requires-2
     returns-2
     survey-channels-requires
-    count-fits-requires
     unfit-requires-3
     returns-3
-    returns-4)
+    count-fits-requires
+    unfit-requires-4
+    returns-4
+    returns-5)
