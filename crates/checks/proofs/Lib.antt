@@ -1,5 +1,2 @@
-pub mod Counting
-pub mod Halves
-pub mod Passing
-pub mod Rests
-pub mod Surveys
+pub mod FitParts
+pub mod FitSurvey

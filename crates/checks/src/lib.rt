@@ -1,4 +1,3 @@
-// What is read of a transfer before it is used: its channels counted, and FIT.
-pub mod count;
+// FIT: whether a transfer, a file and a ledger belong together.
 pub mod fit;
-mod rest;
+mod numbers;

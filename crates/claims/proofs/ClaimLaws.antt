@@ -12,8 +12,8 @@ use Rattle.claims.specs.Claim.{spotOf}
 use Rattle.claims.specs.ClaimLaws.{ClaimLaws}
 use Rattle.ledger.proofs.Rules.{start-is, end-is}
 use Rattle.ledger.proofs.Spots.{startAt, endAt, upTo-le, upTo-on, upTo-stops, below-on, below-stops}
-use Rattle.claims.proofs.Joining.{even, ruled}
-use Rattle.claims.proofs.Judgements.{numbers, spot-inside}
+use Rattle.claims.proofs.JoinRoom.{even, ruled}
+use Rattle.claims.proofs.Judged.{numbers, spot-inside}
 
 -- ---- the two counts, pair by pair
 

@@ -1,7 +1,8 @@
-mod Shifted
-mod Sharing
-mod Spliced
-mod Joining
-mod Merging
-mod Judgements
+mod ShiftLoops
+mod Shares
+mod ShiftedPairs
+mod JoinRoom
+mod PairCounts
+mod JoinInPlace
+mod Judged
 pub mod ClaimLaws

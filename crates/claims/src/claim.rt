@@ -1,6 +1,7 @@
 // Claiming a range in a ledger, in place: first the judgement, which only reads, then the change, which cannot fail.
 use crate::shift;
 use ledger::rule;
+use ranges::search;
 ghost use mathlib.Core.Path.{_≡_};
 ghost use mathlib.Core.Bool.{true, _&&_};
 ghost use lib.Dec.{ltb};
@@ -9,7 +10,7 @@ ghost use lib.ListN.{getD, set};
 ghost use Rattle.ledger.specs.Pairs.{size, join, shares, below, upTo};
 ghost use Rattle.ledger.specs.Ledger.{obeys, pairsOf, lent, roomOf};
 ghost use Rattle.claims.specs.Claim.{spotOf, Judges, Puts, Joins};
-ghost use Rattle.claims.specs.Shift.{closed};
+ghost use Rattle.claims.specs.Shift.{inserted, closed};
 
 // Where a range goes: the pairs that it becomes one with are those from `at` up to `past`, counted in pairs.
 pub struct Spot {
@@ -24,20 +25,26 @@ pub enum Room {
     At(Spot),
 }
 
+// Whether the pair with the number i is used and ends below the place.
+fn ends_below(ledger: &[u64], i: usize, place: u64) -> bool
+    ensures { λ r. ⌜ r ≡ (ltb 0 (getD (now (ledger .entry)) (2 * i + 1) 0) && ltb (getD (now (ledger .entry)) (2 * i + 1) 0) place) ⌝ }
+{
+    if ledger.len() / 2 <= i {
+        return false;
+    }
+    let b = ledger[2 * i + 1];
+    if b == 0 {
+        return false;
+    }
+    b < place
+}
+
 // The place for a range: in a ledger by the rule, the number of pairs that end below its start.
 fn place(ledger: &[u64], start: u64) -> usize
     ensures { λ r. ⌜ (r ≤ roomOf (now (ledger .entry))) × (obeys (now (ledger .entry)) ≡ true → r ≡ below start (pairsOf (now (ledger .entry)))) ⌝ }
 {
-    let room = ledger.len() / 2;
     let mut k = 0;
-    while k < room {
-        let b = ledger[2 * k + 1];
-        if b == 0 {
-            return k;
-        }
-        if start <= b {
-            return k;
-        }
+    while ends_below(ledger, k, start) {
         k += 1;
     }
     k
@@ -48,15 +55,8 @@ fn reach(ledger: &[u64], at: usize, end: u64) -> usize
     requires { ⌜ at ≤ roomOf (now ledger) ⌝ }
     ensures { λ r. ⌜ (at ≤ r) × (r ≤ roomOf (now (ledger .entry))) × (obeys (now (ledger .entry)) ≡ true → at ≤ upTo end (pairsOf (now (ledger .entry))) → r ≡ upTo end (pairsOf (now (ledger .entry)))) ⌝ }
 {
-    let room = ledger.len() / 2;
     let mut k = at;
-    while k < room {
-        if ledger[2 * k + 1] == 0 {
-            return k;
-        }
-        if end < ledger[2 * k] {
-            return k;
-        }
+    while search::pair_starts_by(ledger, k, end) {
         k += 1;
     }
     k
@@ -153,21 +153,28 @@ fn widen(ledger: &mut [u64], at: usize, past: usize, used: usize, start: u64, en
     shift::close(ledger, first + 2, behind, 2 * used);
 }
 
+// Makes a pair of its own at `at` of the range from start to end, where not all pairs are used.
+fn put_own(ledger: &mut [u64], at: usize, used: usize, start: u64, end: u64)
+    requires { ⌜ (at ≤ used) × (used ≤ roomOf (now ledger)) ⌝ }
+    ensures { λ _. ⌜ (used < roomOf (now (ledger .entry)) → now (ledger .exit) ≡ inserted (now (ledger .entry)) (2 * at) (2 * used) start end) ⌝ }
+{
+    if used == ledger.len() / 2 {
+        return;
+    }
+    shift::insert(ledger, 2 * at, 2 * used, start, end);
+}
+
 // Makes one pair of the range from start to end and the pairs from `at` up to `past`, or a pair of its own, where there is one for it.
 fn merge(ledger: &mut [u64], at: usize, past: usize, start: u64, end: u64)
     requires { ⌜ (at ≤ past) × (past ≤ roomOf (now ledger)) ⌝ }
     ensures { λ _. ⌜ (obeys (now (ledger .entry)) ≡ true → start < end → at ≡ below start (pairsOf (now (ledger .entry))) → past ≡ upTo end (pairsOf (now (ledger .entry))) → size (join start end (pairsOf (now (ledger .entry)))) ≤ roomOf (now (ledger .entry)) → now (ledger .exit) ≡ lent (roomOf (now (ledger .entry))) (join start end (pairsOf (now (ledger .entry))))) ⌝ }
 {
-    let room = ledger.len() / 2;
     let used = reach(ledger, past, rule::LARGEST);
     if at != past {
         widen(ledger, at, past, used, start, end);
         return;
     }
-    if used == room {
-        return;
-    }
-    shift::insert(ledger, 2 * at, 2 * used, start, end);
+    put_own(ledger, at, used, start, end);
 }
 
 // Claims the range from start to end at the spot that `judge` answered for it. For any other spot, a ledger that breaks the rule or an empty

@@ -1,7 +1,8 @@
 // The ledger rule, and how many bytes a ledger holds.
+use octets::sum;
 ghost use mathlib.Core.Path.{_≡_};
 ghost use mathlib.Core.Bool.{_&&_};
-ghost use Prim.Native.Nat.{_+_, _-_, _%_, min};
+ghost use Prim.Native.Nat.{_%_, min};
 ghost use lib.Dec.{eqb};
 ghost use lib.ListN.{length};
 ghost use Rattle.ledger.specs.Pairs.{total, endsBy};
@@ -82,26 +83,6 @@ pub fn obeys(ledger: &[u64], limit: u64) -> bool
     i == ledger.len()
 }
 
-// b - a, or 0 where b is less.
-fn above(b: u64, a: u64) -> u64
-    ensures { λ r. ⌜ r ≡ b - a ⌝ }
-{
-    if b < a {
-        return 0;
-    }
-    b - a
-}
-
-// n + d, or the largest number where that is more.
-fn at_most(n: u64, d: u64) -> u64
-    ensures { λ r. ⌜ r ≡ min 18446744073709551615 (n + d) ⌝ }
-{
-    if LARGEST - n < d {
-        return LARGEST;
-    }
-    n + d
-}
-
 // How many bytes the used pairs hold, or the largest number where that is more, which a ledger that obeys its rule never has.
 pub fn total(ledger: &[u64]) -> u64
     ensures { λ r. ⌜ r ≡ min 18446744073709551615 (total (pairsOf (now (ledger .entry)))) ⌝ }
@@ -114,7 +95,7 @@ pub fn total(ledger: &[u64]) -> u64
         if b == 0 {
             return n;
         }
-        n = at_most(n, above(b, a));
+        n = sum::saturating_add(n, sum::saturating_sub(b, a));
         i += 2;
     }
     n

@@ -8,8 +8,10 @@ use native.Mathlib.Decide.{decLt}
 use borrow.Author.Tests.{lt-ltb, le-leb, lt-leb}
 use lib.Dec.{ltb, eqb}
 use lib.ListN.{length}
-use Rattle.checks.specs.Survey.{surveyWhere, surveyIn}
-use Rattle.checks.proofs.Surveys.{survey-in, fits-where, used-where, ended-where}
+use Rattle.channelchecks.specs.Survey.{surveyWhere}
+use Rattle.channelchecks.proofs.SurveyFields.{fits-where, used-where, ended-where}
+use Rattle.checks.specs.FitSurvey.{surveyIn}
+use Rattle.checks.proofs.FitSurvey.{survey-in}
 use Rattle.transfer.specs.declared.state.Transfer.{Transfer}
 use Rattle.transfer.specs.Channel.{channelCount, channelAt}
 use Rattle.transfer.specs.Transfer.{usedOf, endedOf, World, world, guess, result, broken, isFinal, verdictOf}

@@ -1,8 +1,8 @@
 // The channel of a call, apart from its transfer: a call changes nothing else but count and fault, so it works on these few numbers and
 // writes them back once.
 use crate::body;
-use checks::fit;
-use checks::fit::Survey;
+use channelchecks::limits;
+use channelchecks::survey::Survey;
 use transfer::state::Channel;
 ghost use mathlib.Core.Path.{_≡_};
 ghost use mathlib.Core.Bool.{cond};
@@ -76,8 +76,8 @@ fn bytes_at(heads: &[u8], c: usize) -> [u8; 16]
     ensures { λ r. ⌜ r ≡ take 16 (drop (16 * c) (now (heads .entry))) ⌝ }
 {
     let mut bytes = [0u8; 16];
-    let at = fit::HELD_LIMIT * c;
-    body::store(&mut bytes, 0, &heads[at..], fit::HELD_LIMIT);
+    let at = limits::HELD_LIMIT * c;
+    body::store(&mut bytes, 0, &heads[at..], limits::HELD_LIMIT);
     bytes
 }
 
@@ -104,5 +104,5 @@ pub fn put_bytes(heads: &mut [u8; 1024], c: usize, x: Live)
     ensures { λ _. ⌜ now (heads .exit) ≡ take (16 * c) (now (heads .entry)) ++ (x .bytes ++ drop (16 * c + 16) (now (heads .entry))) ⌝ }
 {
     let bytes = x.bytes;
-    body::store(heads, fit::HELD_LIMIT * c, &bytes, fit::HELD_LIMIT);
+    body::store(heads, limits::HELD_LIMIT * c, &bytes, limits::HELD_LIMIT);
 }

@@ -2,7 +2,7 @@
 use crate::receive::Receiver;
 use crate::receive::Verdict;
 use crate::verdict;
-use checks::count;
+use counts::count;
 use ledger::rule;
 ghost use mathlib.Core.Path.{_≡_};
 ghost use mathlib.Core.List.{List};

@@ -4,7 +4,7 @@ use crate::channel;
 use crate::head;
 use crate::live::Live;
 use crate::live::Others;
-use checks::fit;
+use channelchecks::limits;
 ghost use mathlib.Core.Path.{_≡_};
 ghost use mathlib.Core.Bool.{true};
 ghost use mathlib.Core.List.{List, [], _∷_, _++_};
@@ -36,7 +36,7 @@ fn seventeen(x: Live, last: u8) -> [u8; 17]
 {
     let mut head = [last; 17];
     let bytes = x.bytes;
-    body::store(&mut head, 0, &bytes, fit::HELD_LIMIT);
+    body::store(&mut head, 0, &bytes, limits::HELD_LIMIT);
     head
 }
 
@@ -55,7 +55,7 @@ fn header(x: Live, c: usize, o: Others, piece: &[u8], ledger: &mut [u64]) -> Ran
     requires { ⌜ (0 < length (now piece)) × TakesHeader x o × ((t : Transfer) × Around t c o × (fitsLedger (back t c x) (now ledger) ≡ true)) ⌝ }
     ensures { λ r. ⌜ ((t : Transfer) (file : List ℕ) → Around t c o → fitsLedger (back t c x) (now (ledger .entry)) ≡ true → length file ≡ t .len → RunOf c (world (back t c x) file (now (ledger .entry))) (now (piece .entry)) (world (back t c (r .live)) file (now (ledger .exit))) (r .taken) (r .on)) ⌝ }
 {
-    let room = fit::HELD_LIMIT - x.held as usize;
+    let room = limits::HELD_LIMIT - x.held as usize;
     if piece.len() <= room {
         let n = piece.len();
         return Ran {

@@ -1,6 +1,6 @@
 // The verdict of a transfer.
 use crate::receive::Verdict;
-use checks::count;
+use counts::count;
 use transfer::state::Transfer;
 ghost use mathlib.Core.Path.{_≡_};
 ghost use mathlib.Core.Bool.{cond, not, _||_, _&&_};

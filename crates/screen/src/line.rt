@@ -1,6 +1,6 @@
 // The screen line, written into lent bytes.
-use checks::count;
 use checks::fit;
+use counts::count;
 use octets::decimal;
 use receiver::receive::Receiver;
 use receiver::receive::Verdict;

@@ -2,7 +2,7 @@
 use mathlib.Core.Path.{_∙_}
 use borrow.Author.Needs.{needs}
 use borrow.Author.Tests.{eq-eqb, ne-eqb}
-use Rattle.checks.specs.Survey.{surveyIn}
+use Rattle.checks.specs.FitSurvey.{surveyIn}
 use Rattle.checks.proofs.fit.whole.Statement.{statement}
 use Rattle.checks.proofs.fit.whole.Tie as tie
 

@@ -2,9 +2,9 @@
 use mathlib.Core.Path.{ap, _∙_}
 use borrow.Author.Needs.{needs}
 use Rattle.transfer.specs.Fit.{fitsLedger}
-use Rattle.checks.specs.Survey.{surveyOf}
-use Rattle.checks.specs.declared.fit.Survey.{Survey}
-use Rattle.checks.proofs.Surveys.{fits-where}
+use Rattle.checks.specs.FitSurvey.{surveyOf}
+use Rattle.channelchecks.specs.declared.survey.Survey.{Survey}
+use Rattle.channelchecks.proofs.SurveyFields.{fits-where}
 use Rattle.checks.proofs.fit.without_file.Statement.{statement}
 use Rattle.checks.proofs.fit.without_file.Tie as tie
 

@@ -1,7 +1,7 @@
 -- `claim::full`.
 use mathlib.Core.Path.{sym, _∙_}
 use borrow.Author.Needs.{needs}
-use Rattle.claims.proofs.Joining.{at-is, past-is, room-wide, room-none, room-last}
+use Rattle.claims.proofs.JoinRoom.{at-is, past-is, room-wide, room-none, room-last}
 use Rattle.claims.proofs.claim.full.Statement.{statement}
 use Rattle.claims.proofs.claim.full.Tie as tie
 

@@ -8,7 +8,7 @@ use borrow.Author.Tests.{ltb-true, ltb-false}
 use lib.Dec.{ltb}
 use Rattle.ledger.specs.Pairs.{size, join}
 use Rattle.ledger.specs.Ledger.{obeys, pairsOf, roomOf}
-use Rattle.claims.proofs.Joining.{at-is, past-is}
+use Rattle.claims.proofs.JoinRoom.{at-is, past-is}
 use Rattle.claims.proofs.claim.join.Statement.{statement}
 use Rattle.claims.proofs.claim.join.Tie as tie
 

@@ -1,15 +1,15 @@
 -- `claim::judge`.
-use Prim.Native.Nat.{ℕ, _<_}
+use Prim.Native.Nat.{_<_}
 use mathlib.Core.Path.{_≡_, sym, ap, _∙_}
 use mathlib.Core.Bool.{true}
-use native.Mathlib.Omega.{arith}
 use borrow.Author.Needs.{needs}
 use lib.Dec.{ltb}
 use Rattle.ledger.specs.Pairs.{size, join, shares}
 use Rattle.ledger.specs.Ledger.{obeys, pairsOf, roomOf}
 use Rattle.claims.specs.Claim.{judged}
 use Rattle.claims.specs.declared.claim.Room.the-variants.{At}
-use Rattle.claims.proofs.Joining.{at-is, past-is}
+use Rattle.claims.proofs.JoinRoom.{at-is, past-is}
+use Rattle.claims.proofs.Judged.{shares-not-at, full-not-at, same-spot}
 use Rattle.claims.proofs.claim.judge.Statement.{statement}
 use Rattle.claims.proofs.claim.judge.Tie as tie
 
@@ -42,7 +42,7 @@ unfolding judged
 returns c =
     record {
       by-rule = λ o h. rw (sym (shared (c .before) o h) ∙ c .if1 .taken);
-      spot-inside = λ spot e. let z : _≡_ {A = ℕ} 0 1 = cc in absurd (omega arith);
+      spot-inside = λ spot e. absurd (shares-not-at spot e);
     }
 
 full-requires : tie.Need-full-requires
@@ -53,7 +53,7 @@ unfolding judged
 returns-2 c =
     record {
       by-rule = λ o h. rw (sym (shared (c .before .before .before) o h) ∙ c .before .before .if1 .left, sym (lacks (c .before) o h) ∙ c .if2 .taken);
-      spot-inside = λ spot e. let z : _≡_ {A = ℕ} 0 1 = cc in absurd (omega arith);
+      spot-inside = λ spot e. absurd (full-not-at spot e);
     }
 
 returns-3 : tie.Need-returns-3
@@ -62,7 +62,7 @@ returns-3 c =
     let f = c .before .before .before .before in
     record {
       by-rule = λ o h. rw (sym (shared (c .before .before .before) o h) ∙ c .before .before .if1 .left, sym (lacks (c .before) o h) ∙ c .if2 .left) (ap At (f .locate .ensures .2 o h));
-      spot-inside = λ spot e. let z : f .locate .result ≡ spot = cc in rw (sym z) (f .locate .ensures .0, f .locate .ensures .1);
+      spot-inside = λ spot e. rw (sym (same-spot (f .locate .result) spot e)) (f .locate .ensures .0, f .locate .ensures .1);
     }
 
 pub judge-spec : {M : Type 1} → statement M

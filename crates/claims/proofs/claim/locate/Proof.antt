@@ -2,7 +2,7 @@
 use native.Mathlib.Omega.{arith}
 use borrow.Author.Needs.{needs}
 use Rattle.claims.specs.Claim.{spotOf}
-use Rattle.claims.proofs.Joining.{at-past}
+use Rattle.claims.proofs.JoinRoom.{at-past}
 use Rattle.claims.proofs.claim.locate.Statement.{statement}
 use Rattle.claims.proofs.claim.locate.Tie as tie
 

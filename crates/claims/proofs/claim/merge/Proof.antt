@@ -7,8 +7,8 @@ use Rattle.ledger.specs.Pairs.{size, upTo}
 use Rattle.ledger.specs.Ledger.{obeys, pairsOf}
 use Rattle.ledger.proofs.Sizes.{ends-fit}
 use Rattle.ledger.proofs.Spots.{upTo-le}
-use Rattle.claims.proofs.Joining.{size-joined}
-use Rattle.claims.proofs.Merging.{used-is, put-own, put-wide}
+use Rattle.claims.proofs.JoinRoom.{size-joined}
+use Rattle.claims.proofs.JoinInPlace.{used-is, own-joined, wide-joined}
 use Rattle.claims.proofs.claim.merge.Statement.{statement}
 use Rattle.claims.proofs.claim.merge.Tie as tie
 
@@ -37,40 +37,25 @@ returns c o h a p g =
     let r = t .before in
     let x = r .before .before .before .args in
     let l = x .ledger .now in
-    w .widen .ensures ∙ rw (a, p, used r o p) (put-wide l o (x .start) (x .end) h (λ z. t .if1 .taken (a ∙ z ∙ sym p)))
+    w .widen .ensures ∙ rw (a, p, used r o p) (wide-joined l o (x .start) (x .end) h (λ z. t .if1 .taken (a ∙ z ∙ sym p)))
+
+put-own-requires : tie.Need-put-own-requires
+put-own-requires c κs = search needs
 
 same-length-2 : tie.Need-same-length-2
 same-length-2 c = search needs
 
 returns-2 : tie.Need-returns-2
 returns-2 c o h a p g =
-    let t = c .before in
-    let r = t .before in
-    let x = r .before .before .before .args in
-    let l = x .ledger .now in
-    absurd (omega (arith, a, p, used r o p, size-joined l o (x .start) (x .end) h, upTo-le (x .end) (pairsOf l)))
-
-mul-insert : tie.Need-mul-insert
-mul-insert c = search needs
-
-mul-insert-2 : tie.Need-mul-insert-2
-mul-insert-2 c = search needs
-
-insert-requires : tie.Need-insert-requires
-insert-requires c κs = search needs
-
-same-length-3 : tie.Need-same-length-3
-same-length-3 c = search needs
-
-returns-3 : tie.Need-returns-3
-returns-3 c o h a p g =
     let w = c .before .before in
-    let f = w .before .before in
-    let t = f .before in
+    let t = w .before .before in
     let r = t .before in
     let x = r .before .before .before .args in
     let l = x .ledger .now in
-    w .insert .ensures ∙ rw (a, used r o p) (put-own l o (x .start) (x .end) h (sym a ∙ t .if1 .left ∙ p) g)
+    let u = used r o p in
+    let m = sym a ∙ t .if1 .left ∙ p in
+    w .put-own .ensures (omega (arith, u, m, g, size-joined l o (x .start) (x .end) h, upTo-le (x .end) (pairsOf l)))
+    ∙ rw (a, u) (own-joined l o (x .start) (x .end) h m g)
 
 pub merge-spec : {M : Type 1} → statement M
 merge-spec =
@@ -80,10 +65,6 @@ merge-spec =
     widen-requires
     same-length
     returns
+    put-own-requires
     same-length-2
-    returns-2
-    mul-insert
-    mul-insert-2
-    insert-requires
-    same-length-3
-    returns-3)
+    returns-2)

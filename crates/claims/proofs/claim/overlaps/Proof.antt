@@ -7,7 +7,7 @@ use borrow.Author.Needs.{needs}
 use Rattle.ledger.specs.Pairs.{size, shares}
 use Rattle.ledger.specs.Ledger.{obeys, pairsOf}
 use Rattle.ledger.proofs.Spots.{rest, upTo-le}
-use Rattle.claims.proofs.Sharing.{shares-on, shares-met, shares-none}
+use Rattle.claims.proofs.Shares.{shares-on, shares-met, shares-none}
 use Rattle.claims.proofs.claim.overlaps.Statement.{statement}
 use Rattle.claims.proofs.claim.overlaps.Tie as tie
 

@@ -1,95 +1,64 @@
 -- `claim::place`: the pairs passed end below the start; those that are left decide.
-use Prim.Native.Nat.{suc, _+_, _*_, _-_, _≤_}
-use mathlib.Core.Path.{_≡_}
+use Prim.Native.Nat.{ℕ, suc, _+_, _*_, _-_, _≤_, _<_}
+use mathlib.Core.Path.{_≡_, refl, sym, _∙_}
 use native.Mathlib.Omega.{arith}
-use borrow.Author.Tests.{lt-ltb, le-ltb}
-use lib.ListN.{getD, drop}
+use borrow.Author.Needs.{needs}
+use borrow.Author.Tests.{ltb-true, ltb-false}
+use lib.Dec.{ltb}
+use lib.ListN.{drop}
 use Rattle.ledger.specs.Pairs.{below}
-use Rattle.ledger.specs.Ledger.{pairsOf}
-use Rattle.ledger.proofs.Opened.{pairs-unused, pairs-used, pairs-over}
+use Rattle.ledger.specs.Ledger.{pairsOf, roomOf}
+use Rattle.ledger.proofs.Spots.{below-on, below-stops}
+use Rattle.claims.proofs.PairCounts.{Counts, counted, stopped}
 use Rattle.claims.proofs.claim.place.Statement.{statement}
 use Rattle.claims.proofs.claim.place.Tie as tie
 
+below-counts : (s : ℕ) → Counts (below s) (λ a b. ltb b s)
+below-counts s =
+    record {
+      at-none = unfold below in refl;
+      goes-on = λ a b ps e. below-on s a b ps (ltb-true b s e);
+      stops = λ a b ps e. below-stops s a b ps (ltb-false b s e);
+    }
+
 abbrev Inv-loop : tie.InvT-loop
-Inv-loop ledger start room k₀ k = (k ≤ room) × (k + below start (pairsOf (drop (2 * k) ledger)) ≡ below start (pairsOf ledger))
+Inv-loop ledger start k₀ k = (k ≤ roomOf ledger) × (k + below start (pairsOf (drop (2 * k) ledger)) ≡ below start (pairsOf ledger))
 
 abbrev μ-loop : tie.MeasureT-loop
-μ-loop ledger start room k₀ k = room - k
+μ-loop ledger start k₀ k = roomOf ledger - k
 
 loop-holds : tie.Need-loop-holds Inv-loop μ-loop
 loop-holds c = (omega arith, omega arith)
 
-mul-b : tie.Need-mul-b Inv-loop μ-loop
-mul-b c = omega arith
+ends-below-requires : tie.Need-ends-below-requires Inv-loop μ-loop
+ends-below-requires c κs = search needs
 
-add-b : tie.Need-add-b Inv-loop μ-loop
-add-b c = omega arith
-
-mul-b-2 : tie.Need-mul-b-2 Inv-loop μ-loop
-mul-b-2 c = omega arith
-
-shared-slice-read-b : tie.Need-shared-slice-read-b Inv-loop μ-loop
-shared-slice-read-b c = omega arith
-
-returns : tie.Need-returns Inv-loop μ-loop
-unfolding below
-returns c =
-    let l = c .before .before .before in
-    let x = l .before .args in
-    let e : below (x .start) (pairsOf (drop (2 * l .loop .k) (x .ledger .now))) ≡ 0 = rw (pairs-unused (x .ledger .now) (2 * l .loop .k) (omega arith) (c .if1 .taken)) in
-    (omega arith, λ o. omega (arith, e))
-
-returns-2 : tie.Need-returns-2 Inv-loop μ-loop
-unfolding below
-returns-2 c =
-    let e = c .before in
-    let l = e .before .before .before in
-    let x = l .before .args in
-    let s = x .ledger .now in
-    let q : below (x .start) (pairsOf (drop (2 * l .loop .k) s)) ≡ 0 =
-    rw (pairs-used s (2 * l .loop .k) (omega arith) (e .if1 .left), le-ltb (getD s (2 * l .loop .k + 1) 0) (x .start) (c .if2 .taken)) in
-    (omega arith, λ o. omega (arith, q))
+-- the pair at hand is counted
+one-more : (c : tie.Then1 Inv-loop μ-loop) → let l = c .before .before in
+    let x = l .before .before .args in
+    (l .loop .k < roomOf (x .ledger .now)) × (below (x .start) (pairsOf (drop (2 * l .loop .k) (x .ledger .now))) ≡ suc (below (x .start) (pairsOf (drop (2 * (l .loop .k + 1)) (x .ledger .now)))))
+one-more c =
+    let l = c .before .before in
+    let x = l .before .before .args in
+    counted (below (x .start)) (λ a b. ltb b (x .start)) (below-counts (x .start)) (x .ledger .now) (l .loop .k) (sym (c .before .ends-below .ensures) ∙ c .if1 .taken)
 
 add-k : tie.Need-add-k Inv-loop μ-loop
-add-k c = omega arith
+add-k c = omega (arith, one-more c .0)
 
 loop-less : tie.Need-loop-less Inv-loop μ-loop
-loop-less c = omega arith
+loop-less c = omega (arith, one-more c .0)
 
 loop-again : tie.Need-loop-again Inv-loop μ-loop
-unfolding below
-loop-again c =
-    let e = c .before in
-    let l = e .before .before .before in
-    let x = l .before .args in
-    let s = x .ledger .now in
-    let n : 2 * l .loop .k + 2 ≡ 2 * (l .loop .k + 1) = omega arith in
-    let q : below (x .start) (pairsOf (drop (2 * l .loop .k) s)) ≡ suc (below (x .start) (pairsOf (drop (2 * (l .loop .k + 1)) s))) =
-    rw (← n, pairs-used s (2 * l .loop .k) (omega arith) (e .if1 .left), lt-ltb (getD s (2 * l .loop .k + 1) 0) (x .start) (c .if2 .left)) in
-    (omega arith, omega (arith, q))
+loop-again c = let n = one-more c in (omega (arith, n .0), omega (arith, n .1))
 
-returns-3 : tie.Need-returns-3 Inv-loop μ-loop
-unfolding below
-returns-3 c =
-    let l = c .before in
-    let x = l .before .args in
-    let e : below (x .start) (pairsOf (drop (2 * l .loop .k) (x .ledger .now))) ≡ 0 = rw (pairs-over (x .ledger .now) (2 * l .loop .k) (omega arith)) in
+returns : tie.Need-returns Inv-loop μ-loop
+returns c =
+    let l = c .before .before in
+    let x = l .before .before .args in
+    let e = stopped (below (x .start)) (λ a b. ltb b (x .start)) (below-counts (x .start)) (x .ledger .now) (l .loop .k) (sym (c .before .ends-below .ensures) ∙ c .if1 .left) in
     (omega arith, λ o. omega (arith, e))
 
 pub place-spec : {M : Type 1} → statement M
 place-spec =
     tie.close
-    (tie.spec
-    Inv-loop
-    μ-loop
-    loop-holds
-    mul-b
-    add-b
-    mul-b-2
-    shared-slice-read-b
-    returns
-    returns-2
-    add-k
-    loop-less
-    loop-again
-    returns-3)
+    (tie.spec Inv-loop μ-loop loop-holds ends-below-requires add-k loop-less loop-again returns)

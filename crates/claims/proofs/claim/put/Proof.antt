@@ -1,8 +1,8 @@
 -- `claim::put`.
 use native.Mathlib.Omega.{arith}
 use borrow.Author.Needs.{needs}
-use Rattle.claims.proofs.Joining.{at-is, past-is}
-use Rattle.claims.proofs.Judgements.{spot-is, spot-room, puts-outside}
+use Rattle.claims.proofs.JoinRoom.{at-is, past-is}
+use Rattle.claims.proofs.Judged.{spot-is, spot-room, puts-outside}
 use Rattle.claims.proofs.claim.put.Statement.{statement}
 use Rattle.claims.proofs.claim.put.Tie as tie
 

@@ -5,7 +5,7 @@ use native.Mathlib.Omega.{arith}
 use borrow.Author.Needs.{needs}
 use lib.ListN.{length, take, drop, replicate, length-take, length-drop}
 use Rattle.claims.specs.Shift.{movedDown}
-use Rattle.claims.proofs.Shifted.{down-cleared, length-movedDown}
+use Rattle.claims.proofs.ShiftLoops.{down-cleared, length-movedDown}
 use Rattle.claims.proofs.shift.close.Statement.{statement}
 use Rattle.claims.proofs.shift.close.Tie as tie
 

@@ -3,7 +3,7 @@ use Prim.Native.Nat.{_+_, _-_, _≤_}
 use mathlib.Core.Path.{_≡_, refl, ap}
 use native.Mathlib.Omega.{arith}
 use lib.ListN.{length, length-set}
-use Rattle.claims.proofs.Shifted.{movedUp, up-none, up-at, up-more, up-filled}
+use Rattle.claims.proofs.ShiftLoops.{movedUp, up-none, up-at, up-more, up-filled}
 use Rattle.claims.proofs.shift.insert.Statement.{statement}
 use Rattle.claims.proofs.shift.insert.Tie as tie
 

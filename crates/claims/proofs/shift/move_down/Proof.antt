@@ -5,7 +5,7 @@ use native.Mathlib.Omega.{arith}
 use lib.ListN.{length, drop, length-set}
 use lib.Seq.{paste, paste-zero}
 use Rattle.claims.specs.Shift.{movedDown}
-use Rattle.claims.proofs.Shifted.{down-more}
+use Rattle.claims.proofs.ShiftLoops.{down-more}
 use Rattle.claims.proofs.shift.move_down.Statement.{statement}
 use Rattle.claims.proofs.shift.move_down.Tie as tie
 

@@ -51,11 +51,11 @@ returns c =
     let e : total (pairsOf (drop (l .loop .i) s)) ≡ 0 = rw (pairs-unused s (l .loop .i) (omega arith) (c .if1 .taken)) in
     omega (arith, e)
 
-above-requires : tie.Need-above-requires Inv-loop μ-loop
-above-requires c κs = search needs
+saturating-sub-requires : tie.Need-saturating-sub-requires Inv-loop μ-loop
+saturating-sub-requires c κs = search needs
 
-at-most-requires : tie.Need-at-most-requires Inv-loop μ-loop
-at-most-requires c κs = search needs
+saturating-add-requires : tie.Need-saturating-add-requires Inv-loop μ-loop
+saturating-add-requires c κs = search needs
 
 add-i : tie.Need-add-i Inv-loop μ-loop
 add-i c = omega arith
@@ -72,9 +72,9 @@ loop-again c =
     let a = getD s (l .loop .i) 0 in
     let b = getD s (l .loop .i + 1) 0 in
     let t : total (pairsOf (drop (l .loop .i) s)) ≡ (b - a) + total (pairsOf (drop (l .loop .i + 2) s)) = rw (pairs-used s (l .loop .i) (omega arith) (e .if1 .left)) in
-    let m : c .at-most .result ≡ min 18446744073709551615 (l .loop .n + (b - a)) = c .at-most .ensures ∙ rw (c .before .above .ensures) in (
+    let m : c .saturating-add .result ≡ min 18446744073709551615 (l .loop .n + (b - a)) = c .saturating-add .ensures ∙ rw (c .before .saturating-sub .ensures) in (
       omega arith,
-      omega (arith, c .at-most .ensures),
+      omega (arith, c .saturating-add .ensures),
       rw m (capped 18446744073709551615 (l .loop .n) (b - a) (total (pairsOf (drop (l .loop .i + 2) s))) ∙ (rw t at (l .loop .inv .2))),
     )
 
@@ -100,8 +100,8 @@ total-spec =
     mul-b
     shared-slice-read-b
     returns
-    above-requires
-    at-most-requires
+    saturating-sub-requires
+    saturating-add-requires
     add-i
     loop-less
     loop-again

@@ -7,8 +7,8 @@ use native.Mathlib.Omega.{arith}
 use borrow.Author.Needs.{needs}
 use borrow.Author.Tests.{not-true, not-false}
 use lib.ListN.{length}
-use Rattle.checks.specs.declared.fit.Survey.{Survey}
-use Rattle.checks.specs.Survey.{surveyIn}
+use Rattle.channelchecks.specs.declared.survey.Survey.{Survey}
+use Rattle.checks.specs.FitSurvey.{surveyIn}
 use Rattle.transfer.specs.declared.state.Transfer.{Transfer}
 use Rattle.transfer.specs.Transfer.{world, verdictOf}
 use Rattle.transfer.specs.Receive.{isGuess}

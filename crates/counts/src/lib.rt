@@ -1,0 +1,2 @@
+// Counts over the channels of a transfer.
+pub mod count;
