@@ -5,7 +5,7 @@ use crate::print;
 use octets::little;
 use receiver::receive::Answer;
 use receiver::receive::Receiver;
-use receiver::receive::Verdict;
+use verdicts::verdict::Verdict;
 use receiver::start;
 use screen::line;
 use screen::line::Line;

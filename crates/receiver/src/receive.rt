@@ -1,12 +1,14 @@
 // The receiver as a host holds it, by value, and what a call of it answers.
-use crate::live;
-use crate::step;
-use crate::verdict;
+use crate::transfer_channel;
+use channels::other_channels;
 use checks::count;
 use checks::fit;
 use checks::fit::Survey;
+use runs::take;
 use transfer::state::Channel;
 use transfer::state::Transfer;
+use verdicts::verdict;
+use verdicts::verdict::Verdict;
 ghost use mathlib.Core.Path.{_≡_};
 ghost use mathlib.Core.List.{List};
 ghost use Prim.Native.Nat.{ℕ, _<_};
@@ -16,18 +18,12 @@ ghost use Rattle.transfer.specs.declared.state.Transfer.{Transfer};
 ghost use Rattle.transfer.specs.Channel.{channelAt};
 ghost use Rattle.transfer.specs.Transfer.{world, verdictOf};
 ghost use Rattle.transfer.specs.Receive.{isSome, refusalOf, receiveOf};
-ghost use Rattle.receiver.specs.Answers.{verdictIs, answerOf};
+ghost use Rattle.verdicts.specs.Verdict.{verdictIs};
+ghost use Rattle.receiver.specs.Answers.{answerOf};
 
 #[repr(C)]
 pub struct Receiver {
     pub transfer: Transfer,
-}
-
-// The three words of the screen.
-pub enum Verdict {
-    Guess,
-    Result,
-    Broken,
 }
 
 // How many bytes of a piece were taken, or the number by which the call was refused.
@@ -66,8 +62,8 @@ fn refusal(found: Survey, fault: u64, count: u64, state: u8, channel: u64, some:
     0
 }
 
-// The channel's number as a place in the transfer, or 0 where there is no such channel.
-fn place(channel: u64) -> usize
+// The channel's index in the transfer, or 0 where there is no such channel.
+fn channel_index(channel: u64) -> usize
     ensures { λ r. ⌜ (r < 64) × (channel < 64 → r ≡ channel) ⌝ }
 {
     if channel < count::CHANNELS as u64 {
@@ -89,7 +85,7 @@ impl Receiver {
     {
         let mut t = self.transfer;
         let found = fit::whole(t, file.len(), ledger);
-        let c = place(channel);
+        let c = channel_index(channel);
         let k = t.channels[c];
         let n = refusal(found, t.fault, t.count, k.state, channel, 0 < piece.len());
         if 0 < n {
@@ -100,12 +96,12 @@ impl Receiver {
                 answer: Answer::Refused(n),
             };
         }
-        let o = live::around(t.len, found, k.state);
-        let x = live::of(t.count, t.fault, t.on, k, &t.heads, c);
-        let r = step::take(x, c, o, piece, file, ledger);
-        let y = r.live;
+        let o = other_channels::counts_without(t.len, found, k.state);
+        let x = transfer_channel::of(t.count, t.fault, t.on, k, &t.heads, c);
+        let r = take::take(x, c, o, piece, file, ledger);
+        let y = r.channel;
         let shown = verdict::of(y.fault, y.count, o.ended, y.state);
-        live::put_bytes(&mut t.heads, c, y);
+        transfer_channel::put_bytes(&mut t.heads, c, y);
         t.channels[c] = Channel {
             state: y.state,
             held: y.held,

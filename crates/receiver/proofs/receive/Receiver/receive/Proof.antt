@@ -10,11 +10,12 @@ use Rattle.transfer.specs.Transfer.{World, world, verdictOf}
 use Rattle.transfer.specs.Receive.{took, refusalOf}
 use Rattle.transfer.specs.Fit.{fits}
 use Rattle.transfer.proofs.FitTests.{fits-together}
-use Rattle.receiver.specs.Live.{back, Around}
-use Rattle.receiver.specs.Runs.{bytesOn}
-use Rattle.receiver.proofs.Backs.{back-verdict}
-use Rattle.receiver.proofs.Rounds.{back-live, written-back, around-is}
-use Rattle.receiver.proofs.Refusing.{found-counts, is-refused, is-taken, not-refused, some-is}
+use Rattle.channels.specs.ChannelState.{writeBack}
+use Rattle.channels.specs.OtherChannels.{CountsOthers}
+use Rattle.runs.specs.Runs.{bytesOn}
+use Rattle.channels.proofs.WriteBack.{write-back-verdict}
+use Rattle.channels.proofs.CountsOthers.{write-back-unchanged, write-back-fields, counts-others}
+use Rattle.receiver.proofs.Refusal.{found-counts, is-refused, is-taken, not-refused, some-is}
 use Rattle.receiver.proofs.receive.Receiver.receive.Statement.{statement}
 use Rattle.receiver.proofs.receive.Receiver.receive.Tie as tie
 
@@ -32,7 +33,7 @@ number-is r =
     let x = begun r .args in
     let t = x .self .transfer in
     let p = r .before .before in
-    r .refusal .ensures t (x .file .now) (x .ledger .now) (x .piece .now) (p .before .whole .ensures) refl refl (λ h. ap (λ i. channelAt t i .state) (p .place .ensures .1 h)) (some-is (x .piece .now))
+    r .refusal .ensures t (x .file .now) (x .ledger .now) (x .piece .now) (p .before .whole .ensures) refl refl (λ h. ap (λ i. channelAt t i .state) (p .channel-index .ensures .1 h)) (some-is (x .piece .now))
 
 -- ---- a call that is not refused
 
@@ -43,36 +44,36 @@ may : (e : tie.Else1) → let x = begun (e .before) .args in (fits (given (e .be
 may e = let x = begun (e .before) .args in not-refused (given (e .before)) (x .channel) (x .piece .now) (not-refused-is e)
 
 abbrev chosen : tie.Else1 → ℕ
-chosen e = e .before .before .before .place .result
+chosen e = e .before .before .before .channel-index .result
 
 -- its channel, taken out of the transfer
-stands-round : (a : tie.After-around) → Around (given (a .before .before) .t) (chosen (a .before)) (a .around .result)
-stands-round a =
+others-counted : (a : tie.After-counts-without) → CountsOthers (given (a .before .before) .t) (chosen (a .before)) (a .counts-without .result)
+others-counted a =
     let r = a .before .before in
     let x = begun r .args in
     let t = x .self .transfer in
     let p = r .before .before in
     let w = p .before in
     let n = found-counts t (x .file .now) (x .ledger .now) (may (a .before) .0) in
-    subst (Around t (p .place .result)) (sym (a .around .ensures))
-    (around-is (given r) (fits-together (given r) (may (a .before) .0)) (p .place .result) (p .place .ensures .0) (w .whole .result) (ap (λ s. s .used) (w .whole .ensures) ∙ n .0) (ap (λ s. s .ended) (w .whole .ensures) ∙ n .1))
+    subst (CountsOthers t (p .channel-index .result)) (sym (a .counts-without .ensures))
+    (counts-others (given r) (fits-together (given r) (may (a .before) .0)) (p .channel-index .result) (p .channel-index .ensures .0) (w .whole .result) (ap (λ s. s .used) (w .whole .ensures) ∙ n .0) (ap (λ s. s .ended) (w .whole .ensures) ∙ n .1))
 
-abbrev out : tie.After-of → tie.After-around
+abbrev out : tie.After-of → tie.After-counts-without
 out o = o .before .before .before .before
 
-as-given : (o : tie.After-of) → back (given (out o .before .before) .t) (chosen (out o .before)) (o .of .result) ≡ given (out o .before .before) .t
+as-given : (o : tie.After-of) → writeBack (given (out o .before .before) .t) (chosen (out o .before)) (o .of .result) ≡ given (out o .before .before) .t
 as-given o =
     let e = out o .before in
-    ap (back (given (e .before) .t) (chosen e)) (o .of .ensures) ∙ back-live (given (e .before) .t) (chosen e)
+    ap (writeBack (given (e .before) .t) (chosen e)) (o .of .ensures) ∙ write-back-unchanged (given (e .before) .t) (chosen e)
 
-fits-out : (o : tie.After-of) → let e = out o .before in let x = begun (e .before) .args in fits (world (back (x .self .transfer) (chosen e) (o .of .result)) (x .file .now) (x .ledger .now)) ≡ true
+fits-out : (o : tie.After-of) → let e = out o .before in let x = begun (e .before) .args in fits (world (writeBack (x .self .transfer) (chosen e) (o .of .result)) (x .file .now) (x .ledger .now)) ≡ true
 fits-out o =
     let e = out o .before in
     let x = begun (e .before) .args in
     ap (λ t. fits (world t (x .file .now) (x .ledger .now))) (as-given o) ∙ may e .0
 
 chosen-few : (k : tie.After-take) → chosen (out (k .before .before .before) .before) < 64
-chosen-few k = out (k .before .before .before) .before .before .before .before .place .ensures .0
+chosen-few k = out (k .before .before .before) .before .before .before .before .channel-index .ensures .0
 
 abbrev taken : tie.After-put-bytes-arg → tie.After-take
 taken c = c .before .before .before .before .before .before .before
@@ -80,8 +81,8 @@ taken c = c .before .before .before .before .before .before .before
 whole-requires : tie.Need-whole-requires
 whole-requires c κs = search needs
 
-place-requires : tie.Need-place-requires
-place-requires c κs = search needs
+channel-index-requires : tie.Need-channel-index-requires
+channel-index-requires c κs = search needs
 
 mul-k : tie.Need-mul-k
 mul-k c = search needs
@@ -104,14 +105,14 @@ returns c =
     let x = begun r .args in
     (is-refused (given r) (x .channel) (x .piece .now) (r .refusal .result) (number-is r) (c .before .if1 .taken), c .shown .ensures (x .file .now) (x .ledger .now))
 
-around-requires : tie.Need-around-requires
-around-requires c κs = search needs
+counts-without-requires : tie.Need-counts-without-requires
+counts-without-requires c κs = search needs
 
 of-requires : tie.Need-of-requires
 of-requires c κs = search needs
 
 take-requires : tie.Need-take-requires
-take-requires c κs = let o = c .before .before in (given (out o .before .before) .t, stands-round (out o), fits-out o)
+take-requires c κs = search needs
 
 of-requires-2 : tie.Need-of-requires-2
 of-requires-2 c κs = search needs
@@ -139,13 +140,13 @@ returns-2 c =
     let e = a .before in
     let x = begun (e .before) .args in
     let t = x .self .transfer in
-    let y = k .take .result .live in (
-      ap (λ (u : Transfer). (took (k .take .result .taken), world u (k .take .last .1 .1 .1 .1 .0) (k .take .last .1 .1 .1 .1 .1 .0))) (written-back t (chosen e) y (c .put-bytes .last .0) (c .put-bytes .ensures))
-          ∙ k .take .ensures t (stands-round a) (fits-out o)
+    let y = k .take .result .channel in (
+      ap (λ (u : Transfer). (took (k .take .result .taken), world u (k .take .last .1 .1 .1 .1 .0) (k .take .last .1 .1 .1 .1 .1 .0))) (write-back-fields t (chosen e) y (c .put-bytes .last .0) (c .put-bytes .ensures))
+          ∙ k .take .ensures t (others-counted a) (fits-out o)
           ∙ ap (λ u. bytesOn (chosen e) (world u (x .file .now) (x .ledger .now)) (x .piece .now) 0) (as-given o)
-          ∙ ap (λ i. bytesOn i (given (e .before)) (x .piece .now) 0) (e .before .before .before .place .ensures .1 (may e .1))
+          ∙ ap (λ i. bytesOn i (given (e .before)) (x .piece .now) 0) (e .before .before .before .channel-index .ensures .1 (may e .1))
           ∙ is-taken (given (e .before)) (x .channel) (x .piece .now) (not-refused-is e),
-      c .before .before .of2 .ensures ∙ sym (ap (λ u. verdictOf (world u (k .take .last .1 .1 .1 .1 .0) (k .take .last .1 .1 .1 .1 .1 .0))) (written-back t (chosen e) y (c .put-bytes .last .0) (c .put-bytes .ensures)) ∙ back-verdict t (chosen e) (a .around .result) (stands-round a) y (k .take .last .1 .1 .1 .1 .0) (k .take .last .1 .1 .1 .1 .1 .0)),
+      c .before .before .of2 .ensures ∙ sym (ap (λ u. verdictOf (world u (k .take .last .1 .1 .1 .1 .0) (k .take .last .1 .1 .1 .1 .1 .0))) (write-back-fields t (chosen e) y (c .put-bytes .last .0) (c .put-bytes .ensures)) ∙ write-back-verdict t (chosen e) (a .counts-without .result) (others-counted a) y (k .take .last .1 .1 .1 .1 .0) (k .take .last .1 .1 .1 .1 .1 .0)),
     )
 
 pub receive-spec : {M : Type 1} → statement M
@@ -153,14 +154,14 @@ receive-spec =
     tie.close
     (tie.spec
     whole-requires
-    place-requires
+    channel-index-requires
     mul-k
     element-copy-out-k
     refusal-requires
     shown-requires
     same-length
     returns
-    around-requires
+    counts-without-requires
     of-requires
     take-requires
     of-requires-2
