@@ -2,11 +2,11 @@
 use crate::written::Written;
 use receiver::receive::Answer;
 use receiver::receive::Receiver;
-use verdicts::verdict::Verdict;
 use receiver::start;
 use screen::line;
 use screen::line::Line;
 use transfer::state::Transfer;
+use verdicts::verdict::Verdict;
 ghost use mathlib.Core.Path.{_≡_};
 ghost use mathlib.Core.List.{[]};
 ghost use Rattle.transfer.specs.Transfer.{world, startNumber, startOf, startLeaves, verdictOf};

@@ -5,10 +5,10 @@ use crate::print;
 use octets::little;
 use receiver::receive::Answer;
 use receiver::receive::Receiver;
-use verdicts::verdict::Verdict;
 use receiver::start;
 use screen::line;
 use screen::line::Line;
+use verdicts::verdict::Verdict;
 
 const START: u16 = 16;
 

@@ -1,13 +1,14 @@
-// A channel read out of its transfer and written back into it. A transfer passed whole would be copied, so its parts are lent.
+// A channel read out of its transfer and written back into it.
 use channels::channel_state::ChannelState;
 use checks::fit;
 use copies::copy;
 use transfer::state::Channel;
+use transfer::state::Transfer;
 ghost use mathlib.Core.Path.{_≡_};
 ghost use mathlib.Core.List.{_++_};
 ghost use Prim.Native.Nat.{_+_, _*_, _<_};
 ghost use lib.ListN.{length, take, drop};
-ghost use Rattle.channels.specs.ChannelState.{channelStateOf};
+ghost use Rattle.channels.specs.ChannelState.{channelStateOf, writeBack};
 
 // The 16 bytes that channel c can hold.
 fn bytes_at(heads: &[u8], c: usize) -> [u8; 16]
@@ -38,10 +39,29 @@ pub fn of(count: u64, fault: u64, on: u64, k: Channel, heads: &[u8], c: usize) -
 }
 
 // The bytes that channel c holds, written over those that it held.
-pub fn put_bytes(heads: &mut [u8; 1024], c: usize, x: ChannelState)
+fn put_bytes(heads: &mut [u8; 1024], c: usize, x: ChannelState)
     requires { ⌜ c < 64 ⌝ }
     ensures { λ _. ⌜ now (heads .exit) ≡ take (16 * c) (now (heads .entry)) ++ (x .bytes ++ drop (16 * c + 16) (now (heads .entry))) ⌝ }
 {
     let bytes = x.bytes;
     copy::store(heads, fit::HELD_LIMIT * c, &bytes, fit::HELD_LIMIT);
+}
+
+// The transfer with what a call left of channel c.
+pub fn write_back(before: Transfer, c: usize, x: ChannelState) -> Transfer
+    requires { ⌜ c < 64 ⌝ }
+    ensures { λ r. ⌜ r ≡ writeBack before c x ⌝ }
+{
+    let mut t = before;
+    put_bytes(&mut t.heads, c, x);
+    t.channels[c] = Channel {
+        state: x.state,
+        held: x.held,
+        next: x.next,
+        left: x.left,
+    };
+    t.count = x.count;
+    t.fault = x.fault;
+    t.on = x.on;
+    t
 }
