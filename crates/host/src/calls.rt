@@ -2,16 +2,16 @@
 use crate::written::Written;
 use receiver::receive::Answer;
 use receiver::receive::Receiver;
-use receiver::receive::Verdict;
 use receiver::start;
 use screen::line;
 use screen::line::Line;
 use transfer::state::Transfer;
+use verdicts::verdict::Verdict;
 ghost use mathlib.Core.Path.{_≡_};
 ghost use mathlib.Core.List.{[]};
 ghost use Rattle.transfer.specs.Transfer.{world, startNumber, startOf, startLeaves, verdictOf};
 ghost use Rattle.transfer.specs.Receive.{receiveOf};
-ghost use Rattle.receiver.specs.Answers.{verdictIs};
+ghost use Rattle.verdicts.specs.Verdict.{verdictIs};
 ghost use Rattle.receiver.specs.Stored.{storedCut};
 ghost use Rattle.screen.specs.Screen.{lineNumber, lineBytes, screenOf, screenLeaves};
 ghost use Rattle.host.specs.Received.{wordNumber, receivedBy};

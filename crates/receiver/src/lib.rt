@@ -1,10 +1,5 @@
-// The receiver of one transfer: what a host calls, over leaves that only this crate sees.
-mod body;
-mod channel;
-mod head;
-mod live;
+// The receiver of one transfer: what a host calls, over leaves that no host calls.
 pub mod receive;
 pub mod show;
 pub mod start;
-mod step;
-mod verdict;
+mod transfer_channel;

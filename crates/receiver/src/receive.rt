@@ -1,33 +1,32 @@
 // The receiver as a host holds it, by value, and what a call of it answers.
-use crate::live;
-use crate::step;
-use crate::verdict;
+use crate::transfer_channel;
 use channelchecks::survey::Survey;
+use channels::other_channels;
 use checks::fit;
 use counts::count;
-use transfer::state::Channel;
+use runs::take;
 use transfer::state::Transfer;
+use verdicts::verdict;
+use verdicts::verdict::Verdict;
 ghost use mathlib.Core.Path.{_≡_};
+ghost use mathlib.Core.Bool.{true};
 ghost use mathlib.Core.List.{List};
 ghost use Prim.Native.Nat.{ℕ, _<_};
 ghost use lib.ListN.{length};
 ghost use Rattle.checks.specs.FitSurvey.{surveyIn};
 ghost use Rattle.transfer.specs.declared.state.Transfer.{Transfer};
 ghost use Rattle.transfer.specs.Channel.{channelAt};
-ghost use Rattle.transfer.specs.Transfer.{world, verdictOf};
+ghost use Rattle.transfer.specs.Transfer.{usedOf, endedOf, world, verdictOf};
 ghost use Rattle.transfer.specs.Receive.{isSome, refusalOf, receiveOf};
-ghost use Rattle.receiver.specs.Answers.{verdictIs, answerOf};
+ghost use Rattle.transfer.specs.Fit.{fits};
+ghost use Rattle.verdicts.specs.Verdict.{verdictIs};
+ghost use Rattle.runs.specs.Runs.{bytesOn};
+ghost use Rattle.receiver.specs.declared.receive.Answer.the-variants.{Refused};
+ghost use Rattle.receiver.specs.Answers.{answerOf};
 
 #[repr(C)]
 pub struct Receiver {
     pub transfer: Transfer,
-}
-
-// The three words of the screen.
-pub enum Verdict {
-    Guess,
-    Result,
-    Broken,
 }
 
 // How many bytes of a piece were taken, or the number by which the call was refused.
@@ -66,14 +65,53 @@ fn refusal(found: Survey, fault: u64, count: u64, state: u8, channel: u64, some:
     0
 }
 
-// The channel's number as a place in the transfer, or 0 where there is no such channel.
-fn place(channel: u64) -> usize
+// The channel's index in the transfer, or 0 where there is no such channel.
+fn channel_index(channel: u64) -> usize
     ensures { λ r. ⌜ (r < 64) × (channel < 64 → r ≡ channel) ⌝ }
 {
     if channel < count::CHANNELS as u64 {
         return channel as usize;
     }
     0
+}
+
+// What a refused call answers.
+fn refused(t: Transfer, n: u8) -> Received
+    ensures { λ r. ⌜ (r .receiver .transfer ≡ t) × (r .answer ≡ Refused n) × ((file ledger : List ℕ) → verdictIs (r .verdict) ≡ verdictOf (world t file ledger)) ⌝ }
+{
+    let shown = verdict::shown(t);
+    Received {
+        receiver: Receiver { transfer: t },
+        verdict: shown,
+        answer: Answer::Refused(n),
+    }
+}
+
+// What a call that is not refused answers, on channel c, for what FIT found.
+fn taken(
+    t: Transfer,
+    c: usize,
+    found: Survey,
+    piece: &[u8],
+    file: &mut [u8],
+    ledger: &mut [u64],
+) -> Received
+    requires { ⌜ (c < 64) × (fits (world t (now file) (now ledger)) ≡ true) × (found .used ≡ usedOf t) × (found .ended ≡ endedOf t) ⌝ }
+    ensures { λ r. ⌜ ((answerOf (r .answer), world (r .receiver .transfer) (now (file .exit)) (now (ledger .exit))) ≡ bytesOn c (world t (now (file .entry)) (now (ledger .entry))) (now (piece .entry)) 0) × (verdictIs (r .verdict) ≡ verdictOf (world (r .receiver .transfer) (now (file .exit)) (now (ledger .exit)))) ⌝ }
+{
+    let k = t.channels[c];
+    let o = other_channels::counts_without(t.len, found, k.state);
+    let x = transfer_channel::of(t.count, t.fault, t.on, k, &t.heads, c);
+    let r = take::take(x, c, o, piece, file, ledger);
+    let y = r.channel;
+    let shown = verdict::of(y.fault, y.count, o.ended, y.state);
+    Received {
+        receiver: Receiver {
+            transfer: transfer_channel::write_back(t, c, y),
+        },
+        verdict: shown,
+        answer: Answer::Took(r.taken),
+    }
 }
 
 impl Receiver {
@@ -87,38 +125,14 @@ impl Receiver {
     ) -> Received
         ensures { λ r. ⌜ ((answerOf (r .answer), world (r .receiver .transfer) (now (file .exit)) (now (ledger .exit))) ≡ receiveOf (world (self .transfer) (now (file .entry)) (now (ledger .entry))) channel (now (piece .entry))) × (verdictIs (r .verdict) ≡ verdictOf (world (r .receiver .transfer) (now (file .exit)) (now (ledger .exit)))) ⌝ }
     {
-        let mut t = self.transfer;
+        let t = self.transfer;
         let found = fit::whole(t, file.len(), ledger);
-        let c = place(channel);
+        let c = channel_index(channel);
         let k = t.channels[c];
         let n = refusal(found, t.fault, t.count, k.state, channel, 0 < piece.len());
         if 0 < n {
-            let shown = verdict::shown(t);
-            return Received {
-                receiver: Receiver { transfer: t },
-                verdict: shown,
-                answer: Answer::Refused(n),
-            };
+            return refused(t, n);
         }
-        let o = live::around(t.len, found, k.state);
-        let x = live::of(t.count, t.fault, t.on, k, &t.heads, c);
-        let r = step::take(x, c, o, piece, file, ledger);
-        let y = r.live;
-        let shown = verdict::of(y.fault, y.count, o.ended, y.state);
-        live::put_bytes(&mut t.heads, c, y);
-        t.channels[c] = Channel {
-            state: y.state,
-            held: y.held,
-            next: y.next,
-            left: y.left,
-        };
-        t.count = y.count;
-        t.fault = y.fault;
-        t.on = y.on;
-        Received {
-            receiver: Receiver { transfer: t },
-            verdict: shown,
-            answer: Answer::Took(r.taken),
-        }
+        taken(t, c, found, piece, file, ledger)
     }
 }

@@ -1,14 +1,14 @@
 // What a host may ask of a receiver between calls.
 use crate::receive::Receiver;
-use crate::receive::Verdict;
-use crate::verdict;
 use counts::count;
 use ledger::rule;
+use verdicts::verdict;
+use verdicts::verdict::Verdict;
 ghost use mathlib.Core.Path.{_≡_};
 ghost use mathlib.Core.List.{List};
 ghost use Prim.Native.Nat.{ℕ};
 ghost use Rattle.transfer.specs.Transfer.{world, verdictOf};
-ghost use Rattle.receiver.specs.Answers.{verdictIs};
+ghost use Rattle.verdicts.specs.Verdict.{verdictIs};
 ghost use Rattle.receiver.specs.Stored.{storedCut};
 
 impl Receiver {

@@ -9,9 +9,9 @@ use borrow.Rule.Slice.PartMut.{putMid}
 use lib.ListN.{length, getD, set, take, drop, length-append}
 use lib.Seq.{sets, sets-eq, take-suc, length-take-le, drop-drop}
 use Rattle.octets.specs.Decimal.{decimal}
-use Rattle.receiver.specs.declared.receive.Verdict.{Verdict as Shown}
-use Rattle.receiver.specs.declared.receive.Verdict.the-variants.{Guess, Result, Broken}
-use Rattle.receiver.specs.Answers.{verdictIs}
+use Rattle.verdicts.specs.declared.verdict.Verdict.{Verdict as Shown}
+use Rattle.verdicts.specs.declared.verdict.Verdict.the-variants.{Guess, Result, Broken}
+use Rattle.verdicts.specs.Verdict.{verdictIs}
 use Rattle.screen.specs.Screen.{brokenWord, onWord, guessWord, resultWord, endedWord, ofWord, unknownWord, bytesWord, lineFeed, countText, brokenText, endedText, frontText, lineText, Puts}
 
 -- ---- one behind the other

@@ -16,7 +16,7 @@ use Rattle.transfer.proofs.Runs.{verdict-is}
 use Rattle.transfer.proofs.Along.{along, world-along}
 use Rattle.transfer.proofs.AfterLists.{every-list}
 use Rattle.receiver.specs.Stored.{storedCut}
-use Rattle.receiver.proofs.Taking.{fits-parts}
+use Rattle.runs.proofs.CallRuns.{fits-parts}
 use Rattle.screen.specs.Screen.{lineOf, lineFor, roomNumber, answerBy, leftBy, screenOf, screenLeaves}
 use Rattle.screen.specs.ScreenTally.{bytesOf, tallyLine, ScreenTally}
 use Rattle.screen.proofs.Screens.{fit, stored-whole}

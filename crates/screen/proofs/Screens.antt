@@ -15,13 +15,13 @@ use Rattle.transfer.specs.declared.state.Transfer.{Transfer}
 use Rattle.transfer.specs.Transfer.{endedOf, world, verdictOf, storedOf}
 use Rattle.transfer.specs.Fit.{fitsLedger}
 use Rattle.transfer.proofs.Together.{ruled}
-use Rattle.receiver.specs.declared.receive.Verdict.{Verdict as Shown}
+use Rattle.verdicts.specs.declared.verdict.Verdict.{Verdict as Shown}
 use Rattle.screen.specs.declared.line.Numbers.{Numbers}
 use Rattle.screen.specs.declared.line.Line.{Line}
 use Rattle.screen.specs.declared.line.Line.the-variants.{Bytes, Refused}
-use Rattle.receiver.specs.Answers.{verdictIs}
+use Rattle.verdicts.specs.Verdict.{verdictIs}
 use Rattle.receiver.specs.Stored.{storedCut}
-use Rattle.receiver.proofs.Ran.{fits-some}
+use Rattle.runs.proofs.Runs.{fits-some}
 use Rattle.screen.specs.Screen.{lineOf, lineFor, lineSaid, roomNumber, answerBy, leftBy, screenNumber, screenOf, screenLeaves}
 
 -- ---- a text and lent bytes

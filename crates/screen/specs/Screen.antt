@@ -10,11 +10,11 @@ use Rattle.octets.specs.Decimal.{decimal}
 use Rattle.transfer.specs.declared.state.Transfer.{Transfer}
 use Rattle.transfer.specs.Transfer.{endedOf, World, world, Verdict, guess, result, broken, verdictOf, storedOf}
 use Rattle.transfer.specs.Fit.{fitsLedger}
-use Rattle.receiver.specs.declared.receive.Verdict.{Verdict as Shown}
+use Rattle.verdicts.specs.declared.verdict.Verdict.{Verdict as Shown}
 use Rattle.screen.specs.declared.line.Numbers.{Numbers}
 use Rattle.screen.specs.declared.line.Line.{Line}
 use Rattle.screen.specs.declared.line.Line.the-variants.{Bytes, Refused}
-use Rattle.receiver.specs.Answers.{verdictIs}
+use Rattle.verdicts.specs.Verdict.{verdictIs}
 
 -- ---- words
 

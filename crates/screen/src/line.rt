@@ -3,7 +3,7 @@ use checks::fit;
 use counts::count;
 use octets::decimal;
 use receiver::receive::Receiver;
-use receiver::receive::Verdict;
+use verdicts::verdict::Verdict;
 ghost use mathlib.Core.Path.{_≡_};
 ghost use Prim.Native.Nat.{_+_, _≤_};
 ghost use lib.ListN.{length};

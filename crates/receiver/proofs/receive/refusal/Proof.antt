@@ -13,7 +13,7 @@ use Rattle.transfer.specs.declared.state.Transfer.{Transfer}
 use Rattle.transfer.specs.Transfer.{world, verdictOf}
 use Rattle.transfer.specs.Receive.{isGuess}
 use Rattle.transfer.specs.Fit.{fits}
-use Rattle.receiver.proofs.Refusing.{found-fits, found-counts, guess-is, refused-1, refused-2, refused-3, empty-taken, refused-4, bytes-taken}
+use Rattle.receiver.proofs.Refusal.{found-fits, found-counts, guess-is, refused-1, refused-2, refused-3, empty-taken, refused-4, bytes-taken}
 use Rattle.receiver.proofs.receive.refusal.Statement.{statement}
 use Rattle.receiver.proofs.receive.refusal.Tie as tie
 

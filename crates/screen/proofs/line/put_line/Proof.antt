@@ -3,7 +3,7 @@ use native.Mathlib.Omega.{arith}
 use borrow.Author.Needs.{needs}
 use mathlib.Core.List.{_++_}
 use Rattle.octets.specs.Decimal.{decimal}
-use Rattle.receiver.specs.Answers.{verdictIs}
+use Rattle.verdicts.specs.Verdict.{verdictIs}
 use Rattle.screen.specs.Screen.{bytesWord, lineFeed, frontText, lineText}
 use Rattle.screen.proofs.Lines.{puts-more, length-lineText}
 use Rattle.screen.proofs.line.put_line.Statement.{statement}

@@ -1,0 +1,4 @@
+pub mod ChannelState
+pub mod HeldBytes
+pub mod OtherChannels
+pub mod NextState

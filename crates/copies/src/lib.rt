@@ -1,0 +1,2 @@
+// Bytes copied to their place: a leaf of the receiver, no host calls it.
+pub mod copy;

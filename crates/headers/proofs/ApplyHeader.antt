@@ -1,0 +1,56 @@
+-- A header applied: what the code leaves for what the header asks is what its judgement leaves.
+use Prim.Native.Nat.{ℕ, _-_, _<_}
+use mathlib.Core.Path.{_≡_, sym}
+use mathlib.Core.Bool.{Bool}
+use mathlib.Core.List.{List}
+use native.Mathlib.Omega.{arith}
+use Rattle.transfer.specs.declared.state.Transfer.{Transfer}
+use Rattle.transfer.specs.Channel.{putCount}
+use Rattle.transfer.specs.Transfer.{usedOf, World, world}
+use Rattle.transfer.specs.Header.{endsChannel, payloadLength, Asks, counts, claims, nothing, faulty, askedOf}
+use Rattle.transfer.specs.Judgement.{Asked, by-descriptor, by-14, by-15, for-count, for-nothing, by-16, for-claim}
+use Rattle.transfer.specs.Receive.{Took, faults, opens, heeds, judges}
+use Rattle.transfer.proofs.Asked.{asked}
+use Rattle.headers.specs.ClaimRange.{claimOrFault}
+
+-- a range that a header asks for is not empty, and is as long as the payload
+module _ (F known used : ℕ) (h : List ℕ) where
+  abbrev Ranged : Asks → Type 0
+  Ranged (counts n) = Unit {0}
+  Ranged (claims s e) = (s < e) × (e - s ≡ payloadLength h)
+  Ranged nothing = Unit {0}
+  Ranged (faulty k) = Unit {0}
+
+  ranged : (a : Asks) → Asked F known used h a → Ranged a
+  unfolding payloadLength
+  ranged _ (by-descriptor d) = tt
+  ranged _ (by-14 d q k) = tt
+  ranged _ (by-15 d q k z) = tt
+  ranged _ (for-count d q k n₀ n₁ n₂) = tt
+  ranged _ (for-nothing d q z) = tt
+  ranged _ (by-16 d q l f) = tt
+  ranged _ (for-claim d q l f) = (omega arith, rw q (omega arith))
+
+  pub range-asked : (s e : ℕ) → claims s e ≡ askedOf F known used h → (s < e) × (e - s ≡ payloadLength h)
+  range-asked s e q = rw (sym q) at (ranged (askedOf F known used h) (asked F known used h))
+
+module _ (t : Transfer) (file l : List ℕ) (c : ℕ) (h : List ℕ) where
+  abbrev AsksFor : Asks → Type 0
+  AsksFor a = a ≡ askedOf (t .len) (t .count) (usedOf t) h
+
+  pub apply-fault : (k : ℕ) → AsksFor (faulty k) → faults (world t file l) c k ≡ judges (world t file l) c h
+  unfolding judges heeds
+  apply-fault k q = rw (sym q)
+
+  module _ (v : Took World) (last : Bool) (is : last ≡ endsChannel h) where
+    pub apply-count : (n : ℕ) → AsksFor (counts n) → v ≡ opens (world (putCount t n) file l) c 0 0 last → v ≡ judges (world t file l) c h
+    unfolding judges heeds
+    apply-count n q e = rw (sym q) (rw is at e)
+
+    pub apply-nothing : AsksFor nothing → v ≡ opens (world t file l) c 0 0 last → v ≡ judges (world t file l) c h
+    unfolding judges heeds
+    apply-nothing q e = rw (sym q) (rw is at e)
+
+    pub apply-claim : (s e : ℕ) → AsksFor (claims s e) → v ≡ claimOrFault (world t file l) c s e last → v ≡ judges (world t file l) c h
+    unfolding judges heeds claimOrFault
+    apply-claim s e q w = rw (sym q) (rw (is, range-asked (t .len) (t .count) (usedOf t) h s e q .1) at w)

@@ -1,0 +1,3 @@
+pub mod ClaimNumber
+pub mod ClaimRange
+pub mod ApplyHeader

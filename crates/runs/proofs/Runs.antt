@@ -1,0 +1,198 @@
+-- What the two kinds of runs come to, from what their leaves answer.
+use Prim.Native.Nat.{ℕ, zero, suc, _+_, _*_, _-_, _≤_, _<_, min}
+use mathlib.Core.Path.{_≡_, refl, sym, ap, _∙_, subst}
+use mathlib.Core.Logic.{inl, inr}
+use mathlib.Core.Bool.{Bool, true, false, cond, true≢false, _&&_}
+use mathlib.Core.List.{List, [], _∷_, _++_, append-assoc, append-nil}
+use native.Mathlib.Omega.{arith}
+use native.Mathlib.Numerals.{add-one}
+use borrow.Author.Tests.{eq-eqb}
+use lib.Dec.{eqb}
+use lib.ListN.{length, getD, take, drop, replicate, length-append, length-replicate, take-append-drop}
+use lib.Seq.{sets, sets-eq, take-length, take-suc, take-at, drop-at, split-at, length-take-le}
+use Rattle.ledger.specs.Ledger.{obeys}
+use Rattle.transfer.specs.declared.state.Channel.{Channel}
+use Rattle.transfer.specs.declared.state.Transfer.{Transfer}
+use Rattle.transfer.specs.Channel.{channelCount, heldLimit, header, payload, heldBytes, channelAt, stateAt, putState}
+use Rattle.transfer.specs.Transfer.{usedOf, World, world}
+use Rattle.transfer.specs.Receive.{took, opens, judges}
+use Rattle.transfer.specs.Fit.{fitsLedger, fits}
+use Rattle.transfer.proofs.Lens.{Has}
+use Rattle.transfer.proofs.Stages.{Stage, resting, collecting, storing, held-within, some-left}
+use Rattle.transfer.proofs.Together.{Together, together-fit}
+use Rattle.transfer.proofs.FitTests.{fits-together}
+use Rattle.channels.specs.HeldBytes.{withHeldBytesAt, heldBytesAt}
+use Rattle.channels.specs.NextState.{continuesOrStops}
+use Rattle.verdicts.specs.Verdict.{countReached}
+use Rattle.channels.specs.declared.channel_state.ChannelState.{ChannelState}
+use Rattle.channels.specs.declared.other_channels.OtherChannels.{OtherChannels}
+use Rattle.channels.specs.ChannelState.{numbers, writeBack}
+use Rattle.channels.specs.OtherChannels.{CountsOthers}
+use Rattle.channels.proofs.WriteBack.{write-back-at, write-back-count-reached}
+use Rattle.runs.specs.Runs.{TakesHeader, bytesOn, RunOf}
+use Rattle.runs.proofs.StateNumbers.{in-payload, is-payload}
+use Rattle.runs.proofs.FittingChannel.{heldNow, held-length, filled-is}
+use Rattle.runs.proofs.HeaderRuns.{held-run, whole-run}
+use Rattle.runs.proofs.PayloadRuns.{stored-run}
+
+-- ---- what FIT says where a run needs it
+
+fits-with : (t : Transfer) (file ledger : List ℕ) → length file ≡ t .len → fitsLedger t ledger ≡ true → Together (world t file ledger)
+fits-with t file ledger n e = fits-together (world t file ledger) (unfold fits in rw (eq-eqb (length file) (t .len) n) e)
+
+-- any file of that length serves
+pub fits-some : (t : Transfer) (ledger : List ℕ) → fitsLedger t ledger ≡ true → Together (world t (replicate (t .len) 0) ledger)
+fits-some t ledger e = fits-with t (replicate (t .len) 0) ledger (length-replicate {A = ℕ} (t .len) 0) e
+
+held-few : (t : Transfer) (ledger : List ℕ) (c : ℕ) → c < channelCount → fitsLedger t ledger ≡ true → channelAt t c .held ≤ heldLimit
+held-few t ledger c h e = held-within (channelAt t c) (fits-some t ledger e .stages c h)
+
+pub ledger-fits : (t : Transfer) (ledger : List ℕ) → fitsLedger t ledger ≡ true → (obeys ledger ≡ true) × (length ledger ≡ 2 * t .pairs)
+ledger-fits t ledger e = let f = fits-some t ledger e in (f .rule, f .entries)
+
+-- a rest lies in the file
+pub rest-inside : (w : World) (c : ℕ) → c < channelCount → fits w ≡ true → 1 < channelAt (w .t) c .state → channelAt (w .t) c .state < 4
+    → channelAt (w .t) c .next + channelAt (w .t) c .left ≤ length (w .lent .file)
+rest-inside w c h e a b =
+    let f = together-fit w (fits-together w e) in
+    let i = f .inside c h (in-payload (channelAt (w .t) c .state) a b) in
+    omega (arith, i .2, f .ends (i .0), f .file)
+
+-- ---- the state of a channel that fits, by its number and the bytes left
+
+pub storing-below : (k : Channel) → Stage k → 0 < k .left → k .state < 4
+storing-below k (resting s a b d) l = absurd (omega (arith, d))
+storing-below k (collecting s a b d) l = absurd (omega (arith, d))
+storing-below k (storing (inl s) a b) l = omega (arith, s)
+storing-below k (storing (inr s) a b) l = omega (arith, s)
+
+pub ended-above : (k : Channel) → Stage k → 1 < k .state → k .left ≤ 0 → 4 ≤ k .state
+ended-above k (resting (inl s) a b d) h l = absurd (omega (arith, s))
+ended-above k (resting (inr s) a b d) h l = omega (arith, s)
+ended-above k (collecting s a b d) h l = absurd (omega (arith, s))
+ended-above k (storing s a b) h l = absurd (omega (arith, b))
+
+pub takes-header : (state count used : ℕ) → (eqb state 0 && countReached count used) ≡ false → state < 2 → TakesHeader state count used
+takes-header zero count used e h = inl (refl, e)
+takes-header (suc zero) count used e h = inr refl
+takes-header (suc (suc s)) count used e h = absurd (omega arith)
+
+-- ---- of a channel written back
+
+pub held-at-most : (t : Transfer) (ledger : List ℕ) (c : ℕ) (o : OtherChannels) → CountsOthers t c o → (x : ChannelState) → fitsLedger (writeBack t c x) ledger ≡ true → x .held ≤ heldLimit
+held-at-most t ledger c o a x e = omega (arith, held-few (writeBack t c x) ledger c (a .below) e, ap (λ k. k .held) (write-back-at t c o a x))
+
+pub stage-of-channel : (t : Transfer) (c : ℕ) (o : OtherChannels) → CountsOthers t c o → (x : ChannelState) (file ledger : List ℕ) → fits (world (writeBack t c x) file ledger) ≡ true → Stage (numbers x)
+stage-of-channel t c o a x file ledger e = subst Stage (write-back-at t c o a x) (fits-together (world (writeBack t c x) file ledger) e .stages c (a .below))
+
+pub write-back-takes : (t : Transfer) (c : ℕ) (o : OtherChannels) → CountsOthers t c o → (x : ChannelState) → TakesHeader (x .state) (x .count) (o .used)
+    → TakesHeader (channelAt (writeBack t c x) c .state) (writeBack t c x .count) (usedOf (writeBack t c x))
+write-back-takes t c o a x (inl (s, b)) = inl (ap (λ k. k .state) (write-back-at t c o a x) ∙ s, write-back-count-reached t c o a x s ∙ b)
+write-back-takes t c o a x (inr s) = inr (ap (λ k. k .state) (write-back-at t c o a x) ∙ s)
+
+-- ---- a header's bytes
+
+-- all of the piece is held
+pub held-ran : (t : Transfer) (ledger : List ℕ) (c : ℕ) (piece : List ℕ) → c < channelCount → fitsLedger t ledger ≡ true → TakesHeader (channelAt t c .state) (t .count) (usedOf t) → 0 < length piece
+    → channelAt t c .held + length piece ≤ heldLimit → (u : Transfer) → u ≡ withHeldBytesAt t c piece
+    → (file : List ℕ) → length file ≡ t .len → RunOf c (world t file ledger) piece (world u file ledger) (length piece) true
+held-ran t ledger c [] h e s z l u q file n = absurd (omega arith)
+held-ran t ledger c (b ∷ bs) h e s z l u q file n =
+    record {
+      if-continues = λ o rest k.
+          ap (λ x. bytesOn c (world t file ledger) (x ++ rest) k) (take-length (b ∷ bs))
+          ∙ held-run (world t file ledger) (fits-with t file ledger n e) c h s b bs rest k l
+          ∙ ap (λ x. bytesOn c (world x file ledger) rest (k + suc (length bs))) (sym q);
+      if-stops = λ o. absurd (true≢false o);
+    }
+
+held16-put : (t : Transfer) (c : ℕ) (x : List ℕ) → Has t c → length x ≡ heldLimit → heldBytesAt (putState t c (header x)) c ≡ x
+unfolding putState heldBytes
+held16-put t c x a l =
+    let z : heldLimit - length x ≡ 0 = omega arith in
+    let front : length (take (heldLimit * c) (t .heads)) ≡ heldLimit * c = length-take-le (heldLimit * c) (t .heads) (omega (arith, a .bytes)) in
+    rw (drop-at (take (heldLimit * c) (t .heads)) ((x ++ replicate (heldLimit - length x) 0) ++ drop (heldLimit * c + heldLimit) (t .heads)) (heldLimit * c) front, z, append-nil x)
+    (take-at x (drop (heldLimit * c + heldLimit) (t .heads)) heldLimit l)
+
+-- 16 bytes are held, and the next makes it whole
+pub judged-ran : (t : Transfer) (ledger ledger′ : List ℕ) (c : ℕ) (piece : List ℕ) (n : ℕ) → c < channelCount → fitsLedger t ledger ≡ true → TakesHeader (channelAt t c .state) (t .count) (usedOf t)
+    → channelAt t c .held + n ≡ heldLimit → n < length piece → (u : Transfer) → u ≡ withHeldBytesAt t c (take n piece) → (whole : List ℕ) → whole ≡ heldBytesAt u c ++ getD piece n 0 ∷ []
+    → (v : Transfer) (continues : Bool) → ((file : List ℕ) → continuesOrStops continues (world v file ledger′) ≡ judges (world u file ledger) c whole)
+    → (file : List ℕ) → length file ≡ t .len → RunOf c (world t file ledger) piece (world v file ledger′) (n + 1) continues
+judged-ran t ledger ledger′ c piece n h e s l m u q whole r v continues j file i =
+    record {
+      if-continues = λ o rest k. ap (λ x. bytesOn c w x k) (taken-and rest) ∙ all rest k ∙ rw (o, next k);
+      if-stops = λ o k. ap (λ x. bytesOn c w x k) (split-at piece n 0 m) ∙ all (drop (suc n) piece) k ∙ rw (o, next k);
+    }
+  where
+    w : World
+    w = world t file ledger
+
+    f : Together (world t file ledger)
+    f = fits-with t file ledger i e
+
+    short : length (take n piece) ≡ n
+    short = length-take-le n piece (omega arith)
+
+    next : (k : ℕ) → k + suc (length (take n piece)) ≡ k + (n + 1)
+    next k = omega (arith, short)
+
+    taken-and : (rest : List ℕ) → take (n + 1) piece ++ rest ≡ take n piece ++ (getD piece n 0 ∷ rest)
+    taken-and rest = rw (add-one n, take-suc piece n 0 m) (append-assoc (take n piece) (getD piece n 0 ∷ []) rest)
+
+    withHeldBytes : u ≡ putState t c (header (heldNow (world t file ledger) f c h ++ take n piece))
+    withHeldBytes = q ∙ filled-is (world t file ledger) f c h (take n piece) (omega (arith, short))
+
+    head-is : whole ≡ (heldNow (world t file ledger) f c h ++ take n piece) ++ getD piece n 0 ∷ []
+    head-is =
+        r ∙ ap (λ x. x ++ getD piece n 0 ∷ [])
+        (ap (λ x. heldBytesAt x c) withHeldBytes
+        ∙ held16-put t c (heldNow (world t file ledger) f c h ++ take n piece) (record { row = omega (arith, f .channels); bytes = omega (arith, f .heads) })
+        (omega (arith, short, held-length (world t file ledger) f c h, length-append (heldNow (world t file ledger) f c h) (take n piece))))
+
+    judged : continuesOrStops continues (world v file ledger′) ≡ judges (world (withHeldBytesAt t c (take n piece)) file ledger) c ((heldNow (world t file ledger) f c h ++ take n piece) ++ getD piece n 0 ∷ [])
+    judged = j file ∙ ap (λ x. judges (world x file ledger) c whole) q ∙ ap (λ x. judges (world (withHeldBytesAt t c (take n piece)) file ledger) c x) head-is
+
+    all : (rest : List ℕ) (k : ℕ) → bytesOn c w (take n piece ++ (getD piece n 0 ∷ rest)) k
+        ≡ cond continues (bytesOn c (world v file ledger′) rest (k + suc (length (take n piece)))) (took (k + suc (length (take n piece))), world v file ledger′)
+    all = whole-run (world t file ledger) f c h s (take n piece) (getD piece n 0) (world v file ledger′) continues (omega (arith, short)) judged
+
+-- ---- a payload's bytes
+
+pub stored-ran : (t : Transfer) (file file′ : List ℕ) (c : ℕ) (k : Channel) (i : channelAt t c ≡ k) (piece : List ℕ) (n : ℕ) → c < channelCount → 0 < length piece → 1 < k .state → k .state < 4
+    → k .next + k .left ≤ length file → n ≡ min (k .left) (length piece)
+    → file′ ≡ take (k .next) file ++ (take n piece ++ drop (k .next + n) file)
+    → (v : Transfer) (continues : Bool)
+    → ((f l : List ℕ) → continuesOrStops continues (world v f l) ≡ opens (world t f l) c (k .next + n) (k .left - n) (eqb (k .state) 3))
+    → (ledger : List ℕ) → fits (world t file ledger) ≡ true → RunOf c (world t file ledger) piece (world v file′ ledger) n continues
+stored-ran t file file′ c k i piece n h z a b m q d v continues o ledger e =
+    record {
+      if-continues = λ x rest j. all rest j ∙ rw (x, short);
+      if-stops = λ x j. ap (λ y. bytesOn c (world t file ledger) y j) (sym (take-append-drop n piece)) ∙ all (drop n piece) j ∙ rw (x, short);
+    }
+  where
+    f : Together (world t file ledger)
+    f = fits-together (world t file ledger) e
+
+    state : stateAt t c ≡ payload (k .next) (k .left) (eqb (k .state) 3)
+    state =
+        subst (λ y. stateAt t c ≡ payload (y .next) (y .left) (eqb (y .state) 3)) i
+        (is-payload t c (subst (λ y. 1 < y .state) (sym i) a) (subst (λ y. y .state < 4) (sym i) b))
+
+    left : 0 < k .left
+    left = some-left k (subst Stage i (f .stages c h)) (in-payload (k .state) a b)
+
+    short : length (take n piece) ≡ n
+    short = length-take-le n piece (omega (arith, q))
+
+    stored : file′ ≡ sets file (k .next) (take n piece)
+    stored = d ∙ sym (sets-eq (take n piece) file (k .next) (omega (arith, short, q, m)) ∙ rw short (append-assoc (take (k .next) file) (take n piece) (drop (k .next + n) file)))
+
+    opened : continuesOrStops continues (world v file′ ledger) ≡ opens (world t (sets file (k .next) (take n piece)) ledger) c (k .next + length (take n piece)) (k .left - length (take n piece)) (eqb (k .state) 3)
+    opened = rw short (o file′ ledger ∙ ap (λ x. opens (world t x ledger) c (k .next + n) (k .left - n) (eqb (k .state) 3)) stored)
+
+    all : (rest : List ℕ) (j : ℕ) → bytesOn c (world t file ledger) (take n piece ++ rest) j
+        ≡ cond continues (bytesOn c (world v file′ ledger) rest (j + length (take n piece))) (took (j + length (take n piece)), world v file′ ledger)
+    all =
+        stored-run (world t file ledger) f c h (k .next) (k .left) (eqb (k .state) 3) state (take n piece) (omega (arith, short, q, left, z)) (omega (arith, short, q))
+        (world v file′ ledger) continues opened

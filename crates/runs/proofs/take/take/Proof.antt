@@ -1,0 +1,158 @@
+-- `take::take`: the bytes taken by the runs so far, and those after them, are all.
+use Prim.Native.Nat.{ℕ, _+_, _-_, _≤_}
+use mathlib.Core.List.{List}
+use mathlib.Core.Path.{_≡_, refl, sym, ap, _∙_, subst}
+use mathlib.Core.Bool.{true}
+use native.Mathlib.Omega.{arith}
+use borrow.Author.Tests.{not-true, not-false}
+use lib.ListN.{length, take, drop, length-drop, drop-of-length-le}
+use lib.Seq.{take-all}
+use Rattle.transfer.specs.declared.state.Transfer.{Transfer}
+use Rattle.transfer.specs.Transfer.{World, world}
+use Rattle.transfer.specs.Receive.{byteOf}
+use Rattle.transfer.specs.Fit.{fits}
+use Rattle.transfer.proofs.Pieces.{bytes-none}
+use Rattle.channels.specs.ChannelState.{writeBack}
+use Rattle.channels.specs.OtherChannels.{CountsOthers}
+use Rattle.runs.specs.Runs.{bytesOn, RunOf}
+use Rattle.runs.proofs.CallRuns.{further, stopped, still-fits}
+use Rattle.runs.proofs.take.take.Statement.{statement}
+use Rattle.runs.proofs.take.take.Tie as tie
+
+-- the part of the piece that is lent
+part : (piece : List ℕ) (i : ℕ) → take (length piece - i) (drop i piece) ≡ drop i piece
+part piece i = take-all (length piece - i) (drop i piece) (omega (arith, length-drop i piece))
+
+abbrev Inv-loop : tie.InvT-loop
+Inv-loop c o piece file₀ ledger₀ y₀ i₀ file ledger y i =
+    (i ≤ length piece)
+    × (length file ≡ length file₀)
+    × (length ledger ≡ length ledger₀)
+    × ((t : Transfer) → CountsOthers t c o → fits (world (writeBack t c y₀) file₀ ledger₀) ≡ true
+    → (fits (world (writeBack t c y) file ledger) ≡ true) × (bytesOn c (world (writeBack t c y₀) file₀ ledger₀) piece 0 ≡ bytesOn c (world (writeBack t c y) file ledger) (drop i piece) i))
+
+abbrev μ-loop : tie.MeasureT-loop
+μ-loop c o piece file₀ ledger₀ y₀ i₀ file ledger y i = length piece - i
+
+-- the channel as the runs so far left it, in its transfer
+abbrev stands : (l : tie.At-loop Inv-loop μ-loop) → Transfer → World
+stands l t = world (writeBack t (l .before .before .before .before .args .c) (l .loop .y)) (l .loop .file) (l .loop .ledger)
+
+abbrev Begun : (l : tie.At-loop Inv-loop μ-loop) → Transfer → Type 0
+Begun l t =
+    let x = l .before .before .before .before .args in
+    CountsOthers t (x .c) (x .o) × (fits (world (writeBack t (x .c) (x .x)) (x .file .now) (x .ledger .now)) ≡ true)
+
+-- one run, of the bytes after those taken
+ran : (e : tie.After-run Inv-loop μ-loop) → let l = e .before .before .before .before .before in let x = l .before .before .before .before .args in
+    (t : Transfer) → Begun l t
+    → RunOf (x .c) (stands l t) (drop (l .loop .i) (x .piece .now)) (world (writeBack t (x .c) (e .run .result .channel)) (e .run .last .1 .1 .1 .1 .0) (e .run .last .1 .1 .1 .1 .1 .0)) (e .run .result .taken) (e .run .result .continues)
+ran e t (a, f) =
+    let l = e .before .before .before .before .before in
+    let x = l .before .before .before .before .args in
+    subst (λ p. RunOf (x .c) (stands l t) p (world (writeBack t (x .c) (e .run .result .channel)) (e .run .last .1 .1 .1 .1 .0) (e .run .last .1 .1 .1 .1 .1 .0)) (e .run .result .taken) (e .run .result .continues))
+    (part (x .piece .now) (l .loop .i)) (e .run .ensures .2 t a (l .loop .inv .3 t a f .0))
+
+piece-fits : (a : tie.After-shared-slice-known Inv-loop μ-loop) → length (a .before .args .piece .now) ≤ 18446744073709551615
+piece-fits a = omega arith
+
+taken-few : (e : tie.After-run Inv-loop μ-loop) → let l = e .before .before .before .before .before in l .loop .i + e .run .result .taken ≤ length (l .before .before .before .before .args .piece .now)
+taken-few e =
+    let l = e .before .before .before .before .before in
+    let p = l .before .before .before .before .args .piece .now in
+    omega (arith, e .run .ensures .0, ap length (part p (l .loop .i)), length-drop (l .loop .i) p, l .loop .inv .0)
+
+loop-holds : tie.Need-loop-holds Inv-loop μ-loop
+loop-holds c = (omega arith, refl, refl, λ t a f. (f, refl))
+
+sub-run : tie.Need-sub-run Inv-loop μ-loop
+sub-run c = omega arith
+
+part-run-start : tie.Need-part-run-start Inv-loop μ-loop
+part-run-start c = omega arith
+
+part-run-end : tie.Need-part-run-end Inv-loop μ-loop
+part-run-end c = omega arith
+
+run-requires : tie.Need-run-requires Inv-loop μ-loop
+run-requires c κs =
+    let l = c .before .before .before .before in
+    let x = l .before .before .before .before .args in
+    omega (arith, ap length (part (x .piece .now) (l .loop .i)), length-drop (l .loop .i) (x .piece .now))
+
+add-i : tie.Need-add-i Inv-loop μ-loop
+add-i c =
+    let e = c .before .before .before .before .before .before in
+    omega (arith, taken-few e, piece-fits (e .before .before .before .before .before .before .before .before))
+
+same-length : tie.Need-same-length Inv-loop μ-loop
+same-length c =
+    let e = c .before .before .before .before .before .before .before .before in
+    e .run .kept .1 .1 .1 .1 .0 ∙ e .before .before .before .before .before .loop .inv .1
+
+same-length-2 : tie.Need-same-length-2 Inv-loop μ-loop
+same-length-2 c =
+    let e = c .before .before .before .before .before .before .before .before in
+    e .run .kept .1 .1 .1 .1 .1 .0 ∙ e .before .before .before .before .before .loop .inv .2
+
+returns : tie.Need-returns Inv-loop μ-loop
+returns c t a f =
+    let e = c .before .before .before .before .before .before .before .before in
+    let l = e .before .before .before .before .before in
+    let x = l .before .before .before .before .args in
+    sym (l .loop .inv .3 t a f .1 ∙ stopped (x .c) (a .below) _ _ (x .piece .now) (l .loop .i) (e .run .result .taken) (e .run .result .continues) (ran e t (a, f)) (not-true (e .run .result .continues) (c .if1 .taken)))
+
+loop-less : tie.Need-loop-less Inv-loop μ-loop
+loop-less c =
+    let e = c .before .before .before .before .before .before .before .before in
+    omega (arith, taken-few e, e .run .ensures .1 (not-false (e .run .result .continues) (c .if1 .left)))
+
+loop-again : tie.Need-loop-again Inv-loop μ-loop
+loop-again c =
+    let e = c .before .before .before .before .before .before .before .before in
+    let l = e .before .before .before .before .before in
+    let x = l .before .before .before .before .args in
+    let v = l .loop .inv in
+    let o = not-false (e .run .result .continues) (c .if1 .left) in (
+      taken-few e,
+      e .run .kept .1 .1 .1 .1 .0 ∙ v .1,
+      e .run .kept .1 .1 .1 .1 .1 .0 ∙ v .2,
+      λ t a f.
+          let r = ran e t (a, f) in (
+            still-fits (x .c) (a .below) _ _ (x .piece .now) (l .loop .i) (e .run .result .taken) (e .run .result .continues) r o (v .3 t a f .0),
+            v .3 t a f .1 ∙ further (x .c) (a .below) _ _ (x .piece .now) (l .loop .i) (e .run .result .taken) (e .run .result .continues) r o,
+          ),
+    )
+
+same-length-3 : tie.Need-same-length-3 Inv-loop μ-loop
+same-length-3 c = c .before .loop .inv .1
+
+same-length-4 : tie.Need-same-length-4 Inv-loop μ-loop
+same-length-4 c = c .before .loop .inv .2
+
+returns-2 : tie.Need-returns-2 Inv-loop μ-loop
+returns-2 c t a f =
+    let l = c .before in
+    let x = l .before .before .before .before .args in
+    sym (l .loop .inv .3 t a f .1 ∙ ap (λ p. bytesOn (x .c) (stands l t) p (l .loop .i)) (drop-of-length-le (x .piece .now) (c .loop-test .left)) ∙ bytes-none (λ v b. byteOf v (x .c) b) (stands l t) (l .loop .i))
+
+pub take-spec : {M : Type 1} → statement M
+take-spec =
+    tie.close
+    (tie.spec
+    Inv-loop
+    μ-loop
+    loop-holds
+    sub-run
+    part-run-start
+    part-run-end
+    run-requires
+    add-i
+    same-length
+    same-length-2
+    returns
+    loop-less
+    loop-again
+    same-length-3
+    same-length-4
+    returns-2)
