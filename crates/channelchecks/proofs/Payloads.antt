@@ -8,7 +8,7 @@ use native.Mathlib.Numerals.{add-one}
 use lib.Dec.{eqb}
 use lib.ListN.{length, getD, set, take, drop, drop-of-length-le}
 use lib.Seq.{drop-cons, take-set-le, take-suc-set, append-snoc}
-use Rattle.ranges.specs.Ranges.{disjoint, disjointFrom, allDisjoint}
+use Rattle.rangechecks.specs.Ranges.{disjoint, disjointFrom, allDisjoint}
 use Rattle.transfer.specs.declared.state.Channel.{Channel}
 use Rattle.transfer.specs.Channel.{blank}
 use Rattle.transfer.specs.Fit.{apart, apartFrom, restsApart}

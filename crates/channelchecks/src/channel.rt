@@ -1,7 +1,7 @@
 // Whether one channel fits: its numbers, its held bytes and the ledger.
 use crate::held;
 use crate::limits;
-use ranges::search;
+use rangechecks::search;
 use transfer::state::Channel;
 ghost use mathlib.Core.Path.{_≡_};
 ghost use mathlib.Core.Bool.{true};

@@ -1,7 +1,7 @@
 // The channels against the ledger, with what is counted on the way.
 use crate::pass;
 use ledger::rule;
-use ranges::disjoint;
+use rangechecks::disjoint;
 use transfer::state::Transfer;
 ghost use mathlib.Core.Path.{_≡_};
 ghost use mathlib.Core.Bool.{true, _&&_};

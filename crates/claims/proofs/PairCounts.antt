@@ -11,7 +11,7 @@ use lib.ListN.{length, getD, drop}
 use Rattle.ledger.specs.Pairs.{Pairs, none, pair}
 use Rattle.ledger.specs.Ledger.{pairsOf, roomOf}
 use Rattle.ledger.proofs.Opened.{pairs-unused, pairs-used, pairs-over}
-use Rattle.ranges.proofs.BinarySearch.{past-end}
+use Rattle.rangechecks.proofs.BinarySearch.{past-end}
 
 -- a count that goes on while the test holds
 pub record Counts (count : Pairs → ℕ) (test : ℕ → ℕ → Bool) : Type 0 where

@@ -1,7 +1,7 @@
 // Claiming a range in a ledger, in place: first the judgement, which only reads, then the change, which cannot fail.
 use crate::shift;
 use ledger::rule;
-use ranges::search;
+use rangechecks::search;
 ghost use mathlib.Core.Path.{_≡_};
 ghost use mathlib.Core.Bool.{true, _&&_};
 ghost use lib.Dec.{ltb};

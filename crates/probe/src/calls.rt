@@ -9,8 +9,8 @@ use crate::session::Session;
 use crate::session::Turn;
 use receiver::receive::Answer;
 use receiver::receive::Receiver;
-use receiver::receive::Verdict;
 use receiver::start;
+use verdicts::verdict::Verdict;
 
 // ---- start
 

@@ -4,7 +4,7 @@ use native.Mathlib.Omega.{arith}
 use borrow.Author.Needs.{needs}
 use borrow.Author.Tests.{lt-ltb, le-ltb}
 use lib.ListN.{getD}
-use Rattle.ranges.proofs.BinarySearch.{past-end}
+use Rattle.rangechecks.proofs.BinarySearch.{past-end}
 use Rattle.claims.proofs.claim.ends_below.Statement.{statement}
 use Rattle.claims.proofs.claim.ends_below.Tie as tie
 

@@ -2,9 +2,9 @@
 use Prim.Native.Nat.{_+_, _*_}
 use native.Mathlib.Omega.{arith}
 use borrow.Author.Needs.{needs}
-use Rattle.ranges.proofs.BinarySearch.{past-end}
-use Rattle.ranges.proofs.search.pair_starts_by.Statement.{statement}
-use Rattle.ranges.proofs.search.pair_starts_by.Tie as tie
+use Rattle.rangechecks.proofs.BinarySearch.{past-end}
+use Rattle.rangechecks.proofs.search.pair_starts_by.Statement.{statement}
+use Rattle.rangechecks.proofs.search.pair_starts_by.Tie as tie
 
 returns : tie.Need-returns
 returns c =

@@ -4,8 +4,8 @@ use native.Mathlib.Omega.{arith}
 use borrow.Author.Needs.{needs}
 use borrow.Author.Tests.{lt-ltb, le-ltb}
 use lib.ListN.{getD}
-use Rattle.ranges.proofs.search.starts_by.Statement.{statement}
-use Rattle.ranges.proofs.search.starts_by.Tie as tie
+use Rattle.rangechecks.proofs.search.starts_by.Statement.{statement}
+use Rattle.rangechecks.proofs.search.starts_by.Tie as tie
 
 mul-if1 : tie.Need-mul-if1
 mul-if1 c = search needs

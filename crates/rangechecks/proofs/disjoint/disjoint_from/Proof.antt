@@ -6,10 +6,10 @@ use native.Mathlib.Omega.{arith}
 use borrow.Author.Needs.{needs}
 use borrow.Author.Tests.{not-true, not-false}
 use lib.ListN.{length, drop}
-use Rattle.ranges.specs.Ranges.{disjointFrom}
-use Rattle.ranges.proofs.Ranges.{from-more, from-over, stops, goes-on}
-use Rattle.ranges.proofs.disjoint.disjoint_from.Statement.{statement}
-use Rattle.ranges.proofs.disjoint.disjoint_from.Tie as tie
+use Rattle.rangechecks.specs.Ranges.{disjointFrom}
+use Rattle.rangechecks.proofs.Ranges.{from-more, from-over, stops, goes-on}
+use Rattle.rangechecks.proofs.disjoint.disjoint_from.Statement.{statement}
+use Rattle.rangechecks.proofs.disjoint.disjoint_from.Tie as tie
 
 abbrev Inv-loop : tie.InvT-loop
 Inv-loop a x starts lengths from i₀ i = disjointFrom a x (drop i starts) (drop i lengths) ≡ disjointFrom a x (drop from starts) (drop from lengths)

@@ -6,10 +6,10 @@ use native.Mathlib.Omega.{arith}
 use borrow.Author.Tests.{eq-eqb, ne-eqb, not-true, not-false}
 use lib.Dec.{eqb}
 use lib.ListN.{length, drop}
-use Rattle.ranges.specs.Ranges.{allDisjoint}
-use Rattle.ranges.proofs.Ranges.{all-more, all-over, stops, goes-on}
-use Rattle.ranges.proofs.disjoint.all_disjoint.Statement.{statement}
-use Rattle.ranges.proofs.disjoint.all_disjoint.Tie as tie
+use Rattle.rangechecks.specs.Ranges.{allDisjoint}
+use Rattle.rangechecks.proofs.Ranges.{all-more, all-over, stops, goes-on}
+use Rattle.rangechecks.proofs.disjoint.all_disjoint.Statement.{statement}
+use Rattle.rangechecks.proofs.disjoint.all_disjoint.Tie as tie
 
 abbrev Inv-loop : tie.InvT-loop
 Inv-loop starts lengths i₀ i =

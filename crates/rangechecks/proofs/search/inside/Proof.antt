@@ -2,9 +2,9 @@
 use mathlib.Core.Path.{sym, _∙_}
 use native.Mathlib.Omega.{arith}
 use borrow.Author.Needs.{needs}
-use Rattle.ranges.proofs.BinarySearch.{none-by, last-by}
-use Rattle.ranges.proofs.search.inside.Statement.{statement}
-use Rattle.ranges.proofs.search.inside.Tie as tie
+use Rattle.rangechecks.proofs.BinarySearch.{none-by, last-by}
+use Rattle.rangechecks.proofs.search.inside.Statement.{statement}
+use Rattle.rangechecks.proofs.search.inside.Tie as tie
 
 started-requires : tie.Need-started-requires
 started-requires c κs = search needs

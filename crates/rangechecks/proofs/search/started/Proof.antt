@@ -4,9 +4,9 @@ use mathlib.Core.Path.{_≡_, sym, _∙_}
 use mathlib.Core.Bool.{Bool, true, false, cond}
 use native.Mathlib.Omega.{arith}
 use Rattle.ledger.specs.Ledger.{roomOf}
-use Rattle.ranges.proofs.BinarySearch.{Between, halves, in-room}
-use Rattle.ranges.proofs.search.started.Statement.{statement}
-use Rattle.ranges.proofs.search.started.Tie as tie
+use Rattle.rangechecks.proofs.BinarySearch.{Between, halves, in-room}
+use Rattle.rangechecks.proofs.search.started.Statement.{statement}
+use Rattle.rangechecks.proofs.search.started.Tie as tie
 
 abbrev Inv-loop : tie.InvT-loop
 Inv-loop ledger place low₀ high₀ low high = (low ≤ high) × (high ≤ roomOf ledger) × (Between place ledger low high)

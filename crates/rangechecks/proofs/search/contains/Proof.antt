@@ -3,9 +3,9 @@ use Prim.Native.Nat.{_+_}
 use mathlib.Core.Path.{sym}
 use native.Mathlib.Omega.{arith}
 use borrow.Author.Needs.{needs}
-use Rattle.ranges.proofs.BinarySearch.{past-all}
-use Rattle.ranges.proofs.search.contains.Statement.{statement}
-use Rattle.ranges.proofs.search.contains.Tie as tie
+use Rattle.rangechecks.proofs.BinarySearch.{past-all}
+use Rattle.rangechecks.proofs.search.contains.Statement.{statement}
+use Rattle.rangechecks.proofs.search.contains.Tie as tie
 
 sub-if1 : tie.Need-sub-if1
 sub-if1 c = search needs

@@ -7,7 +7,7 @@ use native.Mathlib.Omega.{arith}
 use native.Mathlib.Numerals.{add-one}
 use lib.ListN.{length, getD, drop, drop-of-length-le}
 use lib.Seq.{drop-cons}
-use Rattle.ranges.specs.Ranges.{disjoint, disjointFrom, allDisjoint}
+use Rattle.rangechecks.specs.Ranges.{disjoint, disjointFrom, allDisjoint}
 
 module _ (bs ys : List ℕ) (i : ℕ) where
   pub from-more : (a x : ℕ) → i < length bs → length ys ≡ length bs

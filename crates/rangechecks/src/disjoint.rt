@@ -5,7 +5,7 @@ ghost use mathlib.Core.Bool.{_&&_};
 ghost use Prim.Native.Nat.{_+_, _<_};
 ghost use lib.Dec.{eqb};
 ghost use lib.ListN.{length, getD, drop};
-ghost use Rattle.ranges.specs.Ranges.{disjoint, disjointFrom, allDisjoint};
+ghost use Rattle.rangechecks.specs.Ranges.{disjoint, disjointFrom, allDisjoint};
 
 // Whether x places from a on and y places from b on share none.
 fn two_disjoint(a: u64, x: u64, b: u64, y: u64) -> bool

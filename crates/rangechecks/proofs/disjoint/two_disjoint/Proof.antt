@@ -1,8 +1,8 @@
 -- `disjoint::two_disjoint`.
 use mathlib.Core.Path.{sym, _∙_}
 use borrow.Author.Needs.{needs}
-use Rattle.ranges.proofs.disjoint.two_disjoint.Statement.{statement}
-use Rattle.ranges.proofs.disjoint.two_disjoint.Tie as tie
+use Rattle.rangechecks.proofs.disjoint.two_disjoint.Statement.{statement}
+use Rattle.rangechecks.proofs.disjoint.two_disjoint.Tie as tie
 
 sum-at-most-requires : tie.Need-sum-at-most-requires
 sum-at-most-requires c κs = search needs
