@@ -1,34 +1,36 @@
 -- What reader and writer answer, case by case: the laws that callers use in place of the definitions' text.
 use Prim.Native.Nat.{ℕ, _≤_, _<_}
-use mathlib.Core.Path.{_≡_}
+use mathlib.Core.Path.{_≡_, _∙_}
 use mathlib.Core.Logic.{_⊎_, inl, inr}
 use mathlib.Core.Bool.{true, false}
-use mathlib.Core.List.{List, _++_}
+use mathlib.Core.List.{List}
 use native.Mathlib.Omega.{arith}
 use borrow.Author.Tests.{lt-ltb, le-ltb, eq-eqb, ne-eqb}
-use lib.ListN.{length, drop}
+use lib.ListN.{length}
+use Rattle.answers.specs.declared.written.Written.the-variants.{Bytes}
+use Rattle.answers.specs.Written.{firstNumber, roomNumber}
+use Rattle.answers.proofs.WrittenBy.{first-some, first-none, first-zero, room-short, room-enough, room-zero, written-only}
 use Rattle.eblock.specs.Descriptor.{has, eodc, faultOf}
-use Rattle.eblock.specs.Header.{headerLength, countLimit, descriptorOf, secondOf, thirdOf, bytesOf, refusalOf, meant, readNumber, readOf, writeNumber, secondField, writeOf, leftBy}
+use Rattle.eblock.specs.Header.{headerLength, countLimit, descriptorOf, secondOf, thirdOf, refusalOf, meant, readNumber, readOf, writeNumber, writeOf}
 use Rattle.eblock.specs.declared.header.Header.the-variants.{Data, Eodc, Refused}
-use Rattle.eblock.specs.declared.header.Written.the-variants.{Bytes, Refused as NotWritten}
 
 -- ---- the judgement
 
 pub refusal-fault : (d third : ℕ) → 0 < faultOf d → refusalOf d third ≡ faultOf d
-unfolding refusalOf
-refusal-fault d third h = rw (lt-ltb 0 (faultOf d) h)
+unfolding refusalOf firstNumber
+refusal-fault d third h = first-some (faultOf d) _ h
 
 pub refusal-data : (d third : ℕ) → faultOf d ≡ 0 → has eodc d ≡ false → refusalOf d third ≡ 0
-unfolding refusalOf
+unfolding refusalOf firstNumber
 refusal-data d third h e = rw (h, e)
 
 pub refusal-15 : (d third : ℕ) → faultOf d ≡ 0 → has eodc d ≡ true → (third ≡ 0) ⊎ (countLimit < third) → refusalOf d third ≡ 15
-unfolding refusalOf
+unfolding refusalOf firstNumber
 refusal-15 d third h e (inl z) = rw (h, e, eq-eqb third 0 z)
 refusal-15 d third h e (inr l) = rw (h, e, ne-eqb third 0 (omega arith), lt-ltb countLimit third l)
 
 pub refusal-count : (d third : ℕ) → faultOf d ≡ 0 → has eodc d ≡ true → 0 < third → third ≤ countLimit → refusalOf d third ≡ 0
-unfolding refusalOf
+unfolding refusalOf firstNumber
 refusal-count d third h e z l = rw (h, e, ne-eqb third 0 (omega arith), le-ltb countLimit third l)
 
 pub meant-count : (d second third : ℕ) → has eodc d ≡ true → meant d second third ≡ Eodc d third
@@ -53,20 +55,24 @@ pub reads-meant : (h : List ℕ) → length h ≡ headerLength → refusalOf (de
 unfolding readOf readNumber
 reads-meant h n k = rw (eq-eqb (length h) headerLength n, k)
 
--- ---- the writer, on arguments that it refuses, on too few bytes, and else
+-- ---- the writer's number
 
-module _ (d len third : ℕ) (out : List ℕ) where
-  pub writes-refused : (k : ℕ) → refusalOf d third ≡ k → 0 < k → (writeOf d third out ≡ NotWritten k) × (leftBy d len third out ≡ out)
-  unfolding writeOf leftBy writeNumber
-  writes-refused k e l =
-      let t = lt-ltb 0 k l in
-      (rw (e, t, t), rw (e, t, t))
+module _ (d third : ℕ) (out : List ℕ) where
+  pub number-refused : (k : ℕ) → refusalOf d third ≡ k → 0 < k → writeNumber d third out ≡ k
+  unfolding writeNumber
+  number-refused k e h = first-some (refusalOf d third) _ (omega arith) ∙ e
 
-  pub writes-short : refusalOf d third ≡ 0 → length out < headerLength → (writeOf d third out ≡ NotWritten 55) × (leftBy d len third out ≡ out)
-  unfolding writeOf leftBy writeNumber
-  writes-short k l = (rw (k, lt-ltb (length out) headerLength l), rw (k, lt-ltb (length out) headerLength l))
+  pub number-55 : refusalOf d third ≡ 0 → length out < headerLength → writeNumber d third out ≡ 55
+  unfolding writeNumber
+  number-55 e h = first-none (refusalOf d third) _ e ∙ room-short headerLength out h
 
-  pub writes-header : refusalOf d third ≡ 0 → headerLength ≤ length out
-      → (writeOf d third out ≡ Bytes headerLength) × (leftBy d len third out ≡ bytesOf d (secondField d len) third ++ drop headerLength out)
-  unfolding writeOf leftBy writeNumber
-  writes-header k l = (rw (k, le-ltb (length out) headerLength l), rw (k, le-ltb (length out) headerLength l))
+  pub number-0 : refusalOf d third ≡ 0 → headerLength ≤ length out → writeNumber d third out ≡ 0
+  unfolding writeNumber
+  number-0 e h = first-none (refusalOf d third) _ e ∙ room-enough headerLength out h
+
+  -- the writer accepts exactly what is not refused, into 17 bytes or more
+  pub accepts : writeOf d third out ≡ Bytes headerLength → (refusalOf d third ≡ 0) × (headerLength ≤ length out)
+  unfolding writeOf writeNumber
+  accepts e =
+      let z = first-zero (refusalOf d third) (roomNumber headerLength out) (written-only (writeNumber d third out) headerLength headerLength e .0) in
+      (z .0, room-zero headerLength out (z .1))

@@ -1,6 +1,8 @@
--- The numbers of the answers, case by case.
+-- `Answers` holds.
 use mathlib.Core.Path.{refl}
-use Rattle.ledger.specs.Answer.{loadedNumber, writtenNumber, writtenBytes, Answers}
+use Rattle.answers.specs.Loaded.{loadedNumber}
+use Rattle.answers.specs.Written.{writtenNumber, writtenBytes}
+use Rattle.answers.specs.Answers.{Answers}
 
 pub answers : Answers
 unfolding loadedNumber writtenNumber writtenBytes

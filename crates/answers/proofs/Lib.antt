@@ -1,0 +1,3 @@
+pub mod WrittenBy
+pub mod Answers
+pub mod Sets

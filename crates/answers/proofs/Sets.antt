@@ -1,0 +1,26 @@
+-- A text stored into lent bytes at a place, whole or in steps.
+use Prim.Native.Nat.{ℕ, suc, _+_, _-_, _≤_}
+use mathlib.Core.Path.{_≡_, sym, ap, _∙_}
+use mathlib.Core.List.{List, [], _∷_, _++_, append-assoc}
+use native.Mathlib.Omega.{arith}
+use native.Mathlib.Nat.{add-zero, zero-add}
+use borrow.Rule.Slice.PartMut.{putMid}
+use lib.ListN.{length, set, take, drop}
+use lib.Seq.{sets, sets-eq, drop-drop}
+
+-- one text after another
+pub sets-append : (t u out : List ℕ) (at : ℕ) → sets (sets out at t) (at + length t) u ≡ sets out at (t ++ u)
+sets-append [] u out at = rw (add-zero at)
+sets-append (b ∷ t) u out at =
+    let e : at + suc (length t) ≡ suc at + length t = omega arith in
+    rw e (sets-append t u (set out at b) (suc at))
+
+-- what a lent part of the bytes leaves
+pub sets-part : (at e : ℕ) (out text : List ℕ) → e ≡ at + length text → e ≤ length out → putMid at (e - at) out text ≡ sets out at text
+sets-part at e out text h g =
+    let k : e - at ≡ length text = omega arith in
+    rw (k, drop-drop (length text) at out) (sym (append-assoc (take at out) text (drop (at + length text) out)) ∙ sym (sets-eq text out at (omega arith)))
+
+-- at the first place
+pub sets-first : (text out : List ℕ) → length text ≤ length out → sets out 0 text ≡ text ++ drop (length text) out
+sets-first text out h = sets-eq text out 0 (omega arith) ∙ ap (λ n. text ++ drop n out) (zero-add (length text))
