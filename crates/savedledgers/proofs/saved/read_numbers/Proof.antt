@@ -8,7 +8,7 @@ use borrow.Author.Needs.{needs}
 use lib.ListN.{length, take, drop, length-set}
 use lib.Seq.{take-length}
 use Rattle.savedledgers.specs.Numbers.{numbersIn}
-use Rattle.savedledgers.proofs.Eights.{read-turn}
+use Rattle.savedledgers.proofs.Numbers.{read-turn}
 use Rattle.savedledgers.proofs.saved.read_numbers.Statement.{statement}
 use Rattle.savedledgers.proofs.saved.read_numbers.Tie as tie
 

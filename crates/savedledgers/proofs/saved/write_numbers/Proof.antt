@@ -7,7 +7,7 @@ use borrow.Author.Needs.{needs}
 use lib.ListN.{length, take, drop}
 use lib.Seq.{take-length, drop-length}
 use Rattle.savedledgers.specs.Numbers.{numberBytes}
-use Rattle.savedledgers.proofs.Eights.{write-turn}
+use Rattle.savedledgers.proofs.Numbers.{write-turn}
 use Rattle.savedledgers.proofs.saved.write_numbers.Statement.{statement}
 use Rattle.savedledgers.proofs.saved.write_numbers.Tie as tie
 

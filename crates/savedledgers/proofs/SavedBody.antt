@@ -4,48 +4,35 @@ use mathlib.Core.Path.{_≡_, refl, sym, ap, _∙_}
 use mathlib.Core.Bool.{Bool, true, false, cond, _&&_, and-assoc, and-eq-true-iff}
 use mathlib.Core.List.{List, [], _∷_, _++_}
 use native.Mathlib.Omega.{arith}
-use borrow.Author.Tests.{lt-ltb, le-leb, ltb-true, leb-true, ne-eqb}
+use borrow.Author.Tests.{leb-true, ne-eqb}
 use lib.Dec.{leb, ltb, eqb}
 use lib.ListN.{length, take, drop, length-append, length-drop, take-append-drop}
 use lib.Seq.{drop-drop, take-at, drop-at, length-take-le}
 use Rattle.octets.specs.Digits.{Below, fromLittle, toLittle}
 use Rattle.octets.proofs.Digits.{length-toLittle, below-take, below-drop, little-reads-back, little-writes-back}
-use Rattle.ledger.specs.Pairs.{Pairs, none, pair, size, Ruled, endsBy}
+use Rattle.ledger.specs.Pairs.{Pairs, none, pair, size, Ruled, endsBy, isRuled}
 use Rattle.ledger.specs.Ledger.{largest, follows, pairsOf}
 use Rattle.ledger.proofs.Opened.{lowest, lowest-follows}
 use Rattle.ledger.proofs.Flats.{flat}
 use Rattle.savedledgers.specs.Numbers.{numbersIn, numberBytes}
-use Rattle.savedledgers.specs.Saved.{pairsIn, bytesOf, inOrder}
+use Rattle.savedledgers.specs.Saved.{pairsIn, pairBytes}
 
 -- ---- order
 
 -- the k-th pair of a body is looked at
 pub order-turn : (body : List ℕ) (n k end a b : ℕ) → k < n
     → a ≡ fromLittle 256 (take 8 (drop (16 * k) body)) → b ≡ fromLittle 256 (take 8 (drop (16 * k + 8) body))
-    → inOrder (lowest end) (pairsIn (n - k) (drop (16 * k) body))
-    ≡ follows end a b && inOrder (suc b) (pairsIn (n - (k + 1)) (drop (16 * (k + 1)) body))
-unfolding inOrder pairsIn
+    → isRuled (lowest end) (pairsIn (n - k) (drop (16 * k) body))
+    ≡ follows end a b && isRuled (suc b) (pairsIn (n - (k + 1)) (drop (16 * (k + 1)) body))
+unfolding isRuled pairsIn
 order-turn body n k end a b h e g =
     let m : n - k ≡ suc (n - (k + 1)) = omega arith in
     let q : 16 * (k + 1) ≡ 16 * k + 16 = omega arith in
     rw (m, drop-drop 8 (16 * k) body, drop-drop 16 (16 * k) body, ← e, ← g, q, ← lowest-follows end a b) (sym (and-assoc (leb (lowest end) a) (ltb a b) _))
 
 -- a used pair ends above 0
-pub order-behind : (a b : ℕ) (ps : Pairs) → a < b → inOrder (suc b) ps ≡ inOrder (lowest b) ps
+pub order-behind : (a b : ℕ) (ps : Pairs) → a < b → isRuled (suc b) ps ≡ isRuled (lowest b) ps
 order-behind a b ps h = rw (ne-eqb b 0 (omega arith))
-
-pub order-ruled : (lo : ℕ) (ps : Pairs) → Ruled lo ps → inOrder lo ps ≡ true
-unfolding inOrder
-order-ruled lo none c = refl
-order-ruled lo (pair a b ps) c = rw (le-leb lo a (c .0), lt-ltb a b (c .1), order-ruled (suc b) ps (c .2))
-
-pub ruled-order : (lo : ℕ) (ps : Pairs) → inOrder lo ps ≡ true → Ruled lo ps
-unfolding inOrder
-ruled-order lo none h = tt
-ruled-order lo (pair a b ps) h =
-    let p = and-eq-true-iff (leb lo a) (ltb a b && inOrder (suc b) ps) .0 h in
-    let q = and-eq-true-iff (ltb a b) (inOrder (suc b) ps) .0 (p .1) in
-    (leb-true lo a (p .0), ltb-true a b (q .0), ruled-order (suc b) ps (q .1))
 
 -- ---- lengths
 
@@ -54,11 +41,11 @@ unfolding size pairsIn
 size-pairsIn zero body = refl
 size-pairsIn (suc n) body = ap suc (size-pairsIn n (drop 16 body))
 
-pub length-bytesOf : (ps : Pairs) → length (bytesOf ps) ≡ 16 * size ps
-unfolding bytesOf size
-length-bytesOf none = refl
-length-bytesOf (pair a b ps) =
-    simp length-append (omega (arith, length-toLittle 256 8 a, length-toLittle 256 8 b, length-bytesOf ps))
+pub length-pairBytes : (ps : Pairs) → length (pairBytes ps) ≡ 16 * size ps
+unfolding pairBytes size
+length-pairBytes none = refl
+length-pairBytes (pair a b ps) =
+    simp length-append (omega (arith, length-toLittle 256 8 a, length-toLittle 256 8 b, length-pairBytes ps))
 
 -- ---- pairs as runs of numbers
 
@@ -69,10 +56,10 @@ flat-pairsIn (suc n) body =
     let q : 2 * suc n ≡ suc (suc (2 * n)) = omega arith in
     rw (q, drop-drop 8 8 body, flat-pairsIn n (drop 16 body))
 
-pub bytesOf-flat : (ps : Pairs) → bytesOf ps ≡ numberBytes (flat ps)
-unfolding flat bytesOf numberBytes
-bytesOf-flat none = refl
-bytesOf-flat (pair a b ps) = rw (bytesOf-flat ps)
+pub pairBytes-flat : (ps : Pairs) → pairBytes ps ≡ numberBytes (flat ps)
+unfolding flat pairBytes numberBytes
+pairBytes-flat none = refl
+pairBytes-flat (pair a b ps) = rw (pairBytes-flat ps)
 
 -- the used pairs are the first entries of a ledger
 pub flat-used : (l : List ℕ) → flat (pairsOf l) ≡ take (2 * size (pairsOf l)) l
@@ -94,18 +81,18 @@ flat-used (a ∷ b ∷ rest) = go (eqb b 0) (flat-used rest)
 eight-back : (n : ℕ) (t : List ℕ) → n < 2 ^ 64 → fromLittle 256 (take 8 (toLittle 256 8 n ++ t)) ≡ n
 eight-back n t h = rw (take-at (toLittle 256 8 n) t 8 (length-toLittle 256 8 n)) (little-reads-back 256 8 n (omega arith) h)
 
-pub pairsIn-bytesOf : (lo : ℕ) (ps : Pairs) → Ruled lo ps → endsBy largest ps ≡ true → pairsIn (size ps) (bytesOf ps) ≡ ps
-unfolding pairsIn bytesOf size endsBy
-pairsIn-bytesOf lo none c h = refl
-pairsIn-bytesOf lo (pair a b ps) c h =
+pub pairsIn-pairBytes : (lo : ℕ) (ps : Pairs) → Ruled lo ps → endsBy largest ps ≡ true → pairsIn (size ps) (pairBytes ps) ≡ ps
+unfolding pairsIn pairBytes size endsBy
+pairsIn-pairBytes lo none c h = refl
+pairsIn-pairBytes lo (pair a b ps) c h =
     let q = and-eq-true-iff (leb b largest) (endsBy largest ps) .0 h in
     let l = leb-true b largest (q .0) in
     let n = length-toLittle 256 8 a in
-    let t = toLittle 256 8 b ++ bytesOf ps in
+    let t = toLittle 256 8 b ++ pairBytes ps in
     let s : drop 8 (toLittle 256 8 a ++ t) ≡ t = drop-at (toLittle 256 8 a) t 8 n in
-    let u : drop 16 (toLittle 256 8 a ++ t) ≡ bytesOf ps =
-    sym (drop-drop 8 8 (toLittle 256 8 a ++ t)) ∙ rw s (drop-at (toLittle 256 8 b) (bytesOf ps) 8 (length-toLittle 256 8 b)) in
-    cc (eight-back a t (omega (arith, c .1)), eight-back b (bytesOf ps) (omega arith), ap (pairsIn (size ps)) u, pairsIn-bytesOf (suc b) ps (c .2) (q .1))
+    let u : drop 16 (toLittle 256 8 a ++ t) ≡ pairBytes ps =
+    sym (drop-drop 8 8 (toLittle 256 8 a ++ t)) ∙ rw s (drop-at (toLittle 256 8 b) (pairBytes ps) 8 (length-toLittle 256 8 b)) in
+    cc (eight-back a t (omega (arith, c .1)), eight-back b (pairBytes ps) (omega arith), ap (pairsIn (size ps)) u, pairsIn-pairBytes (suc b) ps (c .2) (q .1))
 
 -- eight bytes, read and written
 eight-same : (bs : List ℕ) → Below 256 bs → 8 ≤ length bs → toLittle 256 8 (fromLittle 256 (take 8 bs)) ≡ take 8 bs
@@ -113,11 +100,11 @@ eight-same bs b h =
     let n : length (take 8 bs) ≡ 8 = length-take-le 8 bs h in
     rw n at (little-writes-back 256 (take 8 bs) (below-take 256 8 bs b))
 
-pub bytesOf-pairsIn : (n : ℕ) (body : List ℕ) → Below 256 body → length body ≡ 16 * n → bytesOf (pairsIn n body) ≡ body
-unfolding pairsIn bytesOf
-bytesOf-pairsIn zero [] b h = refl
-bytesOf-pairsIn zero (x ∷ body) b h = absurd (omega arith)
-bytesOf-pairsIn (suc n) body b h =
+pub pairBytes-pairsIn : (n : ℕ) (body : List ℕ) → Below 256 body → length body ≡ 16 * n → pairBytes (pairsIn n body) ≡ body
+unfolding pairsIn pairBytes
+pairBytes-pairsIn zero [] b h = refl
+pairBytes-pairsIn zero (x ∷ body) b h = absurd (omega arith)
+pairBytes-pairsIn (suc n) body b h =
     let l : length (drop 8 body) ≡ length body - 8 = length-drop 8 body in
-    let i = bytesOf-pairsIn n (drop 16 body) (below-drop 256 16 body b) (length-drop 16 body ∙ omega arith) in
+    let i = pairBytes-pairsIn n (drop 16 body) (below-drop 256 16 body b) (length-drop 16 body ∙ omega arith) in
     rw (eight-same body b (omega arith), eight-same (drop 8 body) (below-drop 256 8 body b) (omega arith), i, ← drop-drop 8 8 body, take-append-drop 8 (drop 8 body), take-append-drop 8 body)
