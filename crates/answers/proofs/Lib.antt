@@ -1,3 +1,3 @@
+pub mod WritesAt
 pub mod WrittenBy
 pub mod Answers
-pub mod Sets

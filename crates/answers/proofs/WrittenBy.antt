@@ -6,8 +6,10 @@ use native.Mathlib.Omega.{arith}
 use native.Mathlib.Decide.{decLt}
 use borrow.Author.Tests.{lt-ltb, le-ltb}
 use lib.ListN.{length, drop}
+use lib.Seq.{sets}
 use Rattle.answers.specs.Written.{writtenNumber, writtenBytes, firstNumber, roomNumber, writtenBy, writtenAfter, Refuses, Writes}
 use Rattle.answers.specs.declared.written.Written.the-variants.{Bytes, Refused}
+use Rattle.answers.proofs.WritesAt.{sets-first}
 
 -- ---- the number
 
@@ -55,6 +57,12 @@ module _ (j n : ℕ) (text out : List ℕ) where
   pub written : j ≡ 0 → (Bytes n ≡ writtenBy j n) × (text ++ drop (length text) out ≡ writtenAfter j text out)
   unfolding writtenBy writtenAfter
   written e = (rw e, rw e)
+
+  -- where the text was written at the first place
+  pub written-first : j ≡ 0 → length text ≤ length out → (Bytes n ≡ writtenBy j n) × (sets out 0 text ≡ writtenAfter j text out)
+  written-first e h =
+      let w = written e in
+      (w .0, sets-first text out h ∙ w .1)
 
   pub refuses : (k : ℕ) → j ≡ k → 0 < k → Refuses (writtenBy j n) (writtenAfter j text out) out k
   unfolding writtenNumber writtenBytes

@@ -4,9 +4,9 @@ use Rattle.octets.specs.Digits.{fromBig, fromLittle}
 use Rattle.octets.specs.Decimal.{digitRun, digitsOnly, numberOf}
 use Rattle.ledger.specs.Pairs.{size, join}
 use Rattle.ledger.specs.Ledger.{lengthWrong, lent}
-use Rattle.rangelists.specs.RangeText.{bound, rangeOf, inFront, parts, added, mergedFrom, rangesOf, loaded, laidOut, readRanges, rangesLeft}
+use Rattle.rangelists.specs.RangeText.{isPosition, rangeOf, prependToFirst, parts, mergeRange, mergedFrom, rangesOf, loaded, entriesAfter, readRanges, readRangesAfter}
 use Rattle.rangelists.specs.RangeCases.{RangeCases}
 
 pub range-cases : RangeCases
-unfolding fromBig fromLittle digitRun digitsOnly numberOf size join lengthWrong lent bound rangeOf inFront parts added mergedFrom rangesOf loaded laidOut readRanges rangesLeft
+unfolding fromBig fromLittle digitRun digitsOnly numberOf size join lengthWrong lent isPosition rangeOf prependToFirst parts mergeRange mergedFrom rangesOf loaded entriesAfter readRanges readRangesAfter
 range-cases = ((refl, refl), ((refl, refl), ((refl, refl), ((refl, refl), ((refl, refl), tt)))))

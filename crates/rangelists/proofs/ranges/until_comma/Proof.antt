@@ -4,7 +4,7 @@ use mathlib.Core.Path.{_≡_}
 use native.Mathlib.Omega.{arith}
 use lib.ListN.{length, drop, drop-of-length-le}
 use Rattle.rangelists.specs.RangeText.{commaRun}
-use Rattle.rangelists.proofs.Commas.{commaRun-stops, commaRun-goes}
+use Rattle.rangelists.proofs.PartsByComma.{commaRun-stops, commaRun-goes}
 use Rattle.rangelists.proofs.ranges.until_comma.Statement.{statement}
 use Rattle.rangelists.proofs.ranges.until_comma.Tie as tie
 

@@ -6,9 +6,9 @@ use mathlib.Core.List.{List, [], _∷_, _++_}
 use native.Mathlib.Omega.{arith}
 use borrow.Author.Tests.{ne-eqb, eqb-true, eqb-false}
 use lib.Dec.{eqb}
-use lib.ListN.{length, getD}
+use lib.ListN.{length}
 use Rattle.octets.specs.Cases.{AllHold}
-use Rattle.rangelists.specs.RangeText.{inFront, parts}
+use Rattle.rangelists.specs.RangeText.{prependToFirst, parts}
 use Rattle.rangelists.specs.Parts.{withCommas, NoComma, Parts}
 
 -- ---- texts without a comma
@@ -24,31 +24,31 @@ no-comma-append (b ∷ t) u h g = no-comma-cons b (t ++ u) (h 0 (omega arith)) (
 -- ---- from the text to its parts
 
 parts-some : (text : List ℕ) → 0 < length (parts text)
-unfolding parts inFront
+unfolding parts prependToFirst
 parts-some [] = omega arith
 parts-some (b ∷ bs) = go (eqb b 44) (parts bs)
   where
-    go : (t : Bool) (ts : List (List ℕ)) → 0 < length (cond t ([] ∷ ts) (inFront b ts))
+    go : (t : Bool) (ts : List (List ℕ)) → 0 < length (cond t ([] ∷ ts) (prependToFirst b ts))
     go true ts = omega arith
     go false [] = omega arith
     go false (t ∷ ts) = omega arith
 
 no-comma-parts : (text : List ℕ) → AllHold NoComma (parts text)
-unfolding parts inFront
+unfolding parts prependToFirst
 no-comma-parts [] = (λ i l. absurd (omega arith), tt)
 no-comma-parts (b ∷ bs) = go (eqb b 44) refl (parts bs) (no-comma-parts bs)
   where
-    go : (t : Bool) → eqb b 44 ≡ t → (ts : List (List ℕ)) → AllHold NoComma ts → AllHold NoComma (cond t ([] ∷ ts) (inFront b ts))
+    go : (t : Bool) → eqb b 44 ≡ t → (ts : List (List ℕ)) → AllHold NoComma ts → AllHold NoComma (cond t ([] ∷ ts) (prependToFirst b ts))
     go true e ts h = (λ i l. absurd (omega arith), h)
     go false e [] h = (no-comma-cons b [] (eqb-false b 44 e) (λ i l. absurd (omega arith)), tt)
     go false e (t ∷ ts) h = (no-comma-cons b t (eqb-false b 44 e) (h .0), h .1)
 
 parts-joined : (text : List ℕ) → withCommas (parts text) ≡ text
-unfolding parts inFront withCommas
+unfolding parts prependToFirst withCommas
 parts-joined [] = refl
 parts-joined (b ∷ bs) = go (eqb b 44) refl (parts bs) (parts-some bs) (parts-joined bs)
   where
-    go : (t : Bool) → eqb b 44 ≡ t → (ts : List (List ℕ)) → 0 < length ts → withCommas ts ≡ bs → withCommas (cond t ([] ∷ ts) (inFront b ts)) ≡ b ∷ bs
+    go : (t : Bool) → eqb b 44 ≡ t → (ts : List (List ℕ)) → 0 < length ts → withCommas ts ≡ bs → withCommas (cond t ([] ∷ ts) (prependToFirst b ts)) ≡ b ∷ bs
     go t e [] h g = absurd (omega arith)
     go true e (t ∷ ts) h g = rw (g, eqb-true b 44 e)
     go false e (t ∷ []) h g = rw g
@@ -57,12 +57,12 @@ parts-joined (b ∷ bs) = go (eqb b 44) refl (parts bs) (parts-some bs) (parts-j
 -- ---- from the parts to the text
 
 part-alone : (t : List ℕ) → NoComma t → parts t ≡ t ∷ []
-unfolding parts inFront
+unfolding parts prependToFirst
 part-alone [] h = refl
 part-alone (b ∷ t) h = rw (ne-eqb b 44 (h 0 (omega arith)), part-alone t (λ i l. h (suc i) (omega arith)))
 
 part-first : (t u : List ℕ) → NoComma t → parts (t ++ (44 ∷ u)) ≡ t ∷ parts u
-unfolding parts inFront
+unfolding parts prependToFirst
 part-first [] u h = refl
 part-first (b ∷ t) u h = rw (ne-eqb b 44 (h 0 (omega arith)), part-first t u (λ i l. h (suc i) (omega arith)))
 

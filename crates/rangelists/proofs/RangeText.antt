@@ -1,19 +1,19 @@
--- The text of ranges: how long it is, and one range after another.
+-- The text of ranges: how long it is, and one range written after another.
 use Prim.Native.Nat.{ℕ, _+_, _-_, _≤_, _<_}
-use mathlib.Core.Path.{_≡_, refl, ap, _∙_}
+use mathlib.Core.Path.{_≡_, refl, ap, _∙_, sym}
 use mathlib.Core.Bool.{Bool, true, false, cond}
 use mathlib.Core.List.{List, [], _∷_, _++_, append-nil}
 use native.Mathlib.Omega.{arith}
 use borrow.Author.Tests.{ne-eqb}
 use borrow.Rule.Slice.PartMut.{putMid, midOf, mid-len}
 use lib.Dec.{eqb}
-use lib.ListN.{length, set, take, drop, length-append}
-use lib.Seq.{append-snoc}
+use lib.ListN.{length, set, take, drop, length-append, length-drop}
+use lib.Seq.{append-snoc, length-take-le, take-all, take-add, take-append-seam, drop-append-seam, drop-drop, sets, length-sets}
 use Rattle.octets.specs.Decimal.{width, inDigits, decimal}
 use Rattle.octets.proofs.Decimals.{length-decimal}
 use Rattle.ledger.specs.Pairs.{Pairs, none, pair, size}
-use Rattle.rangelists.specs.RangeText.{comma, rangeText, rangesText, putAt}
-use Rattle.rangelists.proofs.Placing.{put-part, put-one, put-put, length-put, next-drop, next-le, next-put}
+use Rattle.rangelists.specs.RangeText.{comma, rangeText, rangesText}
+use Rattle.answers.proofs.WritesAt.{sets-append, sets-part}
 
 -- ---- one range
 
@@ -42,48 +42,67 @@ unfolding rangeText
 in-three a b = append-snoc (decimal a) 45 (decimal (b - 1))
 
 -- a range put into lent bytes in three stores: its start, the hyphen and its last place, each number filling a part of its own width
-module _ (out ys zs : List ℕ) (at n m a b : ℕ) (fits : at + length (rangeText a b) ≤ length out) (start : n ≡ width a) (end : m ≡ width (b - 1)) where
+module _ (out ys zs : List ℕ) (at n m a b : ℕ) (fits : at + length (rangeText a b) ≤ length out) (start : n ≡ width a) (last : m ≡ width (b - 1)) where
   abbrev hyphen : ℕ
   hyphen = at + n
 
-  abbrev behind : ℕ
-  behind = hyphen + 1 + m
+  abbrev end : ℕ
+  end = hyphen + 1 + m
 
   abbrev pub twoPut : List ℕ
   twoPut = set (putMid at (hyphen - at) out ys) hyphen 45
 
   module _ (y : ys ≡ inDigits (length (midOf at (hyphen - at) out)) a) where
-    start-put : putMid at (hyphen - at) out ys ≡ putAt at (decimal a) out
+    start-put : putMid at (hyphen - at) out ys ≡ sets out at (decimal a)
     unfolding decimal
     start-put =
         let w : length (midOf at (hyphen - at) out) ≡ width a = mid-len at hyphen out (omega (arith, length-rangeText a b)) ∙ omega arith in
-        rw (y, w) (put-part at hyphen out (decimal a) (omega (arith, length-decimal a)))
+        rw (y, w) (sets-part at hyphen out (decimal a) (omega (arith, length-decimal a)) (omega (arith, length-rangeText a b)))
 
-    two-put : twoPut ≡ putAt at (decimal a ++ (45 ∷ [])) out
+    two-put : twoPut ≡ sets out at (decimal a ++ (45 ∷ []))
     two-put =
-        let l = length-rangeText a b in
         let h : hyphen ≡ at + length (decimal a) = omega (arith, length-decimal a) in
-        let k = length-put at (decimal a) out (omega arith) in
-        rw start-put (put-one hyphen 45 (putAt at (decimal a) out) (omega arith) ∙ rw h (put-put at (decimal a) (45 ∷ []) out (omega arith)))
+        rw start-put (ap (λ (i : ℕ). set (sets out at (decimal a)) i 45) h ∙ sets-append (decimal a) (45 ∷ []) out at)
 
-    pub range-put : zs ≡ inDigits (length (midOf (hyphen + 1) (behind - (hyphen + 1)) twoPut)) (b - 1)
-        → putMid (hyphen + 1) (behind - (hyphen + 1)) twoPut zs ≡ putAt at (rangeText a b) out
+    pub range-put : zs ≡ inDigits (length (midOf (hyphen + 1) (end - (hyphen + 1)) twoPut)) (b - 1)
+        → putMid (hyphen + 1) (end - (hyphen + 1)) twoPut zs ≡ sets out at (rangeText a b)
     unfolding decimal
     range-put z =
         let l = length-rangeText a b in
         let d = decimal a ++ (45 ∷ []) in
         let n₁ : length d ≡ width a + 1 = simp (length-append, length-decimal) in
-        let k : length (putAt at d out) ≡ length out = length-put at d out (omega arith) in
-        let w : length (midOf (hyphen + 1) (behind - (hyphen + 1)) (putAt at d out)) ≡ width (b - 1) = mid-len (hyphen + 1) behind (putAt at d out) (omega arith) ∙ omega arith in
+        let k : length (sets out at d) ≡ length out = length-sets out at d in
+        let w : length (midOf (hyphen + 1) (end - (hyphen + 1)) (sets out at d)) ≡ width (b - 1) = mid-len (hyphen + 1) end (sets out at d) (omega arith) ∙ omega arith in
         let h : hyphen + 1 ≡ at + length d = omega arith in
         rw (z, two-put, w)
-        (put-part (hyphen + 1) behind (putAt at d out) (decimal (b - 1)) (omega (arith, length-decimal (b - 1)))
-        ∙ rw h (put-put at d (decimal (b - 1)) out (omega arith))
-        ∙ ap (λ (t : List ℕ). putAt at t out) (in-three a b))
+        (sets-part (hyphen + 1) end (sets out at d) (decimal (b - 1)) (omega (arith, length-decimal (b - 1))) (omega arith)
+        ∙ ap (λ (i : ℕ). sets (sets out at d) i (decimal (b - 1))) h
+        ∙ sets-append d (decimal (b - 1)) out at
+        ∙ ap (λ (t : List ℕ). sets out at t) (in-three a b))
 
 -- ---- one range after another
 
--- the ranges of pairs that n bytes stand before
+-- n bytes of a text are written, and what comes next of it is written after them
+module _ (text t rest : List ℕ) (n : ℕ) (h : n ≤ length text) (e : drop n text ≡ t ++ rest) where
+  pub next-drop : drop (n + length t) text ≡ rest
+  next-drop = sym (drop-drop (length t) n text) ∙ rw (e, drop-append-seam t rest)
+
+  pub next-le : n + length t ≤ length text
+  next-le = omega (arith, length-drop n text, ap length e, length-append t rest)
+
+  pub next-put : (out₀ : List ℕ) → sets (sets out₀ 0 (take n text)) n t ≡ sets out₀ 0 (take (n + length t) text)
+  next-put out₀ =
+      let k : 0 + length (take n text) ≡ n = omega (arith, length-take-le n text h) in
+      let a : take (n + length t) text ≡ take n text ++ t = take-add n (length t) text ∙ rw (e, take-append-seam t rest) in
+      ap (λ (i : ℕ). sets (sets out₀ 0 (take n text)) i t) (sym k) ∙ sets-append (take n text) t out₀ 0 ∙ ap (λ (x : List ℕ). sets out₀ 0 x) (sym a)
+
+-- all of it is written where nothing comes next
+pub next-all : (text out₀ : List ℕ) (n : ℕ) → drop n text ≡ [] → sets out₀ 0 (take n text) ≡ sets out₀ 0 text
+next-all text out₀ n e =
+    let h : length text ≤ n = omega (arith, length-drop n text, ap length e) in
+    rw (take-all n text h)
+
+-- the ranges of pairs that are after n bytes
 unfoldable pub listFrom : ℕ → Pairs → List ℕ
 listFrom n none = []
 listFrom n (pair a b ps) = comma n ++ (rangeText a b ++ listFrom 1 ps)
@@ -105,7 +124,7 @@ listFrom-all (pair a b (pair c d ps)) =
     let i : rangeText c d ++ listFrom 1 ps ≡ rangesText (pair c d ps) = rw comma-none at (listFrom-all (pair c d ps)) in
     rw (comma-none, comma-one 1 (omega arith)) (ap (λ (x : List ℕ). rangeText a b ++ (44 ∷ x)) i)
 
--- one range more, with m bytes behind it
+-- one range more, with m bytes up to its end
 module _ (n m a b : ℕ) (qs : Pairs) (h : m ≡ n + length (comma n) + length (rangeText a b)) where
   pub list-next : listFrom n (pair a b qs) ≡ comma n ++ (rangeText a b ++ listFrom m qs)
   unfolding listFrom
@@ -114,7 +133,7 @@ module _ (n m a b : ℕ) (qs : Pairs) (h : m ≡ n + length (comma n) + length (
   pub list-grows : m + length (listFrom m qs) ≡ n + length (listFrom n (pair a b qs))
   list-grows = rw list-next (simp length-append (omega arith))
 
--- n bytes of the text stand, and the range from a to b comes next
+-- n bytes of the text are written, and the range from a to b comes next
 module _ (text : List ℕ) (n a b : ℕ) (qs : Pairs) (h : n ≤ length text) (e : drop n text ≡ listFrom n (pair a b qs)) where
   with-comma : drop n text ≡ comma n ++ (rangeText a b ++ listFrom (n + length (comma n) + length (rangeText a b)) qs)
   with-comma = e ∙ list-next n _ a b qs refl
@@ -122,22 +141,22 @@ module _ (text : List ℕ) (n a b : ℕ) (qs : Pairs) (h : n ≤ length text) (e
   pub comma-fits : n + length (comma n) ≤ length text
   comma-fits = next-le text (comma n) _ n h with-comma
 
-  behind-comma : drop (n + length (comma n)) text ≡ rangeText a b ++ listFrom (n + length (comma n) + length (rangeText a b)) qs
-  behind-comma = next-drop text (comma n) _ n h with-comma
+  after-comma : drop (n + length (comma n)) text ≡ rangeText a b ++ listFrom (n + length (comma n) + length (rangeText a b)) qs
+  after-comma = next-drop text (comma n) _ n h with-comma
 
   pub range-fits : n + length (comma n) + length (rangeText a b) ≤ length text
-  range-fits = next-le text (rangeText a b) _ (n + length (comma n)) comma-fits behind-comma
+  range-fits = next-le text (rangeText a b) _ (n + length (comma n)) comma-fits after-comma
 
-  -- both put, with m bytes behind them
+  -- both put, with m bytes up to their end
   module _ (m : ℕ) (q : m ≡ n + length (comma n) + length (rangeText a b)) where
     pub list-left : drop m text ≡ listFrom m qs
-    list-left = rw q (next-drop text (rangeText a b) _ (n + length (comma n)) comma-fits behind-comma)
+    list-left = rw q (next-drop text (rangeText a b) _ (n + length (comma n)) comma-fits after-comma)
 
-    pub list-put : (out₀ out out₁ out₂ : List ℕ) → length text ≤ length out₀ → out ≡ putAt 0 (take n text) out₀ → out₁ ≡ putAt n (comma n) out
-        → out₂ ≡ putAt (n + length (comma n)) (rangeText a b) out₁ → out₂ ≡ putAt 0 (take m text) out₀
-    list-put out₀ out out₁ out₂ g o o₁ o₂ =
-        rw (o₂, q, o₁, o, next-put text (comma n) _ n h with-comma out₀ g)
-        (next-put text (rangeText a b) _ (n + length (comma n)) comma-fits behind-comma out₀ g)
+    pub list-put : (out₀ out out₁ out₂ : List ℕ) → out ≡ sets out₀ 0 (take n text) → out₁ ≡ sets out n (comma n)
+        → out₂ ≡ sets out₁ (n + length (comma n)) (rangeText a b) → out₂ ≡ sets out₀ 0 (take m text)
+    list-put out₀ out out₁ out₂ o o₁ o₂ =
+        rw (o₂, q, o₁, o, next-put text (comma n) _ n h with-comma out₀)
+        (next-put text (rangeText a b) _ (n + length (comma n)) comma-fits after-comma out₀)
 
 -- the text is empty where there are no pairs
 pub text-empty : (ps : Pairs) → length (rangesText ps) ≡ 0 → size ps ≡ 0

@@ -1,28 +1,45 @@
--- `RangeReading` holds.
-use Prim.Native.Nat.{ℕ, _≤_, _<_}
+-- What the reader of range lists answers and leaves, case by case: `RangeReading` holds.
+use Prim.Native.Nat.{ℕ, _<_, _≤_}
 use mathlib.Core.Path.{_≡_, refl, sym, ap, _∙_}
 use mathlib.Core.Bool.{Bool, true, false, cond}
-use mathlib.Core.List.{List, [], _∷_, _++_, append-nil}
+use mathlib.Core.List.{List, _++_, [], _∷_, append-nil}
 use native.Mathlib.Omega.{arith}
 use borrow.Author.Tests.{lt-ltb, le-ltb, ltb-true, ltb-false}
 use lib.Dec.{ltb}
+use lib.ListN.{length, replicate}
+use Rattle.ledger.specs.Pairs.{Pairs, size, none, join}
+use Rattle.ledger.specs.Ledger.{lengthWrong, lent, roomOf}
+use Rattle.rangelists.specs.RangeText.{merged, trouble, loaded, entriesAfter, readRanges, readRangesAfter, rangesOf, parts, rangeOf, Merged, mergeRange, mergedFrom}
+use Rattle.answers.specs.declared.loaded.Loaded.the-variants.{Done, Refused}
 use lib.Seq.{append-snoc}
-use Rattle.ledger.specs.Pairs.{Pairs, none, size, join}
-use Rattle.ledger.specs.Ledger.{lengthWrong, roomOf}
-use Rattle.ledger.specs.Answer.{loadedNumber}
+use Rattle.answers.specs.Loaded.{loadedNumber}
 use Rattle.ledger.proofs.Sizes.{length-right, length-wrong}
-use Rattle.rangelists.specs.RangeText.{parts, rangeOf, Merged, merged, trouble, added, mergedFrom, rangesOf, loaded, readRanges, rangesLeft}
 use Rattle.rangelists.specs.RangeReading.{Merges, no-range, one-more, Trouble, by-51, by-52, Reads, Refuses, RangeReading}
-use Rattle.ledger.specs.declared.answer.Loaded.the-variants.{Refused}
 use Rattle.rangelists.specs.declared.ranges.Range.{Range}
 use Rattle.rangelists.specs.declared.ranges.Range.the-variants.{Places, Malformed}
-use Rattle.rangelists.proofs.Answered.{reads-53, reads-trouble, reads-merged}
+
+-- ---- the answer, case by case
+
+module _ (text ledger : List ℕ) where
+  pub reads-53 : lengthWrong ledger ≡ true → (Refused 53 ≡ readRanges text ledger) × (ledger ≡ readRangesAfter text ledger)
+  unfolding readRanges readRangesAfter
+  reads-53 w = (rw w, rw w)
+
+  module _ (w : lengthWrong ledger ≡ false) where
+    pub reads-trouble : (k : ℕ) → rangesOf (roomOf ledger) text ≡ trouble k
+        → (Refused k ≡ readRanges text ledger) × (replicate (length ledger) 0 ≡ readRangesAfter text ledger)
+    unfolding readRanges readRangesAfter loaded entriesAfter
+    reads-trouble k e = (rw (w, e), rw (w, e))
+
+    pub reads-merged : (ps : Pairs) → rangesOf (roomOf ledger) text ≡ merged ps → (Done ≡ readRanges text ledger) × (lent (roomOf ledger) ps ≡ readRangesAfter text ledger)
+    unfolding readRanges readRangesAfter loaded entriesAfter
+    reads-merged ps e = (rw (w, e), rw (w, e))
 
 -- ---- from the rows to the definition
 
 -- texts that merge, and then the others
 merges-on : (r : ℕ) (ps qs : Pairs) (ts rest : List (List ℕ)) → Merges r ps ts qs → mergedFrom r ps (ts ++ rest) ≡ mergedFrom r qs rest
-unfolding mergedFrom added
+unfolding mergedFrom mergeRange
 merges-on r ps qs [] rest (no-range _) = refl
 merges-on r ps qs (t ∷ ts) rest (one-more _ _ _ _ s e x h m) = rw (x, le-ltb r (size (join s e ps)) h) (merges-on r (join s e ps) qs ts rest m)
 
@@ -31,7 +48,7 @@ unfolding mergedFrom
 merges-all r ps ts m = ap (mergedFrom r none) (sym (append-nil ts)) ∙ merges-on r none ps ts [] m
 
 trouble-stops : (r k : ℕ) (ts : List (List ℕ)) → Trouble r ts k → mergedFrom r none ts ≡ trouble k
-unfolding mergedFrom added
+unfolding mergedFrom mergeRange
 trouble-stops r k ts (by-51 before after t ps e m x) = ap (mergedFrom r none) e ∙ merges-on r none ps before (t ∷ after) m ∙ rw x
 trouble-stops r k ts (by-52 before after t ps s e q m x h) =
     ap (mergedFrom r none) q ∙ merges-on r none ps before (t ∷ after) m ∙ rw (x, lt-ltb r (size (join s e ps)) h)
@@ -51,12 +68,12 @@ data Row (r : ℕ) (ts : List (List ℕ)) : Merged → Type 0 where
   stops : (k : ℕ) → Trouble r ts k → Row r ts (trouble k)
 
 row-from : (r : ℕ) (before ts : List (List ℕ)) (ps : Pairs) → Merges r none before ps → Row r (before ++ ts) (mergedFrom r ps ts)
-unfolding mergedFrom added
+unfolding mergedFrom mergeRange
 row-from r before [] ps m = rw (append-nil before) (merges ps m)
 row-from r before (t ∷ ts) ps m = go (rangeOf t) refl (λ qs n. row-from r (before ++ (t ∷ [])) ts qs n)
   where
     go : (x : Range) → rangeOf t ≡ x → ((qs : Pairs) → Merges r none (before ++ (t ∷ [])) qs → Row r (before ++ (t ∷ []) ++ ts) (mergedFrom r qs ts))
-        → Row r (before ++ (t ∷ ts)) (added r ps x (λ qs. mergedFrom r qs ts))
+        → Row r (before ++ (t ∷ ts)) (mergeRange r ps x (λ qs. mergedFrom r qs ts))
     go Malformed x i = stops 51 (by-51 before ts t ps refl m x)
     go (Places s e) x i = test (ltb r (size (join s e ps))) refl
       where
@@ -94,15 +111,15 @@ module _ (text ledger : List ℕ) (w : lengthWrong ledger ≡ false) where
       go (trouble k) (stops _ (by-52 before after t ps s e q m x l)) h = absurd (omega arith)
 
 module _ (text ledger : List ℕ) where
-  refuses : (k : ℕ) (after : List ℕ) → (Refused k ≡ readRanges text ledger) × (after ≡ rangesLeft text ledger) → Refuses text ledger k after
+  refuses : (k : ℕ) (after : List ℕ) → (Refused k ≡ readRanges text ledger) × (after ≡ readRangesAfter text ledger) → Refuses text ledger k after
   unfolding loadedNumber
-  refuses k after r = record { number = sym (ap loadedNumber (r .0)); left = sym (r .1) }
+  refuses k after r = record { number = sym (ap loadedNumber (r .0)); after-is = sym (r .1) }
 
   pub reads : lengthWrong ledger ≡ false → (ps : Pairs) → rangesOf (roomOf ledger) text ≡ merged ps → Reads text ledger ps
   unfolding loadedNumber
   reads w ps m =
       let r = reads-merged text ledger w ps m in
-      record { accepted = sym (r .0); number = sym (ap loadedNumber (r .0)); left = sym (r .1) }
+      record { accepted = sym (r .0); number = sym (ap loadedNumber (r .0)); after = sym (r .1) }
 
   pub range-reading : RangeReading text ledger
   unfolding rangesOf

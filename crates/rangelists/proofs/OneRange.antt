@@ -11,10 +11,10 @@ use lib.Seq.{take-append-seam, getD-append-seam, drop-append-add, split-at}
 use Rattle.octets.specs.Decimal.{isDigit, digitRun, digitsOnly, numberOf}
 use Rattle.octets.proofs.Readings.{digits-at}
 use Rattle.rangelists.specs.RangeText.{rangeOf}
-use Rattle.rangelists.specs.OneRange.{Bound, IsRange, OneRange}
+use Rattle.rangelists.specs.OneRange.{Position, IsRange, OneRange}
 use Rattle.rangelists.specs.declared.ranges.Range.{Range}
 use Rattle.rangelists.specs.declared.ranges.Range.the-variants.{Places, Malformed}
-use Rattle.rangelists.proofs.Bounds.{bound-is, is-bound, range-places, range-sound}
+use Rattle.rangelists.proofs.RangeParsing.{position-is, is-position, range-places, range-sound}
 
 -- the digits before a hyphen are those that the text begins with
 digitRun-over : (ds es : List ℕ) → digitsOnly ds ≡ true → digitRun (ds ++ (45 ∷ es)) ≡ length ds
@@ -39,8 +39,8 @@ module _ (text : List ℕ) (first last : ℕ) (r : IsRange text first last) wher
 
   pub range-reads : rangeOf text ≡ Places first (suc last)
   range-reads =
-      let p = range-places text (rw before-is (is-bound (r .before) first (r .start))) hyphen-is (rw after-is (is-bound (r .after) last (r .end))) in
-      p (rw (before-is, after-is, r .start .says, r .end .says) (r .rising)) ∙ rw (before-is, after-is, r .start .says, r .end .says)
+      let p = range-places text (rw before-is (is-position (r .before) first (r .start))) hyphen-is (rw after-is (is-position (r .after) last (r .end))) in
+      p (rw (before-is, after-is, r .start .value-is, r .end .value-is) (r .rising)) ∙ rw (before-is, after-is, r .start .value-is, r .end .value-is)
 
 range-only : (text : List ℕ) (s e : ℕ) → rangeOf text ≡ Places s e → (last : ℕ) × (e ≡ suc last) × IsRange text s last
 range-only text s e h =
@@ -49,10 +49,10 @@ range-only text s e h =
     let a = take k text in
     let b = drop (suc k) text in
     let split : text ≡ a ++ (45 ∷ b) = go (decLt k (length text)) in
-    let start : Bound a s = rw (r .start-is) at (bound-is a (r .start)) in (
+    let start : Position a s = rw (r .start-is) at (position-is a (r .start)) in (
       numberOf b,
       r .end-is,
-      record { before = a; after = b; hyphen = split; start = start; end = bound-is b (r .end); rising = omega (arith, r .rising, r .start-is) },
+      record { before = a; after = b; hyphen = split; start = start; end = position-is b (r .end); rising = omega (arith, r .rising, r .start-is) },
     )
   where
     go : Dec (digitRun text < length text) → text ≡ take (digitRun text) text ++ (45 ∷ drop (suc (digitRun text)) text)

@@ -1,4 +1,4 @@
--- `ranges::one_range`.
+-- `ranges::read_range`.
 use Prim.Native.Nat.{ℕ, suc, _+_, _≤_, _-_}
 use mathlib.Core.Path.{_≡_, sym, ap, _∙_}
 use mathlib.Core.Bool.{true}
@@ -7,41 +7,41 @@ use borrow.Author.Needs.{needs}
 use lib.ListN.{length, getD, take, drop, length-drop, length-take}
 use lib.Seq.{take-all}
 use Rattle.octets.specs.Decimal.{digitRun, numberOf}
-use Rattle.rangelists.specs.RangeText.{bound, boundOf}
-use Rattle.rangelists.proofs.Bounds.{bound-nothing, bound-value, bound-is, range-no-hyphen, range-short, range-no-start, range-no-end, range-falling, range-places}
-use Rattle.rangelists.proofs.ranges.one_range.Statement.{statement}
-use Rattle.rangelists.proofs.ranges.one_range.Tie as tie
+use Rattle.rangelists.specs.RangeText.{isPosition, positionOf}
+use Rattle.rangelists.proofs.RangeParsing.{position-nothing, position-value, position-is, range-no-hyphen, range-short, range-no-start, range-no-end, range-falling, range-places}
+use Rattle.rangelists.proofs.ranges.read_range.Statement.{statement}
+use Rattle.rangelists.proofs.ranges.read_range.Tie as tie
 
 hyphen : (c : tie.Else2) → let s = c .before .before .before .before .before .args .text .now in getD s (digitRun s) 0 ≡ 45
 hyphen c = rw (c .before .before .before .run .ensures) at (c .if2 .left)
 
 -- the number before the hyphen, and the one behind it
-start-is : (c : tie.After-one-number) → let s = c .before .before .before .before .before .before .before .args .text .now in
-    c .one-number .result ≡ boundOf (take (digitRun s) s)
-start-is c = rw (c .before .before .before .before .before .run .ensures) at (c .one-number .ensures)
+start-is : (c : tie.After-read-position) → let s = c .before .before .before .before .before .before .before .args .text .now in
+    c .read-position .result ≡ positionOf (take (digitRun s) s)
+start-is c = rw (c .before .before .before .before .before .run .ensures) at (c .read-position .ensures)
 
 start-value : (c : tie.After-a) → let s = c .before .before .before .before .before .before .before .before .before .args .text .now in
-    (bound (take (digitRun s) s) ≡ true) × (numberOf (take (digitRun s) s) ≡ c .a .given .0 .0)
+    (isPosition (take (digitRun s) s) ≡ true) × (numberOf (take (digitRun s) s) ≡ c .a .given .0 .0)
 start-value c =
     let s = c .before .before .before .before .before .before .before .before .before .args .text .now in
-    bound-value (take (digitRun s) s) (c .a .given .0 .0) (sym (start-is (c .before .before)) ∙ c .a .given .1)
+    position-value (take (digitRun s) s) (c .a .given .0 .0) (sym (start-is (c .before .before)) ∙ c .a .given .1)
 
-end-is : (c : tie.After-one-number2) → let r = c .before .before .before .before .before .before .before .before .before .before in
+end-is : (c : tie.After-read-position2) → let r = c .before .before .before .before .before .before .before .before .before .before in
     let s = r .before .before .args .text .now in
-    c .one-number2 .result ≡ boundOf (drop (suc (digitRun s)) s)
+    c .read-position2 .result ≡ positionOf (drop (suc (digitRun s)) s)
 end-is c =
     let r = c .before .before .before .before .before .before .before .before .before .before in
     let s = r .before .before .args .text .now in
     let k = r .run .result in
     let h : length (drop (k + 1) s) ≤ length s - (k + 1) = simp length-drop (omega arith) in
     let e : k + 1 ≡ suc (digitRun s) = omega (arith, r .run .ensures) in
-    c .one-number2 .ensures ∙ ap boundOf (take-all (length s - (k + 1)) (drop (k + 1) s) h ∙ ap (λ (n : ℕ). drop n s) e)
+    c .read-position2 .ensures ∙ ap positionOf (take-all (length s - (k + 1)) (drop (k + 1) s) h ∙ ap (λ (n : ℕ). drop n s) e)
 
 end-value : (c : tie.After-b) → let s = c .before .before .before .before .before .before .before .before .before .before .before .before .before .before .args .text .now in
-    (bound (drop (suc (digitRun s)) s) ≡ true) × (numberOf (drop (suc (digitRun s)) s) ≡ c .b .given .0 .0)
+    (isPosition (drop (suc (digitRun s)) s) ≡ true) × (numberOf (drop (suc (digitRun s)) s) ≡ c .b .given .0 .0)
 end-value c =
     let s = c .before .before .before .before .before .before .before .before .before .before .before .before .before .before .args .text .now in
-    bound-value (drop (suc (digitRun s)) s) (c .b .given .0 .0) (sym (end-is (c .before .before)) ∙ c .b .given .1)
+    position-value (drop (suc (digitRun s)) s) (c .b .given .0 .0) (sym (end-is (c .before .before)) ∙ c .b .given .1)
 
 run-requires : tie.Need-run-requires
 run-requires c κs = search needs
@@ -58,11 +58,11 @@ returns-2 c =
     let s = r .before .before .args .text .now in
     sym (range-no-hyphen s (rw (r .run .ensures) at (c .if2 .taken)))
 
-slice-aggregate-one-number : tie.Need-slice-aggregate-one-number
-slice-aggregate-one-number c = simp length-take (omega arith)
+slice-aggregate-read-position : tie.Need-slice-aggregate-read-position
+slice-aggregate-read-position c = simp length-take (omega arith)
 
-one-number-requires : tie.Need-one-number-requires
-one-number-requires c κs = search needs
+read-position-requires : tie.Need-read-position-requires
+read-position-requires c κs = search needs
 
 enum-known-a : tie.Need-enum-known-a
 enum-known-a c = search needs
@@ -74,22 +74,22 @@ returns-3 : tie.Need-returns-3
 returns-3 c =
     let n = c .before .before in
     let s = n .before .before .before .before .before .before .before .args .text .now in
-    sym (range-no-start s (bound-nothing (take (digitRun s) s) (sym (start-is n) ∙ c .enum-told .given .1)))
+    sym (range-no-start s (position-nothing (take (digitRun s) s) (sym (start-is n) ∙ c .enum-told .given .1)))
 
-add-one-number : tie.Need-add-one-number
-add-one-number c = search needs
+add-read-position : tie.Need-add-read-position
+add-read-position c = search needs
 
-sub-one-number : tie.Need-sub-one-number
-sub-one-number c = search needs
+sub-read-position : tie.Need-sub-read-position
+sub-read-position c = search needs
 
-part-one-number-start : tie.Need-part-one-number-start
-part-one-number-start c = search needs
+part-read-position-start : tie.Need-part-read-position-start
+part-read-position-start c = search needs
 
-part-one-number-end : tie.Need-part-one-number-end
-part-one-number-end c = search needs
+part-read-position-end : tie.Need-part-read-position-end
+part-read-position-end c = search needs
 
-one-number-requires-2 : tie.Need-one-number-requires-2
-one-number-requires-2 c κs = search needs
+read-position-requires-2 : tie.Need-read-position-requires-2
+read-position-requires-2 c κs = search needs
 
 enum-known-b : tie.Need-enum-known-b
 enum-known-b c = search needs
@@ -102,7 +102,7 @@ returns-4 c =
     let n = c .before .before in
     let a = n .before .before .before in
     let s = a .before .before .before .before .before .before .before .before .before .args .text .now in
-    sym (range-no-end s (start-value a .0) (hyphen (a .before .before .before .before)) (bound-nothing (drop (suc (digitRun s)) s) (sym (end-is n) ∙ c .enum-told2 .given .1)))
+    sym (range-no-end s (start-value a .0) (hyphen (a .before .before .before .before)) (position-nothing (drop (suc (digitRun s)) s) (sym (end-is n) ∙ c .enum-told2 .given .1)))
 
 returns-5 : tie.Need-returns-5
 returns-5 c =
@@ -115,7 +115,7 @@ add-t17 : tie.Need-add-t17
 add-t17 c =
     let b = c .before .before in
     let s = b .before .before .before .before .before .before .before .before .before .before .before .before .before .before .args .text .now in
-    omega (arith, end-value b .1, bound-is (drop (suc (digitRun s)) s) (end-value b .0) .most)
+    omega (arith, end-value b .1, position-is (drop (suc (digitRun s)) s) (end-value b .0) .most)
 
 returns-6 : tie.Need-returns-6
 returns-6 c =
@@ -126,24 +126,24 @@ returns-6 c =
     rw (e, ← start-value a .1)
     (sym (range-places s (start-value a .0) (hyphen (a .before .before .before .before)) (end-value b .0) (omega (arith, start-value a .1, end-value b .1))))
 
-pub one-range-spec : {M : Type 1} → statement M
-one-range-spec =
+pub read-range-spec : {M : Type 1} → statement M
+read-range-spec =
     tie.close
     (tie.spec
     run-requires
     returns
     shared-slice-read-if2
     returns-2
-    slice-aggregate-one-number
-    one-number-requires
+    slice-aggregate-read-position
+    read-position-requires
     enum-known-a
     enum-told
     returns-3
-    add-one-number
-    sub-one-number
-    part-one-number-start
-    part-one-number-end
-    one-number-requires-2
+    add-read-position
+    sub-read-position
+    part-read-position-start
+    part-read-position-end
+    read-position-requires-2
     enum-known-b
     enum-told-2
     returns-4

@@ -1,11 +1,11 @@
--- `ranges::behind_comma`.
+-- `ranges::after_comma`.
 use native.Mathlib.Omega.{arith}
 use borrow.Author.Needs.{needs}
 use lib.ListN.{length}
 use mathlib.Core.Path.{ap}
-use Rattle.rangelists.proofs.RangeTexts.{comma-none, comma-one}
-use Rattle.rangelists.proofs.ranges.behind_comma.Statement.{statement}
-use Rattle.rangelists.proofs.ranges.behind_comma.Tie as tie
+use Rattle.rangelists.proofs.RangeText.{comma-none, comma-one}
+use Rattle.rangelists.proofs.ranges.after_comma.Statement.{statement}
+use Rattle.rangelists.proofs.ranges.after_comma.Tie as tie
 
 returns : tie.Need-returns
 returns c =
@@ -19,5 +19,5 @@ returns-2 c =
     let n = c .before .args .n in
     omega (arith, ap length (comma-one n (omega arith)))
 
-pub behind-comma-spec : {M : Type 1} → statement M
-behind-comma-spec = tie.close (tie.spec returns add-result returns-2)
+pub after-comma-spec : {M : Type 1} → statement M
+after-comma-spec = tie.close (tie.spec returns add-result returns-2)

@@ -15,52 +15,52 @@ use Rattle.claims.specs.Claim.{Joins}
 use Rattle.ledger.proofs.Joined.{join-ruled}
 use Rattle.ledger.proofs.Lents.{pairsOf-lent, rule-lent, rule-ruled, lent-pairsOf}
 use Rattle.ledger.proofs.Odd.{obeys-even}
-use Rattle.rangelists.specs.RangeText.{commaRun, parts, rangesOf, rangeOf, Merged, merged, trouble, added, mergedFrom, Says}
+use Rattle.rangelists.specs.RangeText.{commaRun, parts, rangesOf, rangeOf, Merged, merged, trouble, mergeRange, mergedFrom, Represents}
 use Rattle.rangelists.specs.declared.ranges.Range.{Range}
 use Rattle.rangelists.specs.declared.ranges.Range.the-variants.{Places, Malformed}
-use Rattle.rangelists.proofs.Commas.{parts-first, parts-last, parts-next}
-use Rattle.rangelists.proofs.Bounds.{range-some}
+use Rattle.rangelists.proofs.PartsByComma.{parts-first, parts-last, parts-next}
+use Rattle.rangelists.proofs.RangeParsing.{range-some}
 
 -- ---- one range more, and then the others
 
-added-on : (r : ℕ) (ps qs : Pairs) (x : Range) (on : Pairs → Merged) → added r ps x merged ≡ merged qs → added r ps x on ≡ on qs
-unfolding added
-added-on r ps qs Malformed on h = let z : _≡_ {A = ℕ} 0 1 = cc in absurd (omega arith)
-added-on r ps qs (Places s e) on h = go _ (ltb r (size (join s e ps))) h
+mergeRange-on : (r : ℕ) (ps qs : Pairs) (x : Range) (on : Pairs → Merged) → mergeRange r ps x merged ≡ merged qs → mergeRange r ps x on ≡ on qs
+unfolding mergeRange
+mergeRange-on r ps qs Malformed on h = let z : _≡_ {A = ℕ} 0 1 = cc in absurd (omega arith)
+mergeRange-on r ps qs (Places s e) on h = go _ (ltb r (size (join s e ps))) h
   where
     go : (n : ℕ) (t : Bool) → cond t (trouble n) (merged (join s e ps)) ≡ merged qs → cond t (trouble n) (on (join s e ps)) ≡ on qs
     go n true k = let z : _≡_ {A = ℕ} 0 1 = cc in absurd (omega arith)
     go n false k = let q : join s e ps ≡ qs = cc in ap on q
 
-added-stop : (r k : ℕ) (ps : Pairs) (x : Range) (on : Pairs → Merged) → added r ps x merged ≡ trouble k → added r ps x on ≡ trouble k
-unfolding added
-added-stop r k ps Malformed on h = h
-added-stop r k ps (Places s e) on h = go _ (ltb r (size (join s e ps))) h
+mergeRange-stop : (r k : ℕ) (ps : Pairs) (x : Range) (on : Pairs → Merged) → mergeRange r ps x merged ≡ trouble k → mergeRange r ps x on ≡ trouble k
+unfolding mergeRange
+mergeRange-stop r k ps Malformed on h = h
+mergeRange-stop r k ps (Places s e) on h = go _ (ltb r (size (join s e ps))) h
   where
     go : (n : ℕ) (t : Bool) → cond t (trouble n) (merged (join s e ps)) ≡ trouble k → cond t (trouble n) (on (join s e ps)) ≡ trouble k
     go n true q = q
     go n false q = let z : _≡_ {A = ℕ} 0 1 = cc in absurd (omega arith)
 
-merged-on : (r : ℕ) (ps qs : Pairs) (t : List ℕ) (ts : List (List ℕ)) → added r ps (rangeOf t) merged ≡ merged qs → mergedFrom r ps (t ∷ ts) ≡ mergedFrom r qs ts
+merged-on : (r : ℕ) (ps qs : Pairs) (t : List ℕ) (ts : List (List ℕ)) → mergeRange r ps (rangeOf t) merged ≡ merged qs → mergedFrom r ps (t ∷ ts) ≡ mergedFrom r qs ts
 unfolding mergedFrom
-merged-on r ps qs t ts h = added-on r ps qs (rangeOf t) (λ qs. mergedFrom r qs ts) h
+merged-on r ps qs t ts h = mergeRange-on r ps qs (rangeOf t) (λ qs. mergedFrom r qs ts) h
 
-merged-stop : (r k : ℕ) (ps : Pairs) (t : List ℕ) (ts : List (List ℕ)) → added r ps (rangeOf t) merged ≡ trouble k → mergedFrom r ps (t ∷ ts) ≡ trouble k
+merged-stop : (r k : ℕ) (ps : Pairs) (t : List ℕ) (ts : List (List ℕ)) → mergeRange r ps (rangeOf t) merged ≡ trouble k → mergedFrom r ps (t ∷ ts) ≡ trouble k
 unfolding mergedFrom
-merged-stop r k ps t ts h = added-stop r k ps (rangeOf t) (λ qs. mergedFrom r qs ts) h
+merged-stop r k ps t ts h = mergeRange-stop r k ps (rangeOf t) (λ qs. mergedFrom r qs ts) h
 
 -- ---- one range, as the code joins it
 
-pub says-stopped : (m : Merged) (k : ℕ) (l : List ℕ) → 0 < k → m ≡ trouble k → Says m k l
-says-stopped m k l h e = record { done = λ z. absurd (omega arith); stopped = λ z. e }
+pub represents-stopped : (m : Merged) (k : ℕ) (l : List ℕ) → 0 < k → m ≡ trouble k → Represents m k l
+represents-stopped m k l h e = record { done = λ z. absurd (omega arith); stopped = λ z. e }
 
-pub says-done : (m : Merged) (l : List ℕ) → obeys l ≡ true → m ≡ merged (pairsOf l) → Says m 0 l
-says-done m l o e = record { done = λ z. (o, e); stopped = λ z. absurd (omega arith) }
+pub represents-done : (m : Merged) (l : List ℕ) → obeys l ≡ true → m ≡ merged (pairsOf l) → Represents m 0 l
+represents-done m l o e = record { done = λ z. (o, e); stopped = λ z. absurd (omega arith) }
 
 module _ (r : ℕ) (ps : Pairs) (t l : List ℕ) where
-  pub says-51 : rangeOf t ≡ Malformed → Says (added r ps (rangeOf t) merged) 51 l
-  unfolding added
-  says-51 e = says-stopped _ 51 l (omega arith) (rw e)
+  pub represents-51 : rangeOf t ≡ Malformed → Represents (mergeRange r ps (rangeOf t) merged) 51 l
+  unfolding mergeRange
+  represents-51 e = represents-stopped _ 51 l (omega arith) (rw e)
 
 module _ (t l : List ℕ) (s e : ℕ) (h : rangeOf t ≡ Places s e) (o : obeys l ≡ true) (done : Bool) (m : List ℕ) (j : Joins s e l done m) where
   -- there is no pair for it exactly where it was not joined
@@ -72,24 +72,24 @@ module _ (t l : List ℕ) (s e : ℕ) (h : rangeOf t ≡ Places s e) (o : obeys 
       go (yes x) = lt-ltb (roomOf l) (size (join s e (pairsOf l))) x
       go (no x) = absurd (false≢true (sym f ∙ j .done-where o (range-some t s e h) .1 (omega arith)))
 
-  pub says-52 : done ≡ false → Says (added (roomOf l) (pairsOf l) (rangeOf t) merged) 52 m
-  unfolding added
-  says-52 f = says-stopped _ 52 m (omega arith) (rw (h, lacks false f))
+  pub represents-52 : done ≡ false → Represents (mergeRange (roomOf l) (pairsOf l) (rangeOf t) merged) 52 m
+  unfolding mergeRange
+  represents-52 f = represents-stopped _ 52 m (omega arith) (rw (h, lacks false f))
 
-  pub says-joined : done ≡ true → Says (added (roomOf l) (pairsOf l) (rangeOf t) merged) 0 m
-  unfolding added obeys
-  says-joined f =
+  pub represents-joined : done ≡ true → Represents (mergeRange (roomOf l) (pairsOf l) (rangeOf t) merged) 0 m
+  unfolding mergeRange obeys
+  represents-joined f =
       let k = range-some t s e h in
       let x = lacks true f in
       let w = join-ruled s e 0 (pairsOf l) k (omega arith) (rule-ruled 0 l o) in
       let z = ltb-false (roomOf l) (size (join s e (pairsOf l))) x in
       rw (j .by-rule o k f)
-      (says-done _ (lent (roomOf l) (join s e (pairsOf l))) (rule-lent (roomOf l) 0 (join s e (pairsOf l)) w)
+      (represents-done _ (lent (roomOf l) (join s e (pairsOf l))) (rule-lent (roomOf l) 0 (join s e (pairsOf l)) w)
       (rw (h, x, pairsOf-lent (roomOf l) 0 (join s e (pairsOf l)) w z)))
 
 -- ---- the list, as the code walks it: the text up to the first comma is joined
 
-module _ (r k : ℕ) (ps : Pairs) (text l : List ℕ) (q : Says (added r ps (rangeOf (take (commaRun text) text)) merged) k l) where
+module _ (r k : ℕ) (ps : Pairs) (text l : List ℕ) (q : Represents (mergeRange r ps (rangeOf (take (commaRun text) text)) merged) k l) where
   pub walk-stop : 0 < k → mergedFrom r ps (parts text) ≡ trouble k
   walk-stop h = go (parts-first text)
     where

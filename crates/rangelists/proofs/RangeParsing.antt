@@ -10,40 +10,40 @@ use lib.ListN.{length, getD, take, drop, List·getD-eq-default}
 use Rattle.octets.specs.Decimal.{digitRun, digitsOnly, numberOf, readOf}
 use Rattle.octets.specs.declared.decimal.Number.the-variants.{Value, Nothing}
 use Rattle.octets.proofs.Readings.{digits-at, at-digits}
-use Rattle.rangelists.specs.RangeText.{endLimit, digitLimit, bound, boundOf, rangeOf}
-use Rattle.rangelists.specs.OneRange.{Bound}
+use Rattle.rangelists.specs.RangeText.{endLimit, digitLimit, isPosition, positionOf, rangeOf}
+use Rattle.rangelists.specs.OneRange.{Position}
 use Rattle.rangelists.specs.declared.ranges.Range.the-variants.{Places, Malformed}
 
 -- ---- a number
 
-pub bound-long : (text : List ℕ) → digitLimit < length text → boundOf text ≡ Nothing
-unfolding bound boundOf
-bound-long text h = rw (lt-leb (length text) digitLimit h, and-false (leb 1 (length text)))
+pub position-long : (text : List ℕ) → digitLimit < length text → positionOf text ≡ Nothing
+unfolding isPosition positionOf
+position-long text h = rw (lt-leb (length text) digitLimit h, and-false (leb 1 (length text)))
 
-pub bound-read : (text : List ℕ) → length text ≤ digitLimit → boundOf text ≡ readOf text endLimit
-unfolding bound boundOf readOf
-bound-read text h = rw (le-leb (length text) digitLimit h, and-true (leb 1 (length text)))
+pub position-read : (text : List ℕ) → length text ≤ digitLimit → positionOf text ≡ readOf text endLimit
+unfolding isPosition positionOf readOf
+position-read text h = rw (le-leb (length text) digitLimit h, and-true (leb 1 (length text)))
 
-pub bound-nothing : (text : List ℕ) → boundOf text ≡ Nothing → bound text ≡ false
-unfolding boundOf
-bound-nothing text h = go (bound text) h
+pub position-nothing : (text : List ℕ) → positionOf text ≡ Nothing → isPosition text ≡ false
+unfolding positionOf
+position-nothing text h = go (isPosition text) h
   where
     go : (t : Bool) → cond t (Value (numberOf text)) Nothing ≡ Nothing → t ≡ false
     go true e = let z : _≡_ {A = ℕ} 0 1 = cc in absurd (omega arith)
     go false e = refl
 
-pub bound-value : (text : List ℕ) (n : ℕ) → boundOf text ≡ Value n → (bound text ≡ true) × (numberOf text ≡ n)
-unfolding boundOf
-bound-value text n h = go (bound text) h
+pub position-value : (text : List ℕ) (n : ℕ) → positionOf text ≡ Value n → (isPosition text ≡ true) × (numberOf text ≡ n)
+unfolding positionOf
+position-value text n h = go (isPosition text) h
   where
     go : (t : Bool) → cond t (Value (numberOf text)) Nothing ≡ Value n → (t ≡ true) × (numberOf text ≡ n)
     go true e = (refl, cc)
     go false e = let z : _≡_ {A = ℕ} 0 1 = cc in absurd (omega arith)
 
 -- taken apart, and put together
-pub bound-is : (text : List ℕ) → bound text ≡ true → Bound text (numberOf text)
-unfolding bound
-bound-is text h =
+pub position-is : (text : List ℕ) → isPosition text ≡ true → Position text (numberOf text)
+unfolding isPosition
+position-is text h =
     let p = and-eq-true-iff (leb 1 (length text) && leb (length text) digitLimit) (digitsOnly text && leb (numberOf text) endLimit) .0 h in
     let l = and-eq-true-iff (leb 1 (length text)) (leb (length text) digitLimit) .0 (p .0) in
     let q = and-eq-true-iff (digitsOnly text) (leb (numberOf text) endLimit) .0 (p .1) in
@@ -51,18 +51,18 @@ bound-is text h =
       shortest = leb-true 1 (length text) (l .0);
       longest = omega (arith, leb-true (length text) digitLimit (l .1));
       digits = at-digits text (q .0);
-      says = refl;
+      value-is = refl;
       most = omega (arith, leb-true (numberOf text) endLimit (q .1));
     }
 
-pub is-bound : (text : List ℕ) (value : ℕ) → Bound text value → bound text ≡ true
-unfolding bound
-is-bound text value h =
+pub is-position : (text : List ℕ) (value : ℕ) → Position text value → isPosition text ≡ true
+unfolding isPosition
+is-position text value h =
     rw (
       le-leb 1 (length text) (h .shortest),
       le-leb (length text) digitLimit (omega (arith, h .longest)),
       digits-at text (h .digits),
-      le-leb (numberOf text) endLimit (omega (arith, h .says, h .most)),
+      le-leb (numberOf text) endLimit (omega (arith, h .value-is, h .most)),
     )
 
 -- ---- a range
@@ -70,21 +70,21 @@ is-bound text value h =
 module _ (text : List ℕ) where
   pub range-no-hyphen : (getD text (digitRun text) 0 ≡ 45 → ⊥) → rangeOf text ≡ Malformed
   unfolding rangeOf
-  range-no-hyphen n = rw (ne-eqb (getD text (digitRun text) 0) 45 n, and-false (bound (take (digitRun text) text)))
+  range-no-hyphen n = rw (ne-eqb (getD text (digitRun text) 0) 45 n, and-false (isPosition (take (digitRun text) text)))
 
   pub range-short : length text ≤ digitRun text → rangeOf text ≡ Malformed
   range-short h = range-no-hyphen (λ e. omega (arith, e, List·getD-eq-default text 0 h))
 
-  pub range-no-start : bound (take (digitRun text) text) ≡ false → rangeOf text ≡ Malformed
+  pub range-no-start : isPosition (take (digitRun text) text) ≡ false → rangeOf text ≡ Malformed
   unfolding rangeOf
   range-no-start e = rw e
 
-  module _ (a : bound (take (digitRun text) text) ≡ true) (h : getD text (digitRun text) 0 ≡ 45) where
-    pub range-no-end : bound (drop (suc (digitRun text)) text) ≡ false → rangeOf text ≡ Malformed
+  module _ (a : isPosition (take (digitRun text) text) ≡ true) (h : getD text (digitRun text) 0 ≡ 45) where
+    pub range-no-end : isPosition (drop (suc (digitRun text)) text) ≡ false → rangeOf text ≡ Malformed
     unfolding rangeOf
     range-no-end e = rw (a, eq-eqb (getD text (digitRun text) 0) 45 h, e)
 
-    module _ (b : bound (drop (suc (digitRun text)) text) ≡ true) where
+    module _ (b : isPosition (drop (suc (digitRun text)) text) ≡ true) where
       pub range-falling : numberOf (drop (suc (digitRun text)) text) < numberOf (take (digitRun text) text) → rangeOf text ≡ Malformed
       unfolding rangeOf
       range-falling l =
@@ -99,16 +99,16 @@ module _ (text : List ℕ) where
 -- ---- what was read as places
 
 pub record Sound (text : List ℕ) (s e : ℕ) : Type 0 where
-  pub start : bound (take (digitRun text) text) ≡ true
+  pub start : isPosition (take (digitRun text) text) ≡ true
   pub hyphen : getD text (digitRun text) 0 ≡ 45
-  pub end : bound (drop (suc (digitRun text)) text) ≡ true
+  pub end : isPosition (drop (suc (digitRun text)) text) ≡ true
   pub rising : numberOf (take (digitRun text) text) ≤ numberOf (drop (suc (digitRun text)) text)
   pub start-is : numberOf (take (digitRun text) text) ≡ s
   pub end-is : e ≡ suc (numberOf (drop (suc (digitRun text)) text))
 
 pub range-sound : (text : List ℕ) (s e : ℕ) → rangeOf text ≡ Places s e → Sound text s e
 unfolding rangeOf
-range-sound text s e h = go (bound a) (eqb (getD text k 0) 45) (bound b) (leb (numberOf a) (numberOf b)) refl refl refl refl h
+range-sound text s e h = go (isPosition a) (eqb (getD text k 0) 45) (isPosition b) (leb (numberOf a) (numberOf b)) refl refl refl refl h
   where
     k : ℕ
     k = digitRun text
@@ -119,7 +119,7 @@ range-sound text s e h = go (bound a) (eqb (getD text k 0) 45) (bound b) (leb (n
     b : List ℕ
     b = drop (suc k) text
 
-    go : (p q r t : Bool) → bound a ≡ p → eqb (getD text k 0) 45 ≡ q → bound b ≡ r → leb (numberOf a) (numberOf b) ≡ t
+    go : (p q r t : Bool) → isPosition a ≡ p → eqb (getD text k 0) 45 ≡ q → isPosition b ≡ r → leb (numberOf a) (numberOf b) ≡ t
         → cond (p && (q && (r && t))) (Places (numberOf a) (suc (numberOf b))) Malformed ≡ Places s e → Sound text s e
     go true true true true p q r t x =
         record { start = p; hyphen = eqb-true (getD text k 0) 45 q; end = r; rising = leb-true (numberOf a) (numberOf b) t; start-is = cc; end-is = cc }

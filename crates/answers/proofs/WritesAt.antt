@@ -1,12 +1,13 @@
--- A text stored into lent bytes at a place, whole or in steps.
+-- A text written into lent bytes from a place on, whole or in steps.
 use Prim.Native.Nat.{ℕ, suc, _+_, _-_, _≤_}
 use mathlib.Core.Path.{_≡_, sym, ap, _∙_}
 use mathlib.Core.List.{List, [], _∷_, _++_, append-assoc}
 use native.Mathlib.Omega.{arith}
 use native.Mathlib.Nat.{add-zero, zero-add}
 use borrow.Rule.Slice.PartMut.{putMid}
-use lib.ListN.{length, set, take, drop}
+use lib.ListN.{length, set, take, drop, length-append}
 use lib.Seq.{sets, sets-eq, drop-drop}
+use Rattle.answers.specs.WritesAt.{WritesAt}
 
 -- one text after another
 pub sets-append : (t u out : List ℕ) (at : ℕ) → sets (sets out at t) (at + length t) u ≡ sets out at (t ++ u)
@@ -14,6 +15,9 @@ sets-append [] u out at = rw (add-zero at)
 sets-append (b ∷ t) u out at =
     let e : at + suc (length t) ≡ suc at + length t = omega arith in
     rw e (sets-append t u (set out at b) (suc at))
+
+pub writesAt-append : (out o₁ o₂ t u : List ℕ) (at a b : ℕ) → WritesAt out at t a o₁ → WritesAt o₁ a u b o₂ → WritesAt out at (t ++ u) b o₂
+writesAt-append out o₁ o₂ t u at a b p q = (omega (arith, length-append t u), q .1 ∙ rw (p .0, p .1) (sets-append t u out at))
 
 -- what a lent part of the bytes leaves
 pub sets-part : (at e : ℕ) (out text : List ℕ) → e ≡ at + length text → e ≤ length out → putMid at (e - at) out text ≡ sets out at text

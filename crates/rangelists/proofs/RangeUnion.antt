@@ -8,21 +8,21 @@ use borrow.Author.Tests.{ltb-false}
 use lib.Dec.{ltb}
 use Rattle.ledger.specs.Pairs.{Pairs, none, size, holds, Ruled, join}
 use Rattle.ledger.proofs.Joined.{join-ruled, join-holds}
-use Rattle.rangelists.specs.RangeText.{parts, rangeOf, merged, trouble, added, mergedFrom, rangesOf, heldBy, namedBy}
+use Rattle.rangelists.specs.RangeText.{parts, rangeOf, merged, trouble, mergeRange, mergedFrom, rangesOf, heldBy, namedBy}
 use Rattle.rangelists.specs.declared.ranges.Range.{Range}
 use Rattle.rangelists.specs.declared.ranges.Range.the-variants.{Places, Malformed}
-use Rattle.rangelists.proofs.Bounds.{range-some}
+use Rattle.rangelists.proofs.RangeParsing.{range-some}
 
 -- qs obeys the rule in r pairs and holds the places of ps and those of the ranges
 abbrev Union : ℕ → Pairs → List (List ℕ) → Pairs → Type 0
 Union r ps ts qs = Ruled 0 qs × (size qs ≤ r) × ((p : ℕ) → holds p qs ≡ max (holds p ps) (namedBy p ts))
 
 union : (r : ℕ) (ps qs : Pairs) (ts : List (List ℕ)) → Ruled 0 ps → size ps ≤ r → mergedFrom r ps ts ≡ merged qs → Union r ps ts qs
-unfolding mergedFrom namedBy added heldBy
+unfolding mergedFrom namedBy mergeRange heldBy
 union r ps qs [] c n h = let e : ps ≡ qs = cc in rw (← e) (c, n, λ p. omega arith)
 union r ps qs (t ∷ ts) c n h = go (rangeOf t) refl h (λ ps c n h. union r ps qs ts c n h)
   where
-    go : (x : Range) → rangeOf t ≡ x → added r ps x (λ qs. mergedFrom r qs ts) ≡ merged qs
+    go : (x : Range) → rangeOf t ≡ x → mergeRange r ps x (λ qs. mergedFrom r qs ts) ≡ merged qs
         → ((ps : Pairs) → Ruled 0 ps → size ps ≤ r → mergedFrom r ps ts ≡ merged qs → Union r ps ts qs)
         → Ruled 0 qs × (size qs ≤ r) × ((p : ℕ) → holds p qs ≡ max (holds p ps) (max (heldBy p (rangeOf t)) (namedBy p ts)))
     go Malformed x k i = let z : _≡_ {A = ℕ} 0 1 = cc in absurd (omega arith)

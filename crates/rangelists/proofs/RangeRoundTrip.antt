@@ -16,17 +16,17 @@ use Rattle.ledger.specs.Pairs.{Pairs, none, pair, size, Ruled, join, endsBy}
 use Rattle.ledger.specs.Ledger.{largest, lengthWrong, obeys, pairsOf, roomOf}
 use Rattle.ledger.proofs.Lents.{rule-ruled, lent-pairsOf, size-pairsOf}
 use Rattle.ledger.proofs.Sizes.{length-right, length-fits}
-use Rattle.rangelists.specs.RangeText.{rangeOf, parts, merged, added, mergedFrom, rangesOf, readRanges, rangesLeft, rangeText, rangesText, writeRanges, rangesWritten}
-use Rattle.rangelists.specs.OneRange.{Bound}
+use Rattle.rangelists.specs.RangeText.{rangeOf, parts, merged, mergeRange, mergedFrom, rangesOf, readRanges, readRangesAfter, rangeText, rangesText, writeRanges, writeRangesAfter}
+use Rattle.rangelists.specs.OneRange.{Position}
 use Rattle.rangelists.specs.Parts.{withCommas, NoComma}
 use Rattle.rangelists.specs.RangeReading.{Reads}
-use Rattle.ledger.specs.declared.answer.Loaded.the-variants.{Done}
-use Rattle.ledger.specs.declared.answer.Written.the-variants.{Bytes}
+use Rattle.answers.specs.declared.loaded.Loaded.the-variants.{Done}
+use Rattle.answers.specs.declared.written.Written.the-variants.{Bytes}
 use Rattle.rangelists.specs.declared.ranges.Range.the-variants.{Places}
-use Rattle.rangelists.proofs.Answered.{written}
-use Rattle.rangelists.proofs.OneRanges.{range-reads}
-use Rattle.rangelists.proofs.RangeRead.{reads}
-use Rattle.rangelists.proofs.Parted.{no-comma-cons, no-comma-append, parts-only}
+use Rattle.rangelists.proofs.RangeWriting.{accepted}
+use Rattle.rangelists.proofs.OneRange.{range-reads}
+use Rattle.rangelists.proofs.RangeReading.{reads}
+use Rattle.rangelists.proofs.Parts.{no-comma-cons, no-comma-append, parts-only}
 
 -- ---- one range
 
@@ -34,14 +34,14 @@ digits-decimal : (n : ℕ) → digitsOnly (decimal n) ≡ true
 unfolding decimal
 digits-decimal n = digitsOnly-inDigits (width n) n
 
-bound-decimal : (n : ℕ) → n ≤ 18446744073709551614 → Bound (decimal n) n
-bound-decimal n h =
+position-decimal : (n : ℕ) → n ≤ 18446744073709551614 → Position (decimal n) n
+position-decimal n h =
     let l = length-decimal n in
     record {
       shortest = omega (arith, width-some n);
       longest = omega (arith, width-20 n (omega arith));
       digits = at-digits (decimal n) (digits-decimal n);
-      says = decimal-reads-back n;
+      value-is = decimal-reads-back n;
       most = h;
     }
 
@@ -49,8 +49,8 @@ pub range-reads-back : (a b : ℕ) → a < b → b ≤ largest → rangeOf (rang
 unfolding rangeText
 range-reads-back a b h l =
     let e : suc (b - 1) ≡ b = omega arith in
-    let start = bound-decimal a (omega arith) in
-    let end = bound-decimal (b - 1) (omega arith) in
+    let start = position-decimal a (omega arith) in
+    let end = position-decimal (b - 1) (omega arith) in
     range-reads (rangeText a b) a (b - 1)
     (record { before = decimal a; after = decimal (b - 1); hyphen = refl; start = start; end = end; rising = omega arith })
     ∙ rw e
@@ -91,7 +91,7 @@ parts-texts ps h = rw (texts-joined ps) (parts-only (textsOf ps) (omega (arith, 
 
 -- ---- ascending ranges joined one by one
 
--- pairs behind others
+-- pairs after others
 unfoldable chain : Pairs → Pairs → Pairs
 chain none ps = ps
 chain (pair a b qs) ps = pair a b (chain qs ps)
@@ -118,7 +118,7 @@ chain-above lo a b (pair x y qs) ps c =
     let i = chain-above (suc y) a b qs ps (c .2) in
     (omega (arith, c .0, c .1, i .0), i .1)
 
--- a range above all pairs stands behind them
+-- a range above all pairs comes after them
 join-last : (lo a b : ℕ) (qs ps : Pairs) → Ruled lo (chain qs (pair a b ps)) → join a b qs ≡ chain qs (pair a b none)
 unfolding chain join
 join-last lo a b none ps c = refl
@@ -128,7 +128,7 @@ join-last lo a b (pair x y qs) ps c =
 
 merged-chain : (r : ℕ) (qs ps : Pairs) → Ruled 0 (chain qs ps) → size (chain qs ps) ≤ r → endsBy largest ps ≡ true
     → mergedFrom r qs (textsOf ps) ≡ merged (chain qs ps)
-unfolding mergedFrom textsOf added endsBy size
+unfolding mergedFrom textsOf mergeRange endsBy size
 merged-chain r qs none c n f = rw (chain-none qs)
 merged-chain r qs (pair a b ps) c n f =
     let q = and-eq-true-iff (leb b largest) (endsBy largest ps) .0 f in
@@ -148,19 +148,19 @@ text-back ps m some ruled ends lengths room =
     reads (rangesText ps) m lengths ps (rw (parts-texts ps some) (merged-chain (roomOf m) none ps ruled room ends))
 
 pub reads-back : (l out m : List ℕ) (n : ℕ) → writeRanges l out ≡ Bytes n → endsBy largest (pairsOf l) ≡ true → lengthWrong m ≡ false → size (pairsOf l) ≤ roomOf m
-    → Reads (take n (rangesWritten l out)) m (pairsOf l)
+    → Reads (take n (writeRangesAfter l out)) m (pairsOf l)
 unfolding obeys
 reads-back l out m n e ends lengths room =
-    let w = written l out n e in
+    let w = accepted l out n e in
     let text = rangesText (pairsOf l) in
-    rw (w .left, take-at text (drop (length text) out) n (w .bytes)) (text-back (pairsOf l) m (w .some) (rule-ruled 0 l (w .ruled)) ends lengths room)
+    rw (w .after, take-at text (drop (length text) out) n (w .bytes)) (text-back (pairsOf l) m (w .some) (rule-ruled 0 l (w .ruled)) ends lengths room)
 
 pub reads-same : (l out m : List ℕ) (n : ℕ) → writeRanges l out ≡ Bytes n → endsBy largest (pairsOf l) ≡ true → length m ≡ length l
-    → (readRanges (take n (rangesWritten l out)) m ≡ Done) × (rangesLeft (take n (rangesWritten l out)) m ≡ l)
+    → (readRanges (take n (writeRangesAfter l out)) m ≡ Done) × (readRangesAfter (take n (writeRangesAfter l out)) m ≡ l)
 unfolding obeys
 reads-same l out m n e ends same =
-    let w = written l out n e in
+    let w = accepted l out n e in
     let f = length-fits l (w .lengths) in
     let lengths : lengthWrong m ≡ false = length-right m (omega (arith, f .0)) (omega (arith, f .1)) in
     let r = reads-back l out m n e ends lengths (omega (arith, size-pairsOf l)) in
-    (r .accepted, r .left ∙ sym (lent-pairsOf (roomOf m) 0 l (w .ruled) (omega (arith, f .0))))
+    (r .accepted, r .after ∙ sym (lent-pairsOf (roomOf m) 0 l (w .ruled) (omega (arith, f .0))))

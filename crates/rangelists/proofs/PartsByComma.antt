@@ -10,7 +10,7 @@ use borrow.Author.Tests.{eq-eqb, ne-eqb}
 use lib.Dec.{eqb}
 use lib.ListN.{length, getD, take, drop}
 use lib.Seq.{drop-cons, take-all}
-use Rattle.rangelists.specs.RangeText.{inFront, parts, commaRun}
+use Rattle.rangelists.specs.RangeText.{prependToFirst, parts, commaRun}
 
 -- ---- the run
 
@@ -35,11 +35,11 @@ commaRun-le (b ∷ bs) = go (eqb b 44) (commaRun-le bs)
 
 -- without a comma the text is the one part
 pub parts-last : (text : List ℕ) → commaRun text ≡ length text → parts text ≡ text ∷ []
-unfolding commaRun parts inFront
+unfolding commaRun parts prependToFirst
 parts-last [] h = refl
 parts-last (b ∷ bs) h = go (eqb b 44) refl (parts-last bs)
   where
-    go : (t : Bool) → eqb b 44 ≡ t → (commaRun bs ≡ length bs → parts bs ≡ bs ∷ []) → cond t ([] ∷ parts bs) (inFront b (parts bs)) ≡ (b ∷ bs) ∷ []
+    go : (t : Bool) → eqb b 44 ≡ t → (commaRun bs ≡ length bs → parts bs ≡ bs ∷ []) → cond t ([] ∷ parts bs) (prependToFirst b (parts bs)) ≡ (b ∷ bs) ∷ []
     go true e i = let z : 0 ≡ suc (length bs) = rw e at h in absurd (omega arith)
     go false e i =
         let z : suc (commaRun bs) ≡ suc (length bs) = rw e at h in
@@ -47,12 +47,12 @@ parts-last (b ∷ bs) h = go (eqb b 44) refl (parts-last bs)
 
 -- else what stands before the first comma is the first part
 pub parts-next : (text : List ℕ) → commaRun text < length text → parts text ≡ take (commaRun text) text ∷ parts (drop (suc (commaRun text)) text)
-unfolding commaRun parts inFront
+unfolding commaRun parts prependToFirst
 parts-next [] h = absurd (omega arith)
 parts-next (b ∷ bs) h = go (eqb b 44) refl (parts-next bs)
   where
     go : (t : Bool) → eqb b 44 ≡ t → (commaRun bs < length bs → parts bs ≡ take (commaRun bs) bs ∷ parts (drop (suc (commaRun bs)) bs))
-        → cond t ([] ∷ parts bs) (inFront b (parts bs)) ≡ take (cond t 0 (suc (commaRun bs))) (b ∷ bs) ∷ parts (drop (suc (cond t 0 (suc (commaRun bs)))) (b ∷ bs))
+        → cond t ([] ∷ parts bs) (prependToFirst b (parts bs)) ≡ take (cond t 0 (suc (commaRun bs))) (b ∷ bs) ∷ parts (drop (suc (cond t 0 (suc (commaRun bs)))) (b ∷ bs))
     go true e i = refl
     go false e i =
         let z : suc (commaRun bs) < suc (length bs) = rw e at h in
