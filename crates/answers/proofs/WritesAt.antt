@@ -6,7 +6,7 @@ use native.Mathlib.Omega.{arith}
 use native.Mathlib.Nat.{add-zero, zero-add}
 use borrow.Rule.Slice.PartMut.{putMid}
 use lib.ListN.{length, set, take, drop, length-append}
-use lib.Seq.{sets, sets-eq, drop-drop}
+use lib.Seq.{sets, sets-eq, length-sets, take-at, drop-drop}
 use Rattle.answers.specs.WritesAt.{WritesAt}
 
 -- one text after another
@@ -28,3 +28,11 @@ sets-part at e out text h g =
 -- at the first place
 pub sets-first : (text out : List ℕ) → length text ≤ length out → sets out 0 text ≡ text ++ drop (length text) out
 sets-first text out h = sets-eq text out 0 (omega arith) ∙ ap (λ n. text ++ drop n out) (zero-add (length text))
+
+-- the first bytes are the text
+pub writesAt-first : (out text after : List ℕ) (end : ℕ) → length text ≤ length out → WritesAt out 0 text end after
+    → (end ≤ length after) × (take end after ≡ text)
+writesAt-first out text after end h w =
+    let e : length text ≡ end = sym (w .0 ∙ zero-add (length text)) in
+    let a : after ≡ text ++ drop (length text) out = w .1 ∙ sets-first text out h in
+    (omega (arith, ap length (w .1), length-sets out 0 text), rw a (take-at text (drop (length text) out) end e))

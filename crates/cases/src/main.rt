@@ -1,8 +1,8 @@
 // Examples of document 01 that are run: a line for each, held against the file `stdout`. Bytes are printed in hexadecimal, none as '-'.
+use answers::loaded::Loaded;
+use answers::written::Written;
 use commands::line;
 use commands::line::Line;
-use ledger::answer::Loaded;
-use ledger::answer::Written;
 use libc::STDOUT_FILENO;
 use savedledgers::saved;
 

@@ -2,13 +2,13 @@
 use crate::fill;
 use crate::part;
 use crate::print;
+use answers::written::Written;
 use octets::little;
 use receiver::receive::Answer;
 use receiver::receive::Receiver;
 use receiver::receive::Verdict;
 use receiver::start;
 use screen::line;
-use screen::line::Line;
 
 const START: u16 = 16;
 
@@ -56,11 +56,11 @@ fn print_screen(receiver: Receiver, ledger: &[u64]) {
     let mut out = [fill::BYTE; 128];
     let answer = line::write(receiver, ledger, &mut out);
     match answer {
-        Line::Bytes(n) => {
+        Written::Bytes(n) => {
             let k = part::of_bytes(n as u64, &out);
             print::word(&out[..k]);
         }
-        Line::Refused(k) => {
+        Written::Refused(k) => {
             print::refused(k);
             print::end();
         }

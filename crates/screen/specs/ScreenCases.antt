@@ -7,8 +7,8 @@ use Rattle.octets.specs.Cases.{AllHold}
 use Rattle.eblock.specs.Header.{bytesOf}
 use Rattle.transfer.specs.Calls.{Call, receive, begun, after}
 use Rattle.transfer.specs.CallCases.{first, second, third}
-use Rattle.screen.specs.declared.line.Line.the-variants.{Bytes, Refused}
-use Rattle.screen.specs.Screen.{lineOf, screenOf, screenLeaves}
+use Rattle.answers.specs.declared.written.Written.the-variants.{Bytes, Refused}
+use Rattle.screen.specs.Screen.{lineOf, screenOf, screenAfter}
 
 -- from a file of 8 bytes and a ledger of one pair, the calls leave this line
 pub record Case : Type 0 where
@@ -25,7 +25,7 @@ Holds k =
     let n = length (k .line) in
     (lineOf w ≡ k .line)
     × (screenOf (w .t) (w .lent .claimed) (filled 40) ≡ Bytes n)
-    × (screenLeaves (w .t) (w .lent .claimed) (filled 40) ≡ k .line ++ filled (40 - n))
+    × (screenAfter (w .t) (w .lent .claimed) (filled 40) ≡ k .line ++ filled (40 - n))
     -- one byte less than it has
     × (screenOf (w .t) (w .lent .claimed) (filled (n - 1)) ≡ Refused 55)
 
@@ -60,5 +60,5 @@ cases =
     ∷ record { calls = receive 0 (bytesOf 64 0 2) ∷ receive 1 (bytesOf 0 4 0 ++ (112 ∷ 108 ∷ [])) ∷ []; line = underWayLine }
     ∷ []
 
-abbrev pub ScreenSet : Type 0
-ScreenSet = AllHold Holds cases
+abbrev pub ScreenCases : Type 0
+ScreenCases = AllHold Holds cases

@@ -17,9 +17,10 @@ use Rattle.transfer.proofs.Along.{along, world-along}
 use Rattle.transfer.proofs.AfterLists.{every-list}
 use Rattle.receiver.specs.Stored.{storedCut}
 use Rattle.receiver.proofs.Taking.{fits-parts}
-use Rattle.screen.specs.Screen.{lineOf, lineFor, roomNumber, answerBy, leftBy, screenOf, screenLeaves}
-use Rattle.screen.specs.ScreenTally.{bytesOf, tallyLine, ScreenTally}
-use Rattle.screen.proofs.Screens.{fit, stored-whole}
+use Rattle.screen.specs.Screen.{lineOf, lineFor, screenNumber, screenOf, screenAfter}
+use Rattle.screen.specs.ScreenTally.{tallyBytes, tallyLine, ScreenTally}
+use Rattle.screen.proofs.Screen.{fit, stored-whole}
+use Rattle.answers.specs.Written.{roomNumber, writtenBy, writtenAfter}
 
 module _ (w : World) (file : List ℕ) (R : ℕ) (before : Pairs) (b : Begun w file R before) (ks : List Call) where
   list : AfterList R before file (after w ks) (tallyOf (length file) R before ks)
@@ -43,14 +44,26 @@ module _ (w : World) (file : List ℕ) (R : ℕ) (before : Pairs) (b : Begun w f
   same-len : after w ks .t .len ≡ length file
   same-len = sym (fits-here .0) ∙ list .file-length
 
-  stored-here : length file ≤ largest → storedCut (after w ks .t) (after w ks .lent .claimed) ≡ bytesOf before (tallyOf (length file) R before ks)
+  stored-here : length file ≤ largest → storedCut (after w ks .t) (after w ks .lent .claimed) ≡ tallyBytes before (tallyOf (length file) R before ks)
   stored-here l = stored-whole (after w ks .t) (after w ks .lent .file) (after w ks .lent .claimed) (omega (arith, same-len)) (fits-here .1) ∙ list .bytes-are
 
-  shown-here : (out : List ℕ)
+  line-here : lineFor (after w ks .t) (after w ks .lent .claimed) ≡ tallyLine before (tallyOf (length file) R before ks)
+  line-here = no-file ∙ says
+
+  number-here : (out : List ℕ) → screenNumber (after w ks .t) (after w ks .lent .claimed) out ≡ roomNumber (length (tallyLine before (tallyOf (length file) R before ks))) out
+  number-here out = fit (after w ks .t) (after w ks .lent .claimed) out (fits-here .1) ∙ rw line-here
+
+  answer-here : (out : List ℕ)
       → let line = tallyLine before (tallyOf (length file) R before ks) in
-      (answerBy (roomNumber line out) line ≡ screenOf (after w ks .t) (after w ks .lent .claimed) out)
-      × (leftBy (roomNumber line out) line out ≡ screenLeaves (after w ks .t) (after w ks .lent .claimed) out)
-  shown-here out = fit (after w ks .t) (after w ks .lent .claimed) out (tallyLine before (tallyOf (length file) R before ks)) _ _ (fits-here .1) (sym (no-file ∙ says)) (refl, refl)
+      screenOf (after w ks .t) (after w ks .lent .claimed) out ≡ writtenBy (roomNumber (length line) out) (length line)
+  unfolding screenOf
+  answer-here out = rw (number-here out, line-here)
+
+  after-here : (out : List ℕ)
+      → let line = tallyLine before (tallyOf (length file) R before ks) in
+      screenAfter (after w ks .t) (after w ks .lent .claimed) out ≡ writtenAfter (roomNumber (length line) out) line out
+  unfolding screenAfter
+  after-here out = rw (number-here out, line-here)
 
 pub screen-tally : ScreenTally
 screen-tally =
@@ -58,6 +71,6 @@ screen-tally =
       stored-is = stored-whole;
       stored-after = λ w file R before b l ks. stored-here w file R before b ks l;
       line-is = says;
-      answer-is = λ w file R before b ks out. sym (shown-here w file R before b ks out .0);
-      leaves = λ w file R before b ks out. sym (shown-here w file R before b ks out .1);
+      answer-is = answer-here;
+      after-is = after-here;
     }
