@@ -35,7 +35,7 @@
  *     35  argument missing, or not allowed         36  reply code outside 100 to 599
  *     41  host-port malformed or empty             42  more than 64 host-ports
  *     43  list of fewer than 64 entries
- *     51  range malformed                          52  more ranges than pairs
+ *     51  range malformed                          52  merged ranges need more pairs
  *     53  ledger length, as 5                      54  an empty ledger has no text
  *     55  too few bytes lent for the whole output
  *     61  saved ledger cut short, wrong length     62  another kind of record

@@ -10,7 +10,7 @@ use Rattle.octets.specs.Digits.{toBig}
 use Rattle.octets.proofs.Digits.{length-toBig}
 use Rattle.eblock.specs.Header.{headerLength, bytesOf}
 
--- ys and zs are what stands in the two parts of eight bytes
+-- ys and zs are the two parts of eight bytes
 pub placed : (d second third : ℕ) (out ys zs : List ℕ) → headerLength ≤ length out → ys ≡ toBig 256 8 second → zs ≡ toBig 256 8 third
     → putMid 9 8 (putMid 1 8 (set out 0 d) ys) zs ≡ bytesOf d second third ++ drop headerLength out
 unfolding bytesOf

@@ -45,7 +45,7 @@ parts-last (b ∷ bs) h = go (eqb b 44) refl (parts-last bs)
         let z : suc (commaRun bs) ≡ suc (length bs) = rw e at h in
         rw (i (omega arith))
 
--- else what stands before the first comma is the first part
+-- else what is before the first comma is the first part
 pub parts-next : (text : List ℕ) → commaRun text < length text → parts text ≡ take (commaRun text) text ∷ parts (drop (suc (commaRun text)) text)
 unfolding commaRun parts prependToFirst
 parts-next [] h = absurd (omega arith)

@@ -11,10 +11,10 @@ use lib.ListN.{length, take, drop, replicate, length-replicate}
 use lib.Seq.{take-all}
 use Rattle.ledger.specs.Pairs.{Pairs, none, size, join}
 use Rattle.ledger.specs.Ledger.{obeys, pairsOf, lent, roomOf}
-use Rattle.claims.specs.Claim.{Joins}
 use Rattle.ledger.proofs.Joined.{join-ruled}
 use Rattle.ledger.proofs.Lents.{pairsOf-lent, rule-lent, rule-ruled, lent-pairsOf}
 use Rattle.ledger.proofs.Odd.{obeys-even}
+use Rattle.claims.specs.Claim.{Joins}
 use Rattle.rangelists.specs.RangeText.{commaRun, parts, rangesOf, rangeOf, Merged, merged, trouble, mergeRange, mergedFrom, Represents}
 use Rattle.rangelists.specs.declared.ranges.Range.{Range}
 use Rattle.rangelists.specs.declared.ranges.Range.the-variants.{Places, Malformed}
@@ -106,7 +106,7 @@ module _ (r k : ℕ) (ps : Pairs) (text l : List ℕ) (q : Represents (mergeRang
   walk-next z h =
       rw (parts-next text h) (merged-on r ps (pairsOf l) (take (commaRun text) text) (parts (drop (suc (commaRun text)) text)) (q .done z .1))
 
--- ---- the ledger before the first range, and behind the last
+-- ---- the ledger before the first range, and after the last
 
 zero-lent : (r : ℕ) → replicate (2 * r) 0 ≡ lent r none
 unfolding lent

@@ -7,13 +7,13 @@ use native.Mathlib.Omega.{arith}
 use borrow.Author.Tests.{lt-ltb, le-ltb, ltb-true, ltb-false}
 use lib.Dec.{ltb}
 use lib.ListN.{length, replicate}
+use lib.Seq.{append-snoc}
+use Rattle.answers.specs.declared.loaded.Loaded.the-variants.{Done, Refused}
+use Rattle.answers.specs.Loaded.{loadedNumber}
 use Rattle.ledger.specs.Pairs.{Pairs, size, none, join}
 use Rattle.ledger.specs.Ledger.{lengthWrong, lent, roomOf}
-use Rattle.rangelists.specs.RangeText.{merged, trouble, loaded, entriesAfter, readRanges, readRangesAfter, rangesOf, parts, rangeOf, Merged, mergeRange, mergedFrom}
-use Rattle.answers.specs.declared.loaded.Loaded.the-variants.{Done, Refused}
-use lib.Seq.{append-snoc}
-use Rattle.answers.specs.Loaded.{loadedNumber}
 use Rattle.ledger.proofs.Sizes.{length-right, length-wrong}
+use Rattle.rangelists.specs.RangeText.{merged, trouble, loaded, entriesAfter, readRanges, readRangesAfter, rangesOf, parts, rangeOf, Merged, mergeRange, mergedFrom}
 use Rattle.rangelists.specs.RangeReading.{Merges, no-range, one-more, Trouble, by-51, by-52, Reads, Refuses, RangeReading}
 use Rattle.rangelists.specs.declared.ranges.Range.{Range}
 use Rattle.rangelists.specs.declared.ranges.Range.the-variants.{Places, Malformed}

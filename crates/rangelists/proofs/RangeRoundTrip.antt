@@ -12,6 +12,8 @@ use Rattle.octets.specs.Cases.{AllHold}
 use Rattle.octets.specs.Decimal.{digitsOnly, width, decimal}
 use Rattle.octets.proofs.Decimals.{width-some, digitsOnly-inDigits, decimal-reads-back, length-decimal, width-20}
 use Rattle.octets.proofs.Readings.{at-digits}
+use Rattle.answers.specs.declared.loaded.Loaded.the-variants.{Done}
+use Rattle.answers.specs.declared.written.Written.the-variants.{Bytes}
 use Rattle.ledger.specs.Pairs.{Pairs, none, pair, size, Ruled, join, endsBy}
 use Rattle.ledger.specs.Ledger.{largest, lengthWrong, obeys, pairsOf, roomOf}
 use Rattle.ledger.proofs.Lents.{rule-ruled, lent-pairsOf, size-pairsOf}
@@ -20,8 +22,6 @@ use Rattle.rangelists.specs.RangeText.{rangeOf, parts, merged, mergeRang
 use Rattle.rangelists.specs.OneRange.{Position}
 use Rattle.rangelists.specs.Parts.{withCommas, NoComma}
 use Rattle.rangelists.specs.RangeReading.{Reads}
-use Rattle.answers.specs.declared.loaded.Loaded.the-variants.{Done}
-use Rattle.answers.specs.declared.written.Written.the-variants.{Bytes}
 use Rattle.rangelists.specs.declared.ranges.Range.the-variants.{Places}
 use Rattle.rangelists.proofs.RangeWriting.{accepted}
 use Rattle.rangelists.proofs.OneRange.{range-reads}

@@ -11,9 +11,9 @@ use lib.ListN.{length, set, take, drop, length-append, length-drop}
 use lib.Seq.{append-snoc, length-take-le, take-all, take-add, take-append-seam, drop-append-seam, drop-drop, sets, length-sets}
 use Rattle.octets.specs.Decimal.{width, inDigits, decimal}
 use Rattle.octets.proofs.Decimals.{length-decimal}
+use Rattle.answers.proofs.WritesAt.{sets-append, sets-part}
 use Rattle.ledger.specs.Pairs.{Pairs, none, pair, size}
 use Rattle.rangelists.specs.RangeText.{comma, rangeText, rangesText}
-use Rattle.answers.proofs.WritesAt.{sets-append, sets-part}
 
 -- ---- one range
 

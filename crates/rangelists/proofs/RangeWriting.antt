@@ -4,19 +4,19 @@ use mathlib.Core.Path.{_≡_, refl, sym, _∙_}
 use mathlib.Core.Bool.{true, false}
 use mathlib.Core.List.{List, _++_}
 use native.Mathlib.Omega.{arith}
+use native.Mathlib.Decide.{decLt}
 use borrow.Author.Tests.{eq-eqb, ne-eqb}
 use lib.ListN.{length, drop}
-use Rattle.ledger.specs.Pairs.{size}
-use Rattle.ledger.specs.Ledger.{lengthWrong, obeys, pairsOf, ledgerRefusal}
-use Rattle.rangelists.specs.RangeText.{rangeText, rangesText, writeRangesNumber, writeRanges, writeRangesAfter}
-use Rattle.answers.specs.declared.written.Written.the-variants.{Bytes}
 use Rattle.octets.specs.Decimal.{decimal}
-use Rattle.ledger.proofs.Sizes.{length-right, length-wrong}
-use Rattle.rangelists.specs.RangeWriting.{RangeWriting, RangesText}
-use native.Mathlib.Decide.{decLt}
-use Rattle.ledger.proofs.LedgerRefusal.{refusal-53, refusal-1, refusal-none, refusal-zero}
+use Rattle.answers.specs.declared.written.Written.the-variants.{Bytes}
 use Rattle.answers.specs.Written.{roomNumber, Refuses}
 use Rattle.answers.proofs.WrittenBy.{first-some, first-none, first-zero, room-short, room-enough, written, written-only, refuses, writes}
+use Rattle.ledger.specs.Pairs.{size}
+use Rattle.ledger.specs.Ledger.{lengthWrong, obeys, pairsOf, ledgerRefusal}
+use Rattle.ledger.proofs.Sizes.{length-right, length-wrong}
+use Rattle.ledger.proofs.LedgerRefusal.{refusal-53, refusal-1, refusal-none, refusal-zero}
+use Rattle.rangelists.specs.RangeText.{rangeText, rangesText, writeRangesNumber, writeRanges, writeRangesAfter}
+use Rattle.rangelists.specs.RangeWriting.{RangeWriting, RangesText}
 
 -- ---- the number of a refusal
 

@@ -4,11 +4,11 @@ use mathlib.Core.Path.{_≡_}
 use mathlib.Core.Logic.{_⊎_}
 use mathlib.Core.List.{List, [], _∷_, _++_}
 use lib.ListN.{length, replicate}
+use Rattle.answers.specs.Loaded.{loadedNumber}
+use Rattle.answers.specs.declared.loaded.Loaded.the-variants.{Done}
 use Rattle.ledger.specs.Pairs.{Pairs, none, size, join}
 use Rattle.ledger.specs.Ledger.{lent, roomOf}
-use Rattle.answers.specs.Loaded.{loadedNumber}
 use Rattle.rangelists.specs.RangeText.{parts, rangeOf, readRanges, readRangesAfter}
-use Rattle.answers.specs.declared.loaded.Loaded.the-variants.{Done}
 use Rattle.rangelists.specs.declared.ranges.Range.the-variants.{Places, Malformed}
 
 -- the texts are ranges that, joined to the pairs ps one after another, give qs and never need more than r pairs

@@ -8,14 +8,14 @@ use lib.ListN.{length, getD, take, drop, replicate}
 use Rattle.octets.specs.Decimal.{digitRun, digitsOnly, numberOf, decimal}
 use Rattle.octets.specs.declared.decimal.Number.{Number}
 use Rattle.octets.specs.declared.decimal.Number.the-variants.{Value, Nothing}
-use Rattle.ledger.specs.Pairs.{Pairs, none, pair, size, hit, join}
-use Rattle.ledger.specs.Ledger.{lengthWrong, obeys, ledgerRefusal, pairsOf, lent, roomOf}
 use Rattle.answers.specs.declared.loaded.Loaded.{Loaded}
 use Rattle.answers.specs.declared.loaded.Loaded.the-variants.{Done, Refused}
 use Rattle.answers.specs.declared.written.Written.{Written}
+use Rattle.answers.specs.Written.{firstNumber, roomNumber, writtenBy, writtenAfter}
+use Rattle.ledger.specs.Pairs.{Pairs, none, pair, size, hit, join}
+use Rattle.ledger.specs.Ledger.{lengthWrong, obeys, ledgerRefusal, pairsOf, lent, roomOf}
 use Rattle.rangelists.specs.declared.ranges.Range.{Range}
 use Rattle.rangelists.specs.declared.ranges.Range.the-variants.{Places, Malformed}
-use Rattle.answers.specs.Written.{firstNumber, roomNumber, writtenBy, writtenAfter}
 
 -- the largest end, 2 ^ 64 - 2: the place after it is a 64-bit number
 abbrev pub endLimit : ℕ

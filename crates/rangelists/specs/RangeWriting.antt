@@ -6,9 +6,9 @@ use mathlib.Core.Bool.{true, false}
 use mathlib.Core.List.{List, _∷_, _++_}
 use lib.ListN.{length}
 use Rattle.octets.specs.Decimal.{inDigits, width}
+use Rattle.answers.specs.Written.{Refuses, Writes}
 use Rattle.ledger.specs.Pairs.{Pairs, none, pair, size}
 use Rattle.ledger.specs.Ledger.{obeys, pairsOf}
-use Rattle.answers.specs.Written.{Refuses, Writes}
 use Rattle.rangelists.specs.RangeText.{rangesText, writeRanges, writeRangesAfter}
 
 pub record RangeWriting (ledger out : List ℕ) : Type 0 where

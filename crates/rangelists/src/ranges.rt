@@ -81,7 +81,7 @@ fn list_length(ledger: &[u64]) -> usize
     n
 }
 
-// Puts a comma behind n bytes, unless there are none, and answers the place after it.
+// Writes a comma after n bytes, unless there are none, and answers the place after it.
 fn put_comma(out: &mut [u8], n: usize) -> usize
     requires { ⌜ n + length (comma n) ≤ length (now out) ⌝ }
     ensures { λ r. ⌜ WritesAt (now (out .entry)) n (comma n) r (now (out .exit)) ⌝ }

@@ -26,7 +26,7 @@ read-turn bytes es i v h e =
     let q : 8 * (i + 1) ≡ 8 * i + 8 = omega arith in
     rw (length-set es i v, m, q, ← drop-drop 8 (8 * i) bytes, ← e, add-one i, take-suc-set es i v) (append-snoc (take i es) v _)
 
--- the number after those that stand written
+-- the number after those that are written
 pub write-turn : (ns out ys : List ℕ) (i : ℕ) → i < length ns → 8 * i + 8 ≤ length out
     → ys ≡ toLittle 256 (length (midOf (8 * i) (8 * i + 8 - 8 * i) out)) (getD ns i 0)
     → take (8 * (i + 1)) (putMid (8 * i) (8 * i + 8 - 8 * i) out ys) ++ numberBytes (drop (i + 1) ns)

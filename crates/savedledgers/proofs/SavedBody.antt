@@ -20,19 +20,19 @@ use Rattle.savedledgers.specs.Saved.{pairsIn, pairBytes}
 -- ---- order
 
 -- the k-th pair of a body is looked at
-pub order-turn : (body : List ℕ) (n k end a b : ℕ) → k < n
+pub isRuled-turn : (body : List ℕ) (n k end a b : ℕ) → k < n
     → a ≡ fromLittle 256 (take 8 (drop (16 * k) body)) → b ≡ fromLittle 256 (take 8 (drop (16 * k + 8) body))
     → isRuled (lowest end) (pairsIn (n - k) (drop (16 * k) body))
     ≡ follows end a b && isRuled (suc b) (pairsIn (n - (k + 1)) (drop (16 * (k + 1)) body))
 unfolding isRuled pairsIn
-order-turn body n k end a b h e g =
+isRuled-turn body n k end a b h e g =
     let m : n - k ≡ suc (n - (k + 1)) = omega arith in
     let q : 16 * (k + 1) ≡ 16 * k + 16 = omega arith in
     rw (m, drop-drop 8 (16 * k) body, drop-drop 16 (16 * k) body, ← e, ← g, q, ← lowest-follows end a b) (sym (and-assoc (leb (lowest end) a) (ltb a b) _))
 
 -- a used pair ends above 0
-pub order-behind : (a b : ℕ) (ps : Pairs) → a < b → isRuled (suc b) ps ≡ isRuled (lowest b) ps
-order-behind a b ps h = rw (ne-eqb b 0 (omega arith))
+pub isRuled-next : (a b : ℕ) (ps : Pairs) → a < b → isRuled (suc b) ps ≡ isRuled (lowest b) ps
+isRuled-next a b ps h = rw (ne-eqb b 0 (omega arith))
 
 -- ---- lengths
 
@@ -77,7 +77,7 @@ flat-used (a ∷ b ∷ rest) = go (eqb b 0) (flat-used rest)
 
 -- ---- there and back
 
--- a number of 64 bits in front of other bytes
+-- a number of 64 bits before other bytes
 eight-back : (n : ℕ) (t : List ℕ) → n < 2 ^ 64 → fromLittle 256 (take 8 (toLittle 256 8 n ++ t)) ≡ n
 eight-back n t h = rw (take-at (toLittle 256 8 n) t 8 (length-toLittle 256 8 n)) (little-reads-back 256 8 n (omega arith) h)
 

@@ -56,7 +56,7 @@ pub framed-is : (kind : ℕ) (body : List ℕ) → framed kind body ≡ frameOf 
 unfolding framed frameOf
 framed-is kind body = sym (append-assoc (toLittle 256 4 (2 + length body)) (toLittle 256 2 kind) body)
 
--- ys and zs are what stands in the two parts of six bytes
+-- ys and zs are the two parts of six bytes
 pub frame-placed : (kind n : ℕ) (out ys zs : List ℕ) → length out ≡ frameLength → ys ≡ toLittle 256 4 (2 + n) → zs ≡ toLittle 256 2 kind
     → putMid 4 2 (putMid 0 4 out ys) zs ≡ frameOf kind n
 unfolding frameOf

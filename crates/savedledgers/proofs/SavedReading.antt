@@ -3,6 +3,7 @@ use Prim.Native.Nat.{ℕ, _*_, _-_, _/_, _%_, _≤_, _<_, _+_}
 use mathlib.Core.Path.{_≡_, refl, sym, ap, _∙_}
 use mathlib.Core.Bool.{Bool, true, false, cond}
 use mathlib.Core.List.{List, _++_, append-nil}
+use mathlib.Core.Logic.{_⊎_, inl, inr}
 use native.Mathlib.Omega.{arith}
 use native.Mathlib.Nat.{sub-zero}
 use native.Mathlib.Decide.{decLe, ℕ-discrete}
@@ -11,21 +12,20 @@ use borrow.Rule.Slice.PartMut.{putMid, midOf, mid-len}
 use lib.Dec.{ltb}
 use lib.ListN.{length, drop, replicate, length-append, length-drop, drop-of-length-le, take}
 use lib.Seq.{take-at, drop-at}
-use Rattle.ledger.specs.Ledger.{lengthWrong, roomOf, lent}
-use Rattle.ledger.proofs.Flats.{lent-flat}
-use Rattle.savedledgers.specs.Numbers.{numbersIn}
-use Rattle.savedledgers.specs.Saved.{pairsIn, kindOne, pairLength, frameNumber, bodyOf, savedPairs, bodyWrong, readSavedNumber, readSaved, readSavedAfter, kindOf}
-use Rattle.answers.specs.declared.loaded.Loaded.the-variants.{Done, Refused}
-use Rattle.savedledgers.proofs.SavedBody.{size-pairsIn, flat-pairsIn}
-use Rattle.savedledgers.proofs.Numbers.{length-numbersIn}
-use mathlib.Core.Logic.{_⊎_, inl, inr}
 use Rattle.octets.specs.Digits.{fromLittle}
-use Rattle.ledger.specs.Pairs.{Ruled, isRuled}
+use Rattle.answers.specs.declared.loaded.Loaded.the-variants.{Done, Refused}
 use Rattle.answers.specs.Loaded.{loadedNumber}
 use Rattle.answers.specs.Written.{firstNumber}
+use Rattle.ledger.specs.Ledger.{lengthWrong, roomOf, lent}
+use Rattle.ledger.proofs.Flats.{lent-flat}
+use Rattle.ledger.specs.Pairs.{Ruled, isRuled}
 use Rattle.ledger.proofs.Sizes.{length-right, length-wrong}
 use Rattle.ledger.proofs.IsRuled.{ruled-isRuled, isRuled-ruled}
+use Rattle.savedledgers.specs.Numbers.{numbersIn}
+use Rattle.savedledgers.specs.Saved.{pairsIn, kindOne, pairLength, frameNumber, bodyOf, savedPairs, bodyWrong, readSavedNumber, readSaved, readSavedAfter, kindOf}
 use Rattle.savedledgers.specs.SavedReading.{Refuses, Reads, RightLength, RightFrame, IsKindOne, SavedReading, SavedPairs}
+use Rattle.savedledgers.proofs.SavedBody.{size-pairsIn, flat-pairsIn}
+use Rattle.savedledgers.proofs.Numbers.{length-numbersIn}
 use Rattle.savedledgers.proofs.SavedFrame.{frame-short, frame-length-wrong, frame-kind-wrong, frame-right}
 
 module _ (bytes ledger : List ℕ) where
@@ -112,7 +112,7 @@ number-sound bytes ledger z = go (lengthWrong ledger) refl
 
 -- ---- the entries
 
--- ys and zs are what stands in the two parts of the ledger, the numbers and the zeros
+-- ys and zs are the two parts of the ledger, the numbers and the zeros
 pub load-placed : (ledger body ys zs : List ℕ) (n : ℕ) → length ledger % 2 ≡ 0 → n ≤ roomOf ledger → ys ≡ numbersIn (length (midOf 0 (2 * n - 0) ledger)) body
     → let o = putMid 0 (2 * n - 0) ledger ys in zs ≡ replicate (length (midOf (2 * n) (length o - 2 * n) o)) 0
     → putMid (2 * n) (length o - 2 * n) o zs ≡ lent (roomOf ledger) (pairsIn n body)

@@ -8,6 +8,8 @@ use lib.ListN.{length, take, drop}
 use lib.Seq.{take-at}
 use Rattle.octets.specs.Digits.{Below, toLittle}
 use Rattle.octets.proofs.Digits.{below-drop}
+use Rattle.answers.specs.declared.loaded.Loaded.the-variants.{Done}
+use Rattle.answers.specs.declared.written.Written.the-variants.{Bytes}
 use Rattle.ledger.specs.Pairs.{Pairs, size, Ruled, endsBy, isRuled}
 use Rattle.ledger.specs.Ledger.{largest, lengthWrong, roomOf, obeys, pairsOf, lent}
 use Rattle.ledger.proofs.Lents.{length-lent, pairsOf-lent, rule-lent, rule-ruled, lent-pairsOf, size-pairsOf}
@@ -17,8 +19,6 @@ use Rattle.ledger.proofs.LedgerRefusal.{refusal-none}
 use Rattle.savedledgers.specs.Saved.{kindOne, pairBytes, framed, bodyOf, frameNumber, savedPairs, readSavedNumber, readSaved, readSavedAfter, savedOf, writeSaved, writeSavedAfter}
 use Rattle.savedledgers.specs.SavedReading.{Reads}
 use Rattle.savedledgers.specs.SavedRoundTrip.{Rewrites, SavedRoundTrip}
-use Rattle.answers.specs.declared.loaded.Loaded.the-variants.{Done}
-use Rattle.answers.specs.declared.written.Written.the-variants.{Bytes}
 use Rattle.savedledgers.proofs.SavedBody.{size-pairsIn, length-pairBytes, pairsIn-pairBytes, pairBytes-pairsIn}
 use Rattle.savedledgers.proofs.SavedFrame.{body-back, frame-back, framed-same}
 use Rattle.savedledgers.proofs.SavedReading.{Sound, number-sound, number-none, reads-done, reads}

@@ -8,19 +8,19 @@ use native.Mathlib.Nat.{sub-zero}
 use borrow.Rule.Slice.PartMut.{putMid}
 use lib.ListN.{length, take, drop, length-append}
 use lib.Seq.{take-at, drop-at, drop-drop}
-use Rattle.ledger.specs.Pairs.{Pairs, size}
-use Rattle.ledger.specs.Ledger.{lengthWrong, obeys, pairsOf, ledgerRefusal}
-use Rattle.savedledgers.specs.Numbers.{numberBytes}
-use Rattle.savedledgers.specs.Saved.{kindOne, frameOf, pairBytes, savedOf, writeSavedNumber, writeSaved, writeSavedAfter, framed}
 use Rattle.answers.specs.declared.written.Written.the-variants.{Bytes}
-use Rattle.savedledgers.proofs.SavedBody.{length-pairBytes, flat-used, pairBytes-flat}
-use Rattle.savedledgers.proofs.SavedFrame.{framed-is, length-frameOf}
-use Rattle.savedledgers.specs.SavedWriting.{SavedWriting, SavedBytes}
-use Rattle.savedledgers.proofs.SavedReading.{right-length}
-use Rattle.ledger.proofs.Sizes.{length-wrong}
-use Rattle.ledger.proofs.LedgerRefusal.{refusal-53, refusal-1, refusal-none, refusal-zero}
 use Rattle.answers.specs.Written.{roomNumber, Refuses}
 use Rattle.answers.proofs.WrittenBy.{first-some, first-none, first-zero, room-short, room-enough, written, written-only, refuses, writes}
+use Rattle.ledger.specs.Pairs.{Pairs, size}
+use Rattle.ledger.specs.Ledger.{lengthWrong, obeys, pairsOf, ledgerRefusal}
+use Rattle.ledger.proofs.Sizes.{length-wrong}
+use Rattle.ledger.proofs.LedgerRefusal.{refusal-53, refusal-1, refusal-none, refusal-zero}
+use Rattle.savedledgers.specs.Numbers.{numberBytes}
+use Rattle.savedledgers.specs.Saved.{kindOne, frameOf, pairBytes, savedOf, writeSavedNumber, writeSaved, writeSavedAfter, framed}
+use Rattle.savedledgers.specs.SavedWriting.{SavedWriting, SavedBytes}
+use Rattle.savedledgers.proofs.SavedBody.{length-pairBytes, flat-used, pairBytes-flat}
+use Rattle.savedledgers.proofs.SavedFrame.{framed-is, length-frameOf}
+use Rattle.savedledgers.proofs.SavedReading.{right-length}
 
 pub savedOf-is : (ps : Pairs) → savedOf ps ≡ frameOf kindOne (16 * size ps) ++ pairBytes ps
 unfolding savedOf
@@ -73,7 +73,7 @@ accepted ledger out n e =
 
 -- ---- the bytes
 
--- ys and zs are what stands in the two parts of the lent bytes, the frame and the pairs
+-- ys and zs are the two parts of the lent bytes, the frame and the pairs
 pub save-placed : (ledger out ys zs : List ℕ) (used : ℕ) → used ≡ size (pairsOf ledger) → 6 + 16 * used ≤ length out
     → ys ≡ frameOf kindOne (16 * used) → zs ≡ numberBytes (take (2 * used - 0) ledger)
     → let saved = savedOf (pairsOf ledger) in putMid 6 (6 + 16 * used - 6) (putMid 0 6 out ys) zs ≡ saved ++ drop (length saved) out

@@ -9,11 +9,11 @@ use lib.Dec.{leb, ltb, eqb}
 use lib.ListN.{length, take, drop}
 use Rattle.octets.specs.Digits.{fromLittle, toLittle}
 use Rattle.answers.specs.Written.{firstNumber, roomNumber, writtenBy, writtenAfter}
-use Rattle.ledger.specs.Pairs.{Pairs, none, pair, size, isRuled}
-use Rattle.ledger.specs.Ledger.{lengthWrong, ledgerRefusal, pairsOf, lent, roomOf}
 use Rattle.answers.specs.declared.loaded.Loaded.{Loaded}
 use Rattle.answers.specs.declared.loaded.Loaded.the-variants.{Done, Refused}
 use Rattle.answers.specs.declared.written.Written.{Written}
+use Rattle.ledger.specs.Pairs.{Pairs, none, pair, size, isRuled}
+use Rattle.ledger.specs.Ledger.{lengthWrong, ledgerRefusal, pairsOf, lent, roomOf}
 
 -- ---- the frame, which every kind of record shares
 

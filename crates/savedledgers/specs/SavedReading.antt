@@ -6,11 +6,11 @@ use mathlib.Core.Bool.{true}
 use mathlib.Core.List.{List}
 use lib.ListN.{length, take, drop}
 use Rattle.octets.specs.Digits.{fromLittle}
+use Rattle.answers.specs.Loaded.{loadedNumber}
+use Rattle.answers.specs.declared.loaded.Loaded.the-variants.{Done}
 use Rattle.ledger.specs.Pairs.{Pairs, none, pair, Ruled, isRuled}
 use Rattle.ledger.specs.Ledger.{lent, roomOf}
-use Rattle.answers.specs.Loaded.{loadedNumber}
 use Rattle.savedledgers.specs.Saved.{pairsIn, savedPairs, readSaved, readSavedAfter}
-use Rattle.answers.specs.declared.loaded.Loaded.the-variants.{Done}
 
 -- the bytes are refused with this number, and the ledger stays as it is
 pub record Refuses (bytes ledger : List ℕ) (k : ℕ) : Type 0 where

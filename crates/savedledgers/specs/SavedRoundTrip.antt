@@ -5,12 +5,12 @@ use mathlib.Core.Bool.{true, false}
 use mathlib.Core.List.{List, [], _∷_, _++_}
 use lib.ListN.{length, take, drop}
 use Rattle.octets.specs.Digits.{Below}
+use Rattle.answers.specs.declared.loaded.Loaded.the-variants.{Done}
+use Rattle.answers.specs.declared.written.Written.the-variants.{Bytes}
 use Rattle.ledger.specs.Pairs.{none, pair, size, endsBy}
 use Rattle.ledger.specs.Ledger.{lengthWrong, roomOf, obeys, pairsOf}
 use Rattle.savedledgers.specs.Saved.{readSavedNumber, readSaved, readSavedAfter, savedOf, writeSaved, writeSavedAfter}
 use Rattle.savedledgers.specs.SavedReading.{Reads}
-use Rattle.answers.specs.declared.loaded.Loaded.the-variants.{Done}
-use Rattle.answers.specs.declared.written.Written.the-variants.{Bytes}
 
 -- the ledger l is written as the bytes h, before what else is lent
 pub record Rewrites (h l : List ℕ) : Type 0 where

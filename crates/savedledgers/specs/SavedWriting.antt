@@ -6,9 +6,9 @@ use mathlib.Core.Bool.{true, false}
 use mathlib.Core.List.{List, [], _++_}
 use lib.ListN.{length}
 use Rattle.octets.specs.Digits.{toLittle}
+use Rattle.answers.specs.Written.{Refuses, Writes}
 use Rattle.ledger.specs.Pairs.{Pairs, none, pair, size}
 use Rattle.ledger.specs.Ledger.{obeys, pairsOf}
-use Rattle.answers.specs.Written.{Refuses, Writes}
 use Rattle.savedledgers.specs.Saved.{pairBytes, savedOf, writeSaved, writeSavedAfter}
 use Rattle.savedledgers.specs.SavedReading.{RightLength}
 

@@ -2,30 +2,30 @@
 use Prim.Native.Nat.{ℕ, zero, suc, _+_, _-_, _≤_, _<_}
 use mathlib.Core.Path.{_≡_, refl, sym, ap, _∙_}
 use mathlib.Core.List.{List, [], _∷_, _++_}
+use mathlib.Core.Bool.{true, false, and-eq-true-iff}
 use native.Mathlib.Omega.{arith}
 use native.Mathlib.Numerals.{add-one}
+use borrow.Author.Tests.{leb-true}
 use lib.ListN.{length, getD, set, take, length-append, replicate}
 use lib.Seq.{sets, take-suc, length-take-le}
+use lib.Dec.{leb}
 use Rattle.octets.specs.Decimal.{decimal}
 use Rattle.octets.proofs.Decimals.{length-decimal, width-20}
-use Rattle.receiver.specs.declared.receive.Verdict.{Verdict as Shown}
-use Rattle.receiver.specs.declared.receive.Verdict.the-variants.{Guess, Result, Broken}
-use Rattle.receiver.specs.Answers.{verdictIs}
-use Rattle.screen.specs.Screen.{brokenWord, onWord, guessWord, resultWord, endedWord, ofWord, unknownWord, bytesWord, lineFeed, countText, brokenText, endedText, frontText, bytesText, lineText, lineOf, lineFor, lineTextOf, screenNumber}
 use Rattle.answers.specs.Written.{roomNumber}
 use Rattle.answers.proofs.WritesAt.{sets-append}
-use mathlib.Core.Bool.{true, false, and-eq-true-iff}
-use borrow.Author.Tests.{leb-true}
-use lib.Dec.{leb}
 use Rattle.ledger.specs.Pairs.{Pairs, none, pair, total, Ruled, endsBy}
 use Rattle.ledger.specs.Ledger.{largest, pairsOf}
 use Rattle.transfer.specs.declared.state.Transfer.{Transfer}
 use Rattle.transfer.specs.Transfer.{endedOf, world, verdictOf, storedOf}
 use Rattle.transfer.specs.Fit.{fitsLedger}
 use Rattle.transfer.proofs.Together.{ruled}
-use Rattle.screen.specs.declared.line.Numbers.{Numbers}
+use Rattle.receiver.specs.declared.receive.Verdict.{Verdict as Shown}
+use Rattle.receiver.specs.declared.receive.Verdict.the-variants.{Guess, Result, Broken}
+use Rattle.receiver.specs.Answers.{verdictIs}
 use Rattle.receiver.specs.Stored.{storedCut}
 use Rattle.receiver.proofs.Ran.{fits-some}
+use Rattle.screen.specs.Screen.{brokenWord, onWord, guessWord, resultWord, endedWord, ofWord, unknownWord, bytesWord, lineFeed, countText, brokenText, endedText, frontText, bytesText, lineText, lineOf, lineFor, lineTextOf, screenNumber}
+use Rattle.screen.specs.declared.line.Numbers.{Numbers}
 
 -- one byte more of a word
 pub put-next : (word out : List ℕ) (at i : ℕ) → i < length word → set (sets out at (take i word)) (at + i) (getD word i 0) ≡ sets out at (take (i + 1) word)

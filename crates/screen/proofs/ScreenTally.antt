@@ -5,6 +5,7 @@ use mathlib.Core.Bool.{true}
 use mathlib.Core.List.{List}
 use native.Mathlib.Omega.{arith}
 use lib.ListN.{length}
+use Rattle.answers.specs.Written.{roomNumber, writtenBy, writtenAfter}
 use Rattle.ledger.specs.Pairs.{Pairs}
 use Rattle.ledger.specs.Ledger.{largest}
 use Rattle.transfer.specs.Transfer.{World, verdictOf, storedOf}
@@ -20,7 +21,6 @@ use Rattle.receiver.proofs.Taking.{fits-parts}
 use Rattle.screen.specs.Screen.{lineOf, lineFor, screenNumber, screenOf, screenAfter}
 use Rattle.screen.specs.ScreenTally.{tallyBytes, tallyLine, ScreenTally}
 use Rattle.screen.proofs.Screen.{fit, stored-whole}
-use Rattle.answers.specs.Written.{roomNumber, writtenBy, writtenAfter}
 
 module _ (w : World) (file : List ℕ) (R : ℕ) (before : Pairs) (b : Begun w file R before) (ks : List Call) where
   list : AfterList R before file (after w ks) (tallyOf (length file) R before ks)

@@ -10,8 +10,8 @@ use Rattle.transfer.specs.declared.state.Transfer.{Transfer}
 use Rattle.transfer.specs.Transfer.{endedOf, World, world, Verdict, guess, result, broken, verdictOf, storedOf}
 use Rattle.transfer.specs.Fit.{fitsLedger}
 use Rattle.receiver.specs.declared.receive.Verdict.{Verdict as Shown}
-use Rattle.screen.specs.declared.line.Numbers.{Numbers}
 use Rattle.receiver.specs.Answers.{verdictIs}
+use Rattle.screen.specs.declared.line.Numbers.{Numbers}
 
 -- ---- words
 

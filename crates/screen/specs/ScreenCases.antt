@@ -4,10 +4,10 @@ use mathlib.Core.Path.{_≡_}
 use mathlib.Core.List.{List, [], _∷_, _++_}
 use lib.ListN.{length, replicate}
 use Rattle.octets.specs.Cases.{AllHold}
+use Rattle.answers.specs.declared.written.Written.the-variants.{Bytes, Refused}
 use Rattle.eblock.specs.Header.{bytesOf}
 use Rattle.transfer.specs.Calls.{Call, receive, begun, after}
 use Rattle.transfer.specs.CallCases.{first, second, third}
-use Rattle.answers.specs.declared.written.Written.the-variants.{Bytes, Refused}
 use Rattle.screen.specs.Screen.{lineOf, screenOf, screenAfter}
 
 -- from a file of 8 bytes and a ledger of one pair, the calls leave this line

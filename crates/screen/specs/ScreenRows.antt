@@ -4,10 +4,10 @@ use mathlib.Core.Path.{_≡_}
 use mathlib.Core.Bool.{true, false}
 use mathlib.Core.List.{List}
 use lib.ListN.{length}
+use Rattle.answers.specs.Written.{Refuses, Writes}
 use Rattle.transfer.specs.declared.state.Transfer.{Transfer}
 use Rattle.transfer.specs.Fit.{fitsLedger}
 use Rattle.screen.specs.Screen.{lineFor, screenOf, screenAfter}
-use Rattle.answers.specs.Written.{Refuses, Writes}
 
 -- the premises carry the order of the numbers
 pub record ScreenRows : Type 0 where

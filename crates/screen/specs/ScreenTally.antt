@@ -4,6 +4,7 @@ use mathlib.Core.Path.{_≡_}
 use mathlib.Core.Bool.{true}
 use mathlib.Core.List.{List}
 use lib.ListN.{length}
+use Rattle.answers.specs.Written.{roomNumber, writtenBy, writtenAfter}
 use Rattle.ledger.specs.Pairs.{Pairs, total}
 use Rattle.ledger.specs.Ledger.{largest}
 use Rattle.transfer.specs.declared.state.Transfer.{Transfer}
@@ -15,7 +16,6 @@ use Rattle.transfer.specs.Tally.{Tally, blocksOf, known, endedIn, verdict}
 use Rattle.transfer.specs.AfterList.{Begun, tallyOf}
 use Rattle.receiver.specs.Stored.{storedCut}
 use Rattle.screen.specs.Screen.{lineText, lineOf, screenOf, screenAfter}
-use Rattle.answers.specs.Written.{roomNumber, writtenBy, writtenAfter}
 
 -- the payload bytes taken, and those of the ranges held from the beginning, 0 until a transfer can be resumed
 abbrev pub tallyBytes : Pairs → Tally → ℕ

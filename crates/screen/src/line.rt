@@ -141,7 +141,7 @@ fn put_first(text: &[u8], out: &mut [u8]) -> Written
 fn put_numbers(v: Verdict, n: Numbers, out: &mut [u8]) -> Written
     ensures { λ r. ⌜ (r ≡ writtenBy (roomNumber (length (lineTextOf v n)) (now (out .entry))) (length (lineTextOf v n))) × (now (out .exit) ≡ writtenAfter (roomNumber (length (lineTextOf v n)) (now (out .entry))) (lineTextOf v n) (now (out .entry))) ⌝ }
 {
-    let mut line: [u8; 85] = [0; LONGEST];
+    let mut line = [0; LONGEST];
     let end = put_line(&mut line, v, n);
     put_first(&line[..end], out)
 }

@@ -55,7 +55,7 @@ pub fn meaning(number: u64) -> &'static str {
         42 => "more than 64 host-ports",
         43 => "a list of fewer than 64 entries",
         51 => "a range that is malformed",
-        52 => "more ranges than the ledger has pairs",
+        52 => "ranges that, merged so far, need more pairs than the ledger has",
         53 => "a ledger of an odd number of entries, or of more than 8,192",
         54 => "an empty ledger has no text",
         55 => "too few bytes for the whole output",

@@ -1,4 +1,4 @@
--- `ranges::join_list`: what is left of the list, joined to the ledger as it stands, is the whole list joined to the ledger at entry.
+-- `ranges::join_list`: what is left of the list, joined to the ledger as it is, is the whole list joined to the ledger at entry.
 use Prim.Native.Nat.{ℕ, suc, _+_, _-_, _≤_, _<_}
 use mathlib.Core.Path.{_≡_, refl, sym, ap, _∙_}
 use mathlib.Core.Bool.{true}

@@ -1,4 +1,4 @@
--- `saved::read_numbers`: the entries that hold their numbers, with the numbers still to be read behind them, are the whole.
+-- `saved::read_numbers`: the entries that hold their numbers, with the numbers still to be read after them, are the whole.
 use Prim.Native.Nat.{_*_, _-_, _≤_}
 use mathlib.Core.Path.{_≡_, refl, sym, _∙_}
 use mathlib.Core.List.{_++_, append-nil}
