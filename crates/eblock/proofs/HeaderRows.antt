@@ -3,18 +3,19 @@ use Prim.Native.Nat.{ℕ, _≤_, _<_}
 use mathlib.Core.Path.{_≡_, refl, ap, _∙_}
 use mathlib.Core.Logic.{_⊎_, _≢_}
 use mathlib.Core.Bool.{Bool, true, false}
-use mathlib.Core.List.{List, [], _∷_, _++_, append-assoc}
+use mathlib.Core.List.{List, [], _∷_, _++_}
 use native.Mathlib.Omega.{arith}
-use lib.ListN.{length, drop}
+use lib.ListN.{length}
 use Rattle.octets.specs.Digits.{toBig}
+use Rattle.answers.specs.Written.{Refuses, Writes}
+use Rattle.answers.proofs.WrittenBy.{refuses, writes}
 use Rattle.eblock.specs.Descriptor.{has, faultOf}
-use Rattle.eblock.specs.Header.{descriptorOf, secondOf, thirdOf, bytesOf, refusalOf, readOf, secondField, writeOf, leftBy, number, values, writtenNumber, writtenBytes}
-use Rattle.eblock.specs.HeaderRows.{Reads, Writes, ReadRows, WriteRows}
+use Rattle.eblock.specs.Header.{descriptorOf, secondOf, thirdOf, bytesOf, refusalOf, readOf, secondField, writeNumber, writeOf, writeAfter, number, values}
+use Rattle.eblock.specs.HeaderRows.{Reads, ReadRows, WriteRows}
 use Rattle.eblock.specs.declared.header.Header.{Header}
 use Rattle.eblock.specs.declared.header.Header.the-variants.{Data, Eodc, Refused}
-use Rattle.eblock.specs.declared.header.Written.{Written}
-use Rattle.eblock.specs.declared.header.Written.the-variants.{Bytes, Refused as NotWritten}
-use Rattle.eblock.proofs.Answers as answers
+use Rattle.eblock.proofs.HeaderAnswers as answers
+use Rattle.eblock.proofs.HeaderFields.{length-bytesOf}
 
 -- ---- the reader
 
@@ -56,43 +57,39 @@ read-rows = record { reads-21 = reads-21; reads-fault = reads-fault; reads-15 = 
 -- ---- the writer
 
 module _ (d len third : ℕ) (out : List ℕ) where
-  writes : (a : Written) (left : List ℕ) → (writeOf d third out ≡ a) × (leftBy d len third out ≡ left)
-      → Writes d len third out (writtenNumber a) (writtenBytes a) left
-  writes a left e = record { number-is = ap writtenNumber (e .0); bytes-are = ap writtenBytes (e .0); leaves = e .1 }
+  refused : (k : ℕ) → writeNumber d third out ≡ k → 0 < k → Refuses (writeOf d third out) (writeAfter d len third out) out k
+  unfolding writeOf writeAfter
+  refused k e h = refuses (writeNumber d third out) 17 (bytesOf d (secondField d len) third) out k e h
 
-  refused : (k : ℕ) → (writeOf d third out ≡ NotWritten k) × (leftBy d len third out ≡ out) → Writes d len third out k 0 out
-  unfolding writtenNumber writtenBytes
-  refused k e = writes (NotWritten k) out e
+  written : (second : ℕ) → refusalOf d third ≡ 0 → secondField d len ≡ second → 17 ≤ length out
+      → Writes (writeOf d third out) (writeAfter d len third out) out (d ∷ (toBig 256 8 second ++ toBig 256 8 third)) 17
+  unfolding writeOf writeAfter bytesOf
+  written second r s l =
+      rw s (writes (writeNumber d third out) 17 (bytesOf d second third) out (answers.number-0 d third out r l) (length-bytesOf d second third))
 
-  header : (second : ℕ) → refusalOf d third ≡ 0 → secondField d len ≡ second → 17 ≤ length out
-      → Writes d len third out 0 17 (d ∷ (toBig 256 8 second ++ (toBig 256 8 third ++ drop 17 out)))
-  unfolding writtenNumber writtenBytes bytesOf
-  header second r s l =
-      let w = answers.writes-header d len third out r l in
-      writes (Bytes 17) _ (w .0, w .1 ∙ rw s (ap (λ bs. d ∷ bs) (append-assoc (toBig 256 8 second) (toBig 256 8 third) (drop 17 out))))
-
-  writes-fault : 0 < faultOf d → Writes d len third out (faultOf d) 0 out
-  writes-fault f = refused (faultOf d) (answers.writes-refused d len third out (faultOf d) (answers.refusal-fault d third f) f)
+  writes-fault : 0 < faultOf d → Refuses (writeOf d third out) (writeAfter d len third out) out (faultOf d)
+  writes-fault f = refused (faultOf d) (answers.number-refused d third out (faultOf d) (answers.refusal-fault d third f) f) f
 
   module _ (f : faultOf d ≡ 0) where
-    writes-15 : has 64 d ≡ true → (third ≡ 0) ⊎ (64 < third) → Writes d len third out 15 0 out
-    writes-15 e o = refused 15 (answers.writes-refused d len third out 15 (answers.refusal-15 d third f e o) (omega arith))
+    writes-15 : has 64 d ≡ true → (third ≡ 0) ⊎ (64 < third) → Refuses (writeOf d third out) (writeAfter d len third out) out 15
+    writes-15 e o = refused 15 (answers.number-refused d third out 15 (answers.refusal-15 d third f e o) (omega arith)) (omega arith)
 
-    writes-55 : (has 64 d ≡ true → (0 < third) × (third ≤ 64)) → length out < 17 → Writes d len third out 55 0 out
-    writes-55 n l = refused 55 (answers.writes-short d len third out (go (has 64 d) refl) l)
+    writes-55 : (has 64 d ≡ true → (0 < third) × (third ≤ 64)) → length out < 17 → Refuses (writeOf d third out) (writeAfter d len third out) out 55
+    writes-55 n l = refused 55 (answers.number-55 d third out (go (has 64 d) refl) l) (omega arith)
       where
         go : (b : Bool) → has 64 d ≡ b → refusalOf d third ≡ 0
         go true e = answers.refusal-count d third f e (n e .0) (n e .1)
         go false e = answers.refusal-data d third f e
 
     writes-count : has 64 d ≡ true → 0 < third → third ≤ 64 → 17 ≤ length out
-        → Writes d len third out 0 17 (d ∷ (toBig 256 8 0 ++ (toBig 256 8 third ++ drop 17 out)))
+        → Writes (writeOf d third out) (writeAfter d len third out) out (d ∷ (toBig 256 8 0 ++ toBig 256 8 third)) 17
     unfolding secondField
-    writes-count e z m l = header 0 (answers.refusal-count d third f e z m) (rw e) l
+    writes-count e z m l = written 0 (answers.refusal-count d third f e z m) (rw e) l
 
-    writes-data : has 64 d ≡ false → 17 ≤ length out → Writes d len third out 0 17 (d ∷ (toBig 256 8 len ++ (toBig 256 8 third ++ drop 17 out)))
+    writes-data : has 64 d ≡ false → 17 ≤ length out
+        → Writes (writeOf d third out) (writeAfter d len third out) out (d ∷ (toBig 256 8 len ++ toBig 256 8 third)) 17
     unfolding secondField
-    writes-data e l = header len (answers.refusal-data d third f e) (rw e) l
+    writes-data e l = written len (answers.refusal-data d third f e) (rw e) l
 
 pub write-rows : WriteRows
 write-rows = record { writes-fault = writes-fault; writes-15 = writes-15; writes-55 = writes-55; writes-count = writes-count; writes-data = writes-data }

@@ -1,7 +1,7 @@
-pub mod Answers
-pub mod Fields
-mod Placed
+pub mod HeaderAnswers
+pub mod HeaderFields
+mod HeaderStores
 pub mod HeaderRows
-pub mod RoundTrips
-pub mod Tables
-pub mod Weighed
+pub mod RoundTrip
+pub mod Table
+pub mod Weights

@@ -8,11 +8,11 @@ use mathlib.Core.List.{List, [], _∷_, _++_}
 use lib.Dec.{ltb, eqb}
 use lib.ListN.{length, getD, take, drop}
 use Rattle.octets.specs.Digits.{fromBig, toBig}
+use Rattle.answers.specs.declared.written.Written.{Written}
+use Rattle.answers.specs.Written.{firstNumber, roomNumber, writtenBy, writtenAfter}
 use Rattle.eblock.specs.Descriptor.{has, eodc, faultOf}
 use Rattle.eblock.specs.declared.header.Header.{Header}
 use Rattle.eblock.specs.declared.header.Header.the-variants.{Data, Eodc, Refused}
-use Rattle.eblock.specs.declared.header.Written.{Written}
-use Rattle.eblock.specs.declared.header.Written.the-variants.{Bytes, Refused as NotWritten}
 
 abbrev pub headerLength : ℕ
 headerLength = 17
@@ -43,7 +43,7 @@ countOutside n = eqb n 0 || ltb countLimit n
 
 -- 11, 12 or 13 by the descriptor, then 15 by n; 0 where both are accepted
 unfoldable pub refusalOf : ℕ → ℕ → ℕ
-refusalOf d third = cond (ltb 0 (faultOf d)) (faultOf d) (cond (has eodc d && countOutside third) 15 0)
+refusalOf d third = firstNumber (faultOf d) (cond (has eodc d && countOutside third) 15 0)
 
 -- what an accepted header means: with EODC the second field says nothing and the third is n
 unfoldable pub meant : ℕ → ℕ → ℕ → Header
@@ -62,20 +62,17 @@ readOf h = cond (ltb 0 (readNumber h)) (Refused (readNumber h)) (meant (descript
 
 -- as above, then 55 where fewer than 17 bytes are lent
 unfoldable pub writeNumber : ℕ → ℕ → List ℕ → ℕ
-writeNumber d third out =
-    cond (ltb 0 (refusalOf d third)) (refusalOf d third) (cond (ltb (length out) headerLength) 55 0)
+writeNumber d third out = firstNumber (refusalOf d third) (roomNumber headerLength out)
 
--- what stands in the second field: the length, or 0 with EODC
+-- the second field: the length, or 0 with EODC
 unfoldable pub secondField : ℕ → ℕ → ℕ
 secondField d len = cond (has eodc d) 0 len
 
 unfoldable pub writeOf : ℕ → ℕ → List ℕ → Written
-writeOf d third out = cond (ltb 0 (writeNumber d third out)) (NotWritten (writeNumber d third out)) (Bytes headerLength)
+writeOf d third out = writtenBy (writeNumber d third out) headerLength
 
--- the lent bytes after it: unchanged by a refusal, and past the header in any case
-unfoldable pub leftBy : ℕ → ℕ → ℕ → List ℕ → List ℕ
-leftBy d len third out =
-    cond (ltb 0 (writeNumber d third out)) out (bytesOf d (secondField d len) third ++ drop headerLength out)
+unfoldable pub writeAfter : ℕ → ℕ → ℕ → List ℕ → List ℕ
+writeAfter d len third out = writtenAfter (writeNumber d third out) (bytesOf d (secondField d len) third) out
 
 -- ---- document 01's number for each case of an answer, 0 where nothing is refused, and the values it carries
 
@@ -88,11 +85,3 @@ unfoldable pub values : Header → List ℕ
 values (Data d len offset) = d ∷ len ∷ offset ∷ []
 values (Eodc d n) = d ∷ n ∷ []
 values (Refused k) = []
-
-unfoldable pub writtenNumber : Written → ℕ
-writtenNumber (Bytes n) = 0
-writtenNumber (NotWritten k) = k
-
-unfoldable pub writtenBytes : Written → ℕ
-writtenBytes (Bytes n) = n
-writtenBytes (NotWritten k) = 0

@@ -5,22 +5,17 @@ use mathlib.Core.Path.{_≡_}
 use mathlib.Core.Logic.{_⊎_, _≢_}
 use mathlib.Core.Bool.{true, false}
 use mathlib.Core.List.{List, [], _∷_, _++_}
-use lib.ListN.{length, drop}
+use lib.ListN.{length}
 use Rattle.octets.specs.Digits.{toBig}
+use Rattle.answers.specs.Written.{Refuses, Writes}
 use Rattle.eblock.specs.Descriptor.{has, faultOf}
-use Rattle.eblock.specs.Header.{descriptorOf, secondOf, thirdOf, readOf, writeOf, leftBy, number, values, writtenNumber, writtenBytes}
+use Rattle.eblock.specs.Header.{descriptorOf, secondOf, thirdOf, readOf, writeOf, writeAfter, number, values}
 use Rattle.eblock.specs.declared.header.Header.the-variants.{Data, Eodc}
 
 -- the reader's answer to these bytes
 pub record Reads (h : List ℕ) (k : ℕ) (vs : List ℕ) : Type 0 where
   pub number-is : number (readOf h) ≡ k
   pub values-are : values (readOf h) ≡ vs
-
--- the writer's answer to these arguments, and the lent bytes after it
-pub record Writes (d len third : ℕ) (out : List ℕ) (k count : ℕ) (left : List ℕ) : Type 0 where
-  pub number-is : writtenNumber (writeOf d third out) ≡ k
-  pub bytes-are : writtenBytes (writeOf d third out) ≡ count
-  pub leaves : leftBy d len third out ≡ left
 
 pub record ReadRows : Type 0 where
   -- 21: there are not 17 bytes
@@ -39,14 +34,15 @@ pub record ReadRows : Type 0 where
 
 pub record WriteRows : Type 0 where
   -- 11, 12 or 13: the descriptor's fault
-  pub writes-fault : (d len third : ℕ) (out : List ℕ) → 0 < faultOf d → Writes d len third out (faultOf d) 0 out
+  pub writes-fault : (d len third : ℕ) (out : List ℕ) → 0 < faultOf d → Refuses (writeOf d third out) (writeAfter d len third out) out (faultOf d)
   -- 15: the number of end markers is not one of 1 to 64
-  pub writes-15 : (d len third : ℕ) (out : List ℕ) → faultOf d ≡ 0 → has 64 d ≡ true → (third ≡ 0) ⊎ (64 < third) → Writes d len third out 15 0 out
+  pub writes-15 : (d len third : ℕ) (out : List ℕ) → faultOf d ≡ 0 → has 64 d ≡ true → (third ≡ 0) ⊎ (64 < third)
+      → Refuses (writeOf d third out) (writeAfter d len third out) out 15
   -- 55: fewer than 17 bytes are lent
   pub writes-55 : (d len third : ℕ) (out : List ℕ) → faultOf d ≡ 0 → (has 64 d ≡ true → (0 < third) × (third ≤ 64)) → length out < 17
-      → Writes d len third out 55 0 out
+      → Refuses (writeOf d third out) (writeAfter d len third out) out 55
   -- else the 17 bytes, 0 in the second field with bit 64 and the length without it; the bytes after them are unchanged
   pub writes-count : (d len third : ℕ) (out : List ℕ) → faultOf d ≡ 0 → has 64 d ≡ true → 0 < third → third ≤ 64 → 17 ≤ length out
-      → Writes d len third out 0 17 (d ∷ (toBig 256 8 0 ++ (toBig 256 8 third ++ drop 17 out)))
+      → Writes (writeOf d third out) (writeAfter d len third out) out (d ∷ (toBig 256 8 0 ++ toBig 256 8 third)) 17
   pub writes-data : (d len third : ℕ) (out : List ℕ) → faultOf d ≡ 0 → has 64 d ≡ false → 17 ≤ length out
-      → Writes d len third out 0 17 (d ∷ (toBig 256 8 len ++ (toBig 256 8 third ++ drop 17 out)))
+      → Writes (writeOf d third out) (writeAfter d len third out) out (d ∷ (toBig 256 8 len ++ toBig 256 8 third)) 17

@@ -1,8 +1,9 @@
 // The 17-byte header, read and written.
 use crate::descriptor;
+use answers::written::Written;
 use octets::big;
 ghost use mathlib.Core.Path.{_≡_};
-ghost use Rattle.eblock.specs.Header.{refusalOf, readOf, secondField, writeOf, leftBy};
+ghost use Rattle.eblock.specs.Header.{refusalOf, readOf, secondField, writeOf, writeAfter};
 
 pub const HEADER_LENGTH: usize = 17;
 // The largest number of end markers that a sender may announce.
@@ -19,12 +20,6 @@ pub enum Header {
         descriptor: u8,
         count: u64,
     },
-    Refused(u8),
-}
-
-// What writing did: the number of bytes written, or the number by which it was refused.
-pub enum Written {
-    Bytes(usize),
     Refused(u8),
 }
 
@@ -86,7 +81,7 @@ fn second_field(d: u8, length: u64) -> u64
 
 // Writes a header into the first 17 bytes of out. third is the offset, or n with EODC.
 pub fn write(d: u8, length: u64, third: u64, out: &mut [u8]) -> Written
-    ensures { λ r. ⌜ (r ≡ writeOf d third (now (out .entry))) × (now (out .exit) ≡ leftBy d length third (now (out .entry))) ⌝ }
+    ensures { λ r. ⌜ (r ≡ writeOf d third (now (out .entry))) × (now (out .exit) ≡ writeAfter d length third (now (out .entry))) ⌝ }
 {
     let k = refusal(d, third);
     if 0 < k {

@@ -5,10 +5,11 @@ use mathlib.Core.Path.{_≡_}
 use mathlib.Core.List.{List, [], _∷_, map}
 use lib.ListN.{length, replicate}
 use Rattle.octets.specs.Cases.{AllHold}
-use Rattle.ledger.specs.Answer.{loadedNumber}
+use Rattle.answers.specs.Loaded.{loadedNumber}
+use Rattle.answers.specs.Written.{writtenNumber, writtenBytes}
 use Rattle.eblock.specs.Descriptor.{faultOf}
-use Rattle.eblock.specs.Header.{meant, number, readOf, writtenNumber, writtenBytes, writeOf, leftBy, bytesOf}
-use Rattle.rangelists.specs.RangeText.{readRanges, rangesLeft}
+use Rattle.eblock.specs.Header.{meant, number, readOf, writeOf, writeAfter, bytesOf}
+use Rattle.rangelists.specs.RangeText.{readRanges, readRangesAfter}
 use Rattle.transfer.specs.Receive.{Answer, took}
 use Rattle.transfer.specs.Calls.{Call, receive, begun, answersOf, after}
 
@@ -38,7 +39,7 @@ abbrev pub Holds : Case → Type 0
 Holds (header d second third bytes) =
     (readOf bytes ≡ meant d second third)
     × (writtenBytes (writeOf d third lentBytes) ≡ 17)
-    × (leftBy d second third lentBytes ≡ bytes)
+    × (writeAfter d second third lentBytes ≡ bytes)
 Holds (descriptor d fault) =
     (faultOf d ≡ fault)
     × (number (readOf (bytesOf d 0 0)) ≡ fault)
@@ -50,7 +51,7 @@ Holds (received calls fault ledger) =
     × (after start calls .t .fault ≡ fault)
     × (after start calls .lent .claimed ≡ ledger)
 Holds (ranges text k ledger) =
-    (loadedNumber (readRanges text lentLedger) ≡ k) × (rangesLeft text lentLedger ≡ ledger)
+    (loadedNumber (readRanges text lentLedger) ≡ k) × (readRangesAfter text lentLedger ≡ ledger)
 
 -- a header of a payload of so many bytes at that offset
 abbrev pub asks : ℕ → ℕ → List ℕ

@@ -1,8 +1,11 @@
--- Numbers, case by case.
+-- `Numbers` holds.
 use mathlib.Core.Path.{_≡_, refl}
 use Rattle.eblock.specs.Header.{number as headerNumber}
 use Rattle.eblock.specs.declared.header.Header.{Header}
 use Rattle.eblock.specs.declared.header.Header.the-variants.{Data, Eodc, Refused as NotRead}
+use Rattle.answers.specs.Written.{writtenNumber, writtenBytes}
+use Rattle.answers.specs.declared.written.Written.{Written}
+use Rattle.answers.specs.declared.written.Written.the-variants.{Bytes, Refused as NotWritten}
 use Rattle.commands.specs.Line.{number as lineNumber, verb}
 use Rattle.commands.specs.declared.line.Line.{Line}
 use Rattle.commands.specs.declared.line.Line.the-variants.{Command, Refused as NoCommand}
@@ -10,6 +13,7 @@ use Rattle.hostlists.specs.HostList.{number as listNumber}
 use Rattle.hostlists.specs.declared.list.Hosts.{Hosts}
 use Rattle.hostlists.specs.declared.list.Hosts.the-variants.{Count, Refused as NoList}
 use Rattle.host.specs.Header.{fieldsOf}
+use Rattle.host.specs.Written.{writtenOf}
 use Rattle.host.specs.Line.{commandOf}
 use Rattle.host.specs.Hosts.{listOf}
 use Rattle.host.specs.Numbers.{Numbers}
@@ -30,10 +34,15 @@ unfolding verb
 verb-is (Command v from to) = refl
 verb-is (NoCommand k) = refl
 
+written : (x : Written) → (writtenOf x .length ≡ writtenBytes x) × (writtenOf x .refused ≡ writtenNumber x)
+unfolding writtenBytes writtenNumber
+written (Bytes n) = (refl, refl)
+written (NotWritten k) = (refl, refl)
+
 list : (x : Hosts) → listOf x .refused ≡ listNumber x
 unfolding listNumber
 list (Count n) = refl
 list (NoList k) = refl
 
 pub numbers : Numbers
-numbers = record { header = header; line = line; verb-is = verb-is; list = list }
+numbers = record { header = header; line = line; verb-is = verb-is; written = written; list = list }

@@ -1,5 +1,6 @@
 pub mod Received
 pub mod Header
+pub mod Written
 pub mod Line
 pub mod Hosts
 pub mod Numbers

@@ -1,10 +1,10 @@
 // The calls on one transfer, which goes in and comes back by value.
+use crate::written;
 use crate::written::Written;
 use receiver::receive::Answer;
 use receiver::receive::Receiver;
 use receiver::start;
 use screen::line;
-use screen::line::Line;
 use transfer::state::Transfer;
 use verdicts::verdict::Verdict;
 ghost use mathlib.Core.Path.{_≡_};
@@ -13,8 +13,9 @@ ghost use Rattle.transfer.specs.Transfer.{world, startNumber, startOf, startLea
 ghost use Rattle.transfer.specs.Receive.{receiveOf};
 ghost use Rattle.verdicts.specs.Verdict.{verdictIs};
 ghost use Rattle.receiver.specs.Stored.{storedCut};
-ghost use Rattle.screen.specs.Screen.{lineNumber, lineBytes, screenOf, screenLeaves};
+ghost use Rattle.screen.specs.Screen.{screenOf, screenAfter};
 ghost use Rattle.host.specs.Received.{wordNumber, receivedBy};
+ghost use Rattle.host.specs.Written.{writtenOf};
 
 #[repr(C)]
 pub struct Started {
@@ -107,18 +108,8 @@ pub extern "C" fn cob_stored(transfer: Transfer, ledger: &[u64]) -> u64
 
 #[no_mangle]
 pub extern "C" fn cob_screen_line(transfer: Transfer, ledger: &[u64], out: &mut [u8]) -> Written
-    ensures { λ r. ⌜ (let line = screenOf transfer (now (ledger .entry)) (now (out .entry)) in (r .length ≡ lineBytes line) × (r .refused ≡ lineNumber line) × (now (out .exit) ≡ screenLeaves transfer (now (ledger .entry)) (now (out .entry)))) ⌝ }
+    ensures { λ r. ⌜ (r ≡ writtenOf (screenOf transfer (now (ledger .entry)) (now (out .entry)))) × (now (out .exit) ≡ screenAfter transfer (now (ledger .entry)) (now (out .entry))) ⌝ }
 {
     let receiver = Receiver { transfer: transfer };
-    let answer = line::write(receiver, ledger, out);
-    match answer {
-        Line::Bytes(n) => Written {
-            length: n,
-            refused: 0,
-        },
-        Line::Refused(k) => Written {
-            length: 0,
-            refused: k,
-        },
-    }
+    written::from_answer(line::write(receiver, ledger, out))
 }

@@ -1,10 +1,12 @@
 // The block header.
+use crate::written;
 use crate::written::Written;
 use eblock::header;
 use eblock::header::Header;
 ghost use mathlib.Core.Path.{_≡_};
-ghost use Rattle.eblock.specs.Header.{readOf, writeOf, leftBy, writtenNumber, writtenBytes};
+ghost use Rattle.eblock.specs.Header.{readOf, writeOf, writeAfter};
 ghost use Rattle.host.specs.Header.{fieldsOf};
+ghost use Rattle.host.specs.Written.{writtenOf};
 
 #[repr(C)]
 pub struct Fields {
@@ -60,17 +62,7 @@ pub extern "C" fn cob_header_write(
     third: u64,
     out: &mut [u8],
 ) -> Written
-    ensures { λ r. ⌜ (let answer = writeOf descriptor third (now (out .entry)) in (r .length ≡ writtenBytes answer) × (r .refused ≡ writtenNumber answer) × (now (out .exit) ≡ leftBy descriptor length third (now (out .entry)))) ⌝ }
+    ensures { λ r. ⌜ (r ≡ writtenOf (writeOf descriptor third (now (out .entry)))) × (now (out .exit) ≡ writeAfter descriptor length third (now (out .entry))) ⌝ }
 {
-    let answer = header::write(descriptor, length, third, out);
-    match answer {
-        header::Written::Bytes(n) => Written {
-            length: n,
-            refused: 0,
-        },
-        header::Written::Refused(k) => Written {
-            length: 0,
-            refused: k,
-        },
-    }
+    written::from_answer(header::write(descriptor, length, third, out))
 }

@@ -12,4 +12,5 @@ pub mod Zeros
 pub mod Rules
 pub mod Meanings
 pub mod Indexed
-pub mod Answers
+pub mod IsRuled
+pub mod LedgerRefusal

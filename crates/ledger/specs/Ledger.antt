@@ -41,6 +41,10 @@ follows end a b = (eqb end 0 || ltb end a) && ltb a b
 unfoldable pub obeys : List ℕ → Bool
 obeys ledger = rule 0 ledger
 
+-- the number by which a ledger that is to be written is refused: 53 for its length, 1 for its rule, 0 where it is accepted
+unfoldable pub ledgerRefusal : List ℕ → ℕ
+ledgerRefusal ledger = cond (lengthWrong ledger) 53 (cond (not (obeys ledger)) 1 0)
+
 -- the used pairs
 unfoldable pub pairsOf : List ℕ → Pairs
 pairsOf [] = none

@@ -1,4 +1,3 @@
 pub mod Pairs
 pub mod Ledger
 pub mod Means
-pub mod Answer

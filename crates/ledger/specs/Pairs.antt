@@ -31,6 +31,11 @@ abbrev pub Ruled : ℕ → Pairs → Type 0
 Ruled lo none = Unit {0}
 Ruled lo (pair a b ps) = (lo ≤ a) × (a < b) × Ruled (suc b) ps
 
+-- the same as a test
+unfoldable pub isRuled : ℕ → Pairs → Bool
+isRuled lo none = true
+isRuled lo (pair a b ps) = leb lo a && (ltb a b && isRuled (suc b) ps)
+
 -- the range from s to e joined to the pairs: those that it shares a place with or touches become one with it
 unfoldable pub join : ℕ → ℕ → Pairs → Pairs
 join s e none = pair s e none

@@ -6,7 +6,7 @@ ghost use Prim.Native.Nat.{_%_, min};
 ghost use lib.Dec.{eqb};
 ghost use lib.ListN.{length};
 ghost use Rattle.ledger.specs.Pairs.{total, endsBy};
-ghost use Rattle.ledger.specs.Ledger.{lengthWrong, zeros, follows, obeys, pairsOf};
+ghost use Rattle.ledger.specs.Ledger.{lengthWrong, zeros, follows, obeys, ledgerRefusal, pairsOf};
 
 // The most entries that a ledger may have.
 pub const ENTRY_LIMIT: usize = 8192;
@@ -81,6 +81,19 @@ pub fn obeys(ledger: &[u64], limit: u64) -> bool
         i += 2;
     }
     i == ledger.len()
+}
+
+// The number by which a ledger that is to be written is refused: 53 for its length, 1 for its rule, 0 where it is accepted.
+pub fn refusal(ledger: &[u64]) -> u8
+    ensures { λ r. ⌜ r ≡ ledgerRefusal (now (ledger .entry)) ⌝ }
+{
+    if length_wrong(ledger) {
+        return 53;
+    }
+    if !obeys(ledger, LARGEST) {
+        return 1;
+    }
+    0
 }
 
 // How many bytes the used pairs hold, or the largest number where that is more, which a ledger that obeys its rule never has.

@@ -2,9 +2,9 @@
 use crate::fill;
 use crate::part;
 use crate::print;
+use answers::written::Written;
 use eblock::header;
 use eblock::header::Header;
-use eblock::header::Written;
 use octets::little;
 
 fn print_values(text: &[u8], descriptor: u8, n: u64) {

@@ -2,19 +2,20 @@
 use crate::fill;
 use crate::part;
 use crate::print;
+use answers::written::Written;
 use receiver::receive::Receiver;
 use screen::line;
-use screen::line::Line;
+
 
 pub fn show(receiver: Receiver, ledger: &[u64]) {
     let mut out = [fill::BYTE; 128];
     let answer = line::write(receiver, ledger, &mut out);
     match answer {
-        Line::Bytes(n) => {
+        Written::Bytes(n) => {
             let k = part::of_bytes(n as u64, &out);
             print::word(&out[..k]);
         }
-        Line::Refused(k) => {
+        Written::Refused(k) => {
             print::refused(k);
             print::end();
         }

@@ -1,14 +1,12 @@
-mod Placing
-pub mod RangeTexts
-pub mod Answered
-mod Commas
-pub mod Parted
-mod Bounds
-pub mod OneRanges
-pub mod Merging
-mod Unions
-mod ReadBacks
-pub mod RangeListed
-pub mod RangeRead
-pub mod RangeWritten
+pub mod RangeText
+mod PartsByComma
+pub mod Parts
+mod RangeParsing
+pub mod OneRange
+pub mod RangeMerging
+mod RangeUnion
+pub mod RangeReading
+pub mod RangeWriting
+mod RangeRoundTrip
+pub mod RangeLists
 pub mod RangeCases

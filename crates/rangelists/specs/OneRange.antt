@@ -8,11 +8,11 @@ use Rattle.rangelists.specs.RangeText.{rangeOf}
 use Rattle.rangelists.specs.declared.ranges.Range.the-variants.{Places, Malformed}
 
 -- a number that a range may name: 1 to 20 digits, and at most 2 ^ 64 - 2
-pub record Bound (text : List ℕ) (value : ℕ) : Type 0 where
+pub record Position (text : List ℕ) (value : ℕ) : Type 0 where
   pub shortest : 1 ≤ length text
   pub longest : length text ≤ 20
   pub digits : (i : ℕ) → i < length text → (48 ≤ getD text i 0) × (getD text i 0 ≤ 57)
-  pub says : numberOf text ≡ value
+  pub value-is : numberOf text ≡ value
   pub most : value ≤ 18446744073709551614
 
 -- two such numbers with a hyphen between them, the second no less than the first
@@ -20,8 +20,8 @@ pub record IsRange (text : List ℕ) (first last : ℕ) : Type 0 where
   pub before : List ℕ
   pub after : List ℕ
   pub hyphen : text ≡ before ++ (45 ∷ after)
-  pub start : Bound before first
-  pub end : Bound after last
+  pub start : Position before first
+  pub end : Position after last
   pub rising : first ≤ last
 
 pub record OneRange : Type 0 where

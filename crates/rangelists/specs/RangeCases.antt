@@ -3,9 +3,9 @@ use Prim.Native.Nat.{ℕ, _*_}
 use mathlib.Core.Path.{_≡_}
 use mathlib.Core.List.{List, [], _∷_}
 use lib.ListN.{replicate}
-use Rattle.rangelists.specs.RangeText.{readRanges, rangesLeft}
 use Rattle.octets.specs.Cases.{AllHold}
-use Rattle.ledger.specs.declared.answer.Loaded.the-variants.{Done, Refused}
+use Rattle.answers.specs.declared.loaded.Loaded.the-variants.{Done, Refused}
+use Rattle.rangelists.specs.RangeText.{readRanges, readRangesAfter}
 
 pub data Case : Type 0 where
   -- in a ledger of r pairs the text gives these entries
@@ -18,8 +18,8 @@ abbrev pub sevens : ℕ → List ℕ
 sevens r = replicate (2 * r) 7
 
 abbrev pub Holds : Case → Type 0
-Holds (gives r text ledger) = (readRanges text (sevens r) ≡ Done) × (rangesLeft text (sevens r) ≡ ledger)
-Holds (refused r text k) = (readRanges text (sevens r) ≡ Refused k) × (rangesLeft text (sevens r) ≡ replicate (2 * r) 0)
+Holds (gives r text ledger) = (readRanges text (sevens r) ≡ Done) × (readRangesAfter text (sevens r) ≡ ledger)
+Holds (refused r text k) = (readRanges text (sevens r) ≡ Refused k) × (readRangesAfter text (sevens r) ≡ replicate (2 * r) 0)
 
 -- in this order: none · 0-0,1-1,2-2 · 0-1,5-6x · 0-1,5-6,x · 0-0,2-2,1-1
 abbrev pub cases : List Case

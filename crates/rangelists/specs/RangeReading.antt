@@ -4,11 +4,11 @@ use mathlib.Core.Path.{_≡_}
 use mathlib.Core.Logic.{_⊎_}
 use mathlib.Core.List.{List, [], _∷_, _++_}
 use lib.ListN.{length, replicate}
+use Rattle.answers.specs.Loaded.{loadedNumber}
+use Rattle.answers.specs.declared.loaded.Loaded.the-variants.{Done}
 use Rattle.ledger.specs.Pairs.{Pairs, none, size, join}
 use Rattle.ledger.specs.Ledger.{lent, roomOf}
-use Rattle.ledger.specs.Answer.{loadedNumber}
-use Rattle.rangelists.specs.RangeText.{parts, rangeOf, readRanges, rangesLeft}
-use Rattle.ledger.specs.declared.answer.Loaded.the-variants.{Done}
+use Rattle.rangelists.specs.RangeText.{parts, rangeOf, readRanges, readRangesAfter}
 use Rattle.rangelists.specs.declared.ranges.Range.the-variants.{Places, Malformed}
 
 -- the texts are ranges that, joined to the pairs ps one after another, give qs and never need more than r pairs
@@ -22,7 +22,7 @@ pub data Trouble (r : ℕ) (texts : List (List ℕ)) : ℕ → Type 0 where
   -- it is malformed
   by-51 : (before after : List (List ℕ)) (t : List ℕ) (ps : Pairs) → texts ≡ before ++ (t ∷ after) → Merges r none before ps
       → rangeOf t ≡ Malformed → Trouble r texts 51
-  -- it is a range, with which more than r pairs are needed
+  -- it is a range, and the merged set with it needs more than r pairs
   by-52 : (before after : List (List ℕ)) (t : List ℕ) (ps : Pairs) (s e : ℕ) → texts ≡ before ++ (t ∷ after) → Merges r none before ps
       → rangeOf t ≡ Places s e → r < size (join s e ps) → Trouble r texts 52
 
@@ -30,12 +30,12 @@ pub data Trouble (r : ℕ) (texts : List (List ℕ)) : ℕ → Type 0 where
 pub record Reads (text ledger : List ℕ) (ps : Pairs) : Type 0 where
   pub accepted : readRanges text ledger ≡ Done
   pub number : loadedNumber (readRanges text ledger) ≡ 0
-  pub left : rangesLeft text ledger ≡ lent (roomOf ledger) ps
+  pub after : readRangesAfter text ledger ≡ lent (roomOf ledger) ps
 
 -- the text is refused with this number, and the ledger becomes this one
 pub record Refuses (text ledger : List ℕ) (k : ℕ) (after : List ℕ) : Type 0 where
   pub number : loadedNumber (readRanges text ledger) ≡ k
-  pub left : rangesLeft text ledger ≡ after
+  pub after-is : readRangesAfter text ledger ≡ after
 
 pub record RangeReading (text ledger : List ℕ) : Type 0 where
   -- 53: a ledger whose length is odd or above 8,192 stays as it is

@@ -1,7 +1,7 @@
 -- Restart range lists (document 01, "Control lines"): a-b with commas between, both ends counted, in any order, overlapping or repeated.
-use Prim.Native.Nat.{ℕ, suc, _+_, _-_, _<_, max}
+use Prim.Native.Nat.{ℕ, suc, _-_, _<_, max}
 use mathlib.Core.Path.{_≡_}
-use mathlib.Core.Bool.{Bool, true, cond, _&&_, not}
+use mathlib.Core.Bool.{Bool, true, cond, _&&_}
 use mathlib.Core.List.{List, [], _∷_, _++_}
 use lib.Dec.{leb, ltb, eqb}
 use lib.ListN.{length, getD, take, drop, replicate}
@@ -9,16 +9,16 @@ use Rattle.octets.specs.Decimal.{numberOf, decimal}
 use Rattle.octets.specs.Text.{isDigit, all, leading}
 use Rattle.octets.specs.declared.decimal.Number.{Number}
 use Rattle.octets.specs.declared.decimal.Number.the-variants.{Value, Nothing}
+use Rattle.answers.specs.declared.loaded.Loaded.{Loaded}
+use Rattle.answers.specs.declared.loaded.Loaded.the-variants.{Done, Refused}
+use Rattle.answers.specs.declared.written.Written.{Written}
+use Rattle.answers.specs.Written.{firstNumber, roomNumber, writtenBy, writtenAfter}
 use Rattle.ledger.specs.Pairs.{Pairs, none, pair, size, hit, join}
-use Rattle.ledger.specs.Ledger.{lengthWrong, obeys, pairsOf, lent, roomOf}
-use Rattle.ledger.specs.declared.answer.Loaded.{Loaded}
-use Rattle.ledger.specs.declared.answer.Loaded.the-variants.{Done, Refused}
-use Rattle.ledger.specs.declared.answer.Written.{Written}
-use Rattle.ledger.specs.declared.answer.Written.the-variants.{Bytes, Refused as NotWritten}
+use Rattle.ledger.specs.Ledger.{lengthWrong, obeys, ledgerRefusal, pairsOf, lent, roomOf}
 use Rattle.rangelists.specs.declared.ranges.Range.{Range}
 use Rattle.rangelists.specs.declared.ranges.Range.the-variants.{Places, Malformed}
 
--- the largest end, 2 ^ 64 - 2: the place behind it is a 64-bit number
+-- the largest end, 2 ^ 64 - 2: the place after it is a 64-bit number
 abbrev pub endLimit : ℕ
 endLimit = 18446744073709551614
 
@@ -29,12 +29,12 @@ digitLimit = 20
 -- ---- one range
 
 -- a number of 1 to 20 digits, at most the largest end
-unfoldable pub bound : List ℕ → Bool
-bound text = (leb 1 (length text) && leb (length text) digitLimit) && (all isDigit text && leb (numberOf text) endLimit)
+unfoldable pub isPosition : List ℕ → Bool
+isPosition text = (leb 1 (length text) && leb (length text) digitLimit) && (all isDigit text && leb (numberOf text) endLimit)
 
 -- what reading such a number answers
-unfoldable pub boundOf : List ℕ → Number
-boundOf text = cond (bound text) (Value (numberOf text)) Nothing
+unfoldable pub positionOf : List ℕ → Number
+positionOf text = cond (isPosition text) (Value (numberOf text)) Nothing
 
 -- all the text between two commas: a number, a hyphen, and a number that is no less. It holds the places from the first up to the second.
 unfoldable pub rangeOf : List ℕ → Range
@@ -42,18 +42,19 @@ rangeOf text =
     let k = leading isDigit text in
     let a = take k text in
     let b = drop (suc k) text in
-    cond (bound a && (eqb (getD text k 0) 45 && (bound b && leb (numberOf a) (numberOf b)))) (Places (numberOf a) (suc (numberOf b))) Malformed
+    cond (isPosition a && (eqb (getD text k 0) 45 && (isPosition b && leb (numberOf a) (numberOf b)))) (Places (numberOf a) (suc (numberOf b))) Malformed
 
 -- ---- the list
 
-unfoldable pub inFront : ℕ → List (List ℕ) → List (List ℕ)
-inFront b [] = (b ∷ []) ∷ []
-inFront b (t ∷ ts) = (b ∷ t) ∷ ts
+-- the first text, with a byte before it
+unfoldable pub prependToFirst : ℕ → List (List ℕ) → List (List ℕ)
+prependToFirst b [] = (b ∷ []) ∷ []
+prependToFirst b (t ∷ ts) = (b ∷ t) ∷ ts
 
 -- the texts between the commas, one more than there are commas
 unfoldable pub parts : List ℕ → List (List ℕ)
 parts [] = [] ∷ []
-parts (b ∷ bs) = cond (eqb b 44) ([] ∷ parts bs) (inFront b (parts bs))
+parts (b ∷ bs) = cond (eqb b 44) ([] ∷ parts bs) (prependToFirst b (parts bs))
 
 -- what a list says: the merged set, or the number of the first trouble in reading order
 pub data Merged : Type 0 where
@@ -61,16 +62,16 @@ pub data Merged : Type 0 where
   trouble : ℕ → Merged
 
 -- one range more: 51 where it is malformed, then 52 where the merged set so far needs more than r pairs
-unfoldable pub added : ℕ → Pairs → Range → (Pairs → Merged) → Merged
-added r ps Malformed on = trouble 51
-added r ps (Places s e) on = cond (ltb r (size (join s e ps))) (trouble 52) (on (join s e ps))
+unfoldable pub mergeRange : ℕ → Pairs → Range → (Pairs → Merged) → Merged
+mergeRange r ps Malformed on = trouble 51
+mergeRange r ps (Places s e) on = cond (ltb r (size (join s e ps))) (trouble 52) (on (join s e ps))
 
 unfoldable pub mergedFrom : ℕ → Pairs → List (List ℕ) → Merged
 mergedFrom r ps [] = merged ps
-mergedFrom r ps (t ∷ ts) = added r ps (rangeOf t) (λ qs. mergedFrom r qs ts)
+mergedFrom r ps (t ∷ ts) = mergeRange r ps (rangeOf t) (λ qs. mergedFrom r qs ts)
 
--- how the reader's steps answer: 0 with the merged set in the ledger, or the number of the trouble
-pub record Says (m : Merged) (k : ℕ) (ledger : List ℕ) : Type 0 where
+-- how the reader's steps answer it: 0 with the merged set in the ledger, or the number of the trouble
+pub record Represents (m : Merged) (k : ℕ) (ledger : List ℕ) : Type 0 where
   pub done : k ≡ 0 → (obeys ledger ≡ true) × (m ≡ merged (pairsOf ledger))
   pub stopped : 0 < k → m ≡ trouble k
 
@@ -92,15 +93,15 @@ unfoldable pub loaded : Merged → Loaded
 loaded (merged ps) = Done
 loaded (trouble k) = Refused k
 
-unfoldable pub laidOut : ℕ → ℕ → Merged → List ℕ
-laidOut n r (merged ps) = lent r ps
-laidOut n r (trouble k) = replicate n 0
+unfoldable pub entriesAfter : ℕ → ℕ → Merged → List ℕ
+entriesAfter n r (merged ps) = lent r ps
+entriesAfter n r (trouble k) = replicate n 0
 
 unfoldable pub readRanges : List ℕ → List ℕ → Loaded
 readRanges text ledger = cond (lengthWrong ledger) (Refused 53) (loaded (rangesOf (roomOf ledger) text))
 
-unfoldable pub rangesLeft : List ℕ → List ℕ → List ℕ
-rangesLeft text ledger = cond (lengthWrong ledger) ledger (laidOut (length ledger) (roomOf ledger) (rangesOf (roomOf ledger) text))
+unfoldable pub readRangesAfter : List ℕ → List ℕ → List ℕ
+readRangesAfter text ledger = cond (lengthWrong ledger) ledger (entriesAfter (length ledger) (roomOf ledger) (rangesOf (roomOf ledger) text))
 
 -- ---- the writer: ascending pairs without leading zeros
 
@@ -112,27 +113,17 @@ rangesText none = []
 rangesText (pair a b none) = rangeText a b
 rangesText (pair a b (pair c d ps)) = rangeText a b ++ (44 ∷ rangesText (pair c d ps))
 
--- what stands before a range that n bytes stand before: a comma, unless it is the first
+-- what is between n bytes and the next range: a comma, unless it is the first
 unfoldable pub comma : ℕ → List ℕ
 comma n = cond (eqb n 0) [] (44 ∷ [])
 
--- lent bytes with a text put at a place
-unfoldable pub putAt : ℕ → List ℕ → List ℕ → List ℕ
-putAt at text out = take at out ++ (text ++ drop (at + length text) out)
-
 -- 53, 1 where the ledger breaks its rule, 54 where it is empty, 55 where the lent bytes are too few; 0 where it writes
-unfoldable pub rangesNumber : List ℕ → List ℕ → ℕ
-rangesNumber ledger out =
-    cond (lengthWrong ledger) 53
-    (cond (not (obeys ledger)) 1
-    (cond (eqb (size (pairsOf ledger)) 0) 54
-    (cond (ltb (length out) (length (rangesText (pairsOf ledger)))) 55 0)))
+unfoldable pub writeRangesNumber : List ℕ → List ℕ → ℕ
+writeRangesNumber ledger out =
+    firstNumber (ledgerRefusal ledger) (cond (eqb (size (pairsOf ledger)) 0) 54 (roomNumber (length (rangesText (pairsOf ledger))) out))
 
 unfoldable pub writeRanges : List ℕ → List ℕ → Written
-writeRanges ledger out =
-    cond (ltb 0 (rangesNumber ledger out)) (NotWritten (rangesNumber ledger out)) (Bytes (length (rangesText (pairsOf ledger))))
+writeRanges ledger out = writtenBy (writeRangesNumber ledger out) (length (rangesText (pairsOf ledger)))
 
-unfoldable pub rangesWritten : List ℕ → List ℕ → List ℕ
-rangesWritten ledger out =
-    let text = rangesText (pairsOf ledger) in
-    cond (ltb 0 (rangesNumber ledger out)) out (text ++ drop (length text) out)
+unfoldable pub writeRangesAfter : List ℕ → List ℕ → List ℕ
+writeRangesAfter ledger out = writtenAfter (writeRangesNumber ledger out) (rangesText (pairsOf ledger)) out

@@ -4,38 +4,26 @@ use mathlib.Core.Path.{_≡_}
 use mathlib.Core.Logic.{_⊎_}
 use mathlib.Core.Bool.{true, false}
 use mathlib.Core.List.{List, _∷_, _++_}
-use lib.ListN.{length, drop}
+use lib.ListN.{length}
 use Rattle.octets.specs.Decimal.{inDigits, width}
+use Rattle.answers.specs.Written.{Refuses, Writes}
 use Rattle.ledger.specs.Pairs.{Pairs, none, pair, size}
 use Rattle.ledger.specs.Ledger.{obeys, pairsOf}
-use Rattle.ledger.specs.Answer.{writtenNumber, writtenBytes}
-use Rattle.rangelists.specs.RangeText.{rangesText, writeRanges, rangesWritten}
-
--- the ledger is refused with this number, and the lent bytes stay as they are
-pub record Refuses (ledger out : List ℕ) (k : ℕ) : Type 0 where
-  pub number : writtenNumber (writeRanges ledger out) ≡ k
-  pub bytes : writtenBytes (writeRanges ledger out) ≡ 0
-  pub unchanged : rangesWritten ledger out ≡ out
-
--- this text is written, and the lent bytes after it stay as they are
-pub record Writes (ledger out text : List ℕ) : Type 0 where
-  pub number : writtenNumber (writeRanges ledger out) ≡ 0
-  pub bytes : writtenBytes (writeRanges ledger out) ≡ length text
-  pub left : rangesWritten ledger out ≡ text ++ drop (length text) out
+use Rattle.rangelists.specs.RangeText.{rangesText, writeRanges, writeRangesAfter}
 
 pub record RangeWriting (ledger out : List ℕ) : Type 0 where
   -- 53: its length is odd or above 8,192
-  pub wrong-length : (length ledger % 2 ≡ 1) ⊎ (8192 < length ledger) → Refuses ledger out 53
+  pub wrong-length : (length ledger % 2 ≡ 1) ⊎ (8192 < length ledger) → Refuses (writeRanges ledger out) (writeRangesAfter ledger out) out 53
   -- 1: it breaks the ledger rule
-  pub broken-rule : length ledger % 2 ≡ 0 → length ledger ≤ 8192 → obeys ledger ≡ false → Refuses ledger out 1
+  pub broken-rule : length ledger % 2 ≡ 0 → length ledger ≤ 8192 → obeys ledger ≡ false → Refuses (writeRanges ledger out) (writeRangesAfter ledger out) out 1
   -- 54: it has no pair
-  pub no-pair : length ledger % 2 ≡ 0 → length ledger ≤ 8192 → obeys ledger ≡ true → size (pairsOf ledger) ≡ 0 → Refuses ledger out 54
+  pub no-pair : length ledger % 2 ≡ 0 → length ledger ≤ 8192 → obeys ledger ≡ true → size (pairsOf ledger) ≡ 0 → Refuses (writeRanges ledger out) (writeRangesAfter ledger out) out 54
   -- 55: the text is longer than the lent bytes
   pub too-few-bytes : length ledger % 2 ≡ 0 → length ledger ≤ 8192 → obeys ledger ≡ true → 0 < size (pairsOf ledger)
-      → length out < length (rangesText (pairsOf ledger)) → Refuses ledger out 55
+      → length out < length (rangesText (pairsOf ledger)) → Refuses (writeRanges ledger out) (writeRangesAfter ledger out) out 55
   -- 0
   pub written : length ledger % 2 ≡ 0 → length ledger ≤ 8192 → obeys ledger ≡ true → 0 < size (pairsOf ledger)
-      → length (rangesText (pairsOf ledger)) ≤ length out → Writes ledger out (rangesText (pairsOf ledger))
+      → length (rangesText (pairsOf ledger)) ≤ length out → Writes (writeRanges ledger out) (writeRangesAfter ledger out) out (rangesText (pairsOf ledger)) (length (rangesText (pairsOf ledger)))
 
 -- the text: start and last place of each pair without leading zeros, a hyphen between them, and a comma before the next pair
 pub record RangesText : Type 0 where

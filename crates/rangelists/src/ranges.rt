@@ -1,7 +1,7 @@
 // Restart range lists, as text.
+use answers::loaded::Loaded;
+use answers::written::Written;
 use claims::claim;
-use ledger::answer::Loaded;
-use ledger::answer::Written;
 use ledger::rule;
 use octets::decimal;
 use octets::decimal::Number;
@@ -12,8 +12,10 @@ ghost use mathlib.Core.Path.{_≡_};
 ghost use mathlib.Core.Bool.{true};
 ghost use Prim.Native.Nat.{_+_, _≤_, _<_};
 ghost use lib.ListN.{length};
+ghost use lib.Seq.{sets};
 ghost use Rattle.ledger.specs.Ledger.{entryLimit, largest, obeys, pairsOf, roomOf};
-ghost use Rattle.rangelists.specs.RangeText.{boundOf, rangeOf, added, mergedFrom, Says, merged, parts, readRanges, rangesLeft, comma, rangeText, rangesText, putAt, writeRanges, rangesWritten};
+ghost use Rattle.rangelists.specs.RangeText.{positionOf, rangeOf, mergeRange, mergedFrom, Represents, merged, parts, readRanges, readRangesAfter, comma, rangeText, rangesText, writeRanges, writeRangesAfter};
+ghost use Rattle.answers.specs.WritesAt.{WritesAt};
 
 // What the text between two commas says: the places from start up to end, end not counted, or nothing that is well formed.
 pub enum Range {
@@ -21,10 +23,11 @@ pub enum Range {
     Malformed,
 }
 
-// The largest number that a range may name, 2 ^ 64 - 2: the place behind it is a 64-bit number.
+// The largest number that a range may name, 2 ^ 64 - 2: the place after it is a 64-bit number.
 const END_LIMIT: u64 = 18446744073709551614;
 // The most digits that a number may have, leading zeros counted.
 const DIGIT_LIMIT: usize = 20;
+
 // ---- the writer
 
 // The number of bytes of the range from a up to b.
@@ -35,10 +38,10 @@ fn range_length(a: u64, b: u64) -> usize
     decimal::length(a) + 1 + decimal::length(b - 1)
 }
 
-// Writes the range from a up to b at a place, and answers the place behind it.
+// Writes the range from a up to b at a place, and answers the place after it.
 fn put_range(out: &mut [u8], at: usize, a: u64, b: u64) -> usize
     requires { ⌜ (0 < b) × (at + length (rangeText a b) ≤ length (now out)) ⌝ }
-    ensures { λ r. ⌜ (r ≡ at + length (rangeText a b)) × (now (out .exit) ≡ putAt at (rangeText a b) (now (out .entry))) ⌝ }
+    ensures { λ r. ⌜ WritesAt (now (out .entry)) at (rangeText a b) r (now (out .exit)) ⌝ }
 {
     let hyphen = at + decimal::length(a);
     decimal::write(a, &mut out[at..hyphen]);
@@ -50,8 +53,8 @@ fn put_range(out: &mut [u8], at: usize, a: u64, b: u64) -> usize
     end
 }
 
-// The number of bytes up to the next range where n stand before it: a comma more, unless it is the first.
-fn behind_comma(n: usize) -> usize
+// The number of bytes up to the next range where n are written: a comma more, unless it is the first.
+fn after_comma(n: usize) -> usize
     requires { ⌜ n < largest ⌝ }
     ensures { λ r. ⌜ r ≡ n + length (comma n) ⌝ }
 {
@@ -74,16 +77,16 @@ fn list_length(ledger: &[u64]) -> usize
         if b == 0 {
             return n;
         }
-        n = behind_comma(n) + range_length(a, b);
+        n = after_comma(n) + range_length(a, b);
         i += 2;
     }
     n
 }
 
-// Puts a comma behind n bytes, unless there are none, and answers the place behind it.
+// Writes a comma after n bytes, unless there are none, and answers the place after it.
 fn put_comma(out: &mut [u8], n: usize) -> usize
     requires { ⌜ n + length (comma n) ≤ length (now out) ⌝ }
-    ensures { λ r. ⌜ (r ≡ n + length (comma n)) × (now (out .exit) ≡ putAt n (comma n) (now (out .entry))) ⌝ }
+    ensures { λ r. ⌜ WritesAt (now (out .entry)) n (comma n) r (now (out .exit)) ⌝ }
 {
     if n == 0 {
         return 0;
@@ -95,7 +98,7 @@ fn put_comma(out: &mut [u8], n: usize) -> usize
 // Writes a ledger's ranges.
 fn put_list(ledger: &[u64], out: &mut [u8])
     requires { ⌜ length (rangesText (pairsOf (now ledger))) ≤ length (now out) ⌝ }
-    ensures { λ _. ⌜ now (out .exit) ≡ putAt 0 (rangesText (pairsOf (now (ledger .entry)))) (now (out .entry)) ⌝ }
+    ensures { λ _. ⌜ now (out .exit) ≡ sets (now (out .entry)) 0 (rangesText (pairsOf (now (ledger .entry)))) ⌝ }
 {
     let mut n = 0;
     let mut i = 0;
@@ -112,13 +115,11 @@ fn put_list(ledger: &[u64], out: &mut [u8])
 }
 
 pub fn write(ledger: &[u64], out: &mut [u8]) -> Written
-    ensures { λ r. ⌜ (r ≡ writeRanges (now (ledger .entry)) (now (out .entry))) × (now (out .exit) ≡ rangesWritten (now (ledger .entry)) (now (out .entry))) ⌝ }
+    ensures { λ r. ⌜ (r ≡ writeRanges (now (ledger .entry)) (now (out .entry))) × (now (out .exit) ≡ writeRangesAfter (now (ledger .entry)) (now (out .entry))) ⌝ }
 {
-    if rule::length_wrong(ledger) {
-        return Written::Refused(53);
-    }
-    if !rule::obeys(ledger, rule::LARGEST) {
-        return Written::Refused(1);
+    let k = rule::refusal(ledger);
+    if 0 < k {
+        return Written::Refused(k);
     }
     let n = list_length(ledger);
     if n == 0 {
@@ -134,8 +135,8 @@ pub fn write(ledger: &[u64], out: &mut [u8]) -> Written
 // ---- the reader
 
 // A number of 1 to 20 digits, at most the largest that a range may name.
-fn one_number(text: &[u8]) -> Number
-    ensures { λ r. ⌜ r ≡ boundOf (now (text .entry)) ⌝ }
+fn read_position(text: &[u8]) -> Number
+    ensures { λ r. ⌜ r ≡ positionOf (now (text .entry)) ⌝ }
 {
     if DIGIT_LIMIT < text.len() {
         return Number::Nothing;
@@ -144,7 +145,7 @@ fn one_number(text: &[u8]) -> Number
 }
 
 // What all of the text between two commas says.
-fn one_range(text: &[u8]) -> Range
+fn read_range(text: &[u8]) -> Range
     ensures { λ r. ⌜ r ≡ rangeOf (now (text .entry)) ⌝ }
 {
     let k = text::leading(Kind::Digit, text);
@@ -154,10 +155,10 @@ fn one_range(text: &[u8]) -> Range
     if text[k] != b'-' {
         return Range::Malformed;
     }
-    let Number::Value(a) = one_number(&text[..k]) else {
+    let Number::Value(a) = read_position(&text[..k]) else {
         return Range::Malformed;
     };
-    let Number::Value(b) = one_number(&text[k + 1..]) else {
+    let Number::Value(b) = read_position(&text[k + 1..]) else {
         return Range::Malformed;
     };
     if b < a {
@@ -172,9 +173,9 @@ fn one_range(text: &[u8]) -> Range
 // Joins the range that a text says to the ledger: 0, or the number of the trouble.
 fn join_text(text: &[u8], ledger: &mut [u64]) -> u8
     requires { ⌜ obeys (now ledger) ≡ true ⌝ }
-    ensures { λ r. ⌜ Says (added (roomOf (now (ledger .entry))) (pairsOf (now (ledger .entry))) (rangeOf (now (text .entry))) merged) r (now (ledger .exit)) ⌝ }
+    ensures { λ r. ⌜ Represents (mergeRange (roomOf (now (ledger .entry))) (pairsOf (now (ledger .entry))) (rangeOf (now (text .entry))) merged) r (now (ledger .exit)) ⌝ }
 {
-    let Range::Places { start, end } = one_range(text) else {
+    let Range::Places { start, end } = read_range(text) else {
         return 51;
     };
     if claim::join(ledger, start, end) {
@@ -186,7 +187,7 @@ fn join_text(text: &[u8], ledger: &mut [u64]) -> u8
 // Joins the ranges of a list to the ledger, in reading order: 0, or the number of the first trouble.
 fn join_list(text: &[u8], ledger: &mut [u64]) -> u8
     requires { ⌜ obeys (now ledger) ≡ true ⌝ }
-    ensures { λ r. ⌜ Says (mergedFrom (roomOf (now (ledger .entry))) (pairsOf (now (ledger .entry))) (parts (now (text .entry)))) r (now (ledger .exit)) ⌝ }
+    ensures { λ r. ⌜ Represents (mergedFrom (roomOf (now (ledger .entry))) (pairsOf (now (ledger .entry))) (parts (now (text .entry)))) r (now (ledger .exit)) ⌝ }
 {
     let mut at = 0;
     loop {
@@ -203,7 +204,7 @@ fn join_list(text: &[u8], ledger: &mut [u64]) -> u8
 }
 
 pub fn read(text: &[u8], ledger: &mut [u64]) -> Loaded
-    ensures { λ r. ⌜ (r ≡ readRanges (now (text .entry)) (now (ledger .entry))) × (now (ledger .exit) ≡ rangesLeft (now (text .entry)) (now (ledger .entry))) ⌝ }
+    ensures { λ r. ⌜ (r ≡ readRanges (now (text .entry)) (now (ledger .entry))) × (now (ledger .exit) ≡ readRangesAfter (now (text .entry)) (now (ledger .entry))) ⌝ }
 {
     if rule::length_wrong(ledger) {
         return Loaded::Refused(53);

@@ -1,8 +1,6 @@
-mod Eights
-pub mod Bodies
-pub mod Frames
-pub mod Loads
-pub mod Saves
-pub mod SavedReadings
-pub mod SavedWritings
-pub mod SavedTrips
+mod Numbers
+pub mod SavedBody
+pub mod SavedFrame
+pub mod SavedReading
+pub mod SavedWriting
+pub mod SavedRoundTrip

@@ -2,4 +2,4 @@ pub mod Numbers
 pub mod Saved
 pub mod SavedReading
 pub mod SavedWriting
-pub mod SavedTrip
+pub mod SavedRoundTrip

@@ -3,17 +3,17 @@
 --     length of all that follows   kind      body
 --     4 bytes                      2 bytes   each used pair as two numbers of 8 bytes
 use Prim.Native.Nat.{ℕ, zero, suc, _+_, _-_, _/_, _%_}
-use mathlib.Core.Bool.{Bool, true, cond, _&&_, not}
+use mathlib.Core.Bool.{Bool, cond, _&&_, not}
 use mathlib.Core.List.{List, [], _++_}
 use lib.Dec.{leb, ltb, eqb}
 use lib.ListN.{length, take, drop}
 use Rattle.octets.specs.Digits.{fromLittle, toLittle}
-use Rattle.ledger.specs.Pairs.{Pairs, none, pair, size}
-use Rattle.ledger.specs.Ledger.{lengthWrong, obeys, pairsOf, lent, roomOf}
-use Rattle.ledger.specs.declared.answer.Loaded.{Loaded}
-use Rattle.ledger.specs.declared.answer.Loaded.the-variants.{Done, Refused}
-use Rattle.ledger.specs.declared.answer.Written.{Written}
-use Rattle.ledger.specs.declared.answer.Written.the-variants.{Bytes, Refused as NotWritten}
+use Rattle.answers.specs.Written.{firstNumber, roomNumber, writtenBy, writtenAfter}
+use Rattle.answers.specs.declared.loaded.Loaded.{Loaded}
+use Rattle.answers.specs.declared.loaded.Loaded.the-variants.{Done, Refused}
+use Rattle.answers.specs.declared.written.Written.{Written}
+use Rattle.ledger.specs.Pairs.{Pairs, none, pair, size, isRuled}
+use Rattle.ledger.specs.Ledger.{lengthWrong, ledgerRefusal, pairsOf, lent, roomOf}
 
 -- ---- the frame, which every kind of record shares
 
@@ -50,14 +50,9 @@ unfoldable pub pairsIn : ℕ → List ℕ → Pairs
 pairsIn zero body = none
 pairsIn (suc n) body = pair (fromLittle 256 (take 8 body)) (fromLittle 256 (take 8 (drop 8 body))) (pairsIn n (drop pairLength body))
 
-unfoldable pub bytesOf : Pairs → List ℕ
-bytesOf none = []
-bytesOf (pair a b ps) = toLittle 256 8 a ++ (toLittle 256 8 b ++ bytesOf ps)
-
--- the ledger rule for pairs that are all used, from the place lo on
-unfoldable pub inOrder : ℕ → Pairs → Bool
-inOrder lo none = true
-inOrder lo (pair a b ps) = leb lo a && (ltb a b && inOrder (suc b) ps)
+unfoldable pub pairBytes : Pairs → List ℕ
+pairBytes none = []
+pairBytes (pair a b ps) = toLittle 256 8 a ++ (toLittle 256 8 b ++ pairBytes ps)
 
 -- ---- kind 1: start and end of each used pair
 
@@ -69,37 +64,33 @@ savedPairs bytes = pairsIn (length (bodyOf bytes) / pairLength) (bodyOf bytes)
 
 -- 63: a body that is not whole pairs, or pairs that break the ledger rule
 unfoldable pub bodyWrong : List ℕ → Bool
-bodyWrong bytes = not (eqb (length (bodyOf bytes) % pairLength) 0 && inOrder 0 (savedPairs bytes))
+bodyWrong bytes = not (eqb (length (bodyOf bytes) % pairLength) 0 && isRuled 0 (savedPairs bytes))
 
--- the reader: 53, 61, 62, 63, and 64 where there are more pairs than the ledger has; 0 where it reads
-unfoldable pub savedNumber : List ℕ → List ℕ → ℕ
-savedNumber bytes ledger =
+-- ---- the reader: 53, 61, 62, 63, and 64 where there are more pairs than the ledger has; 0 where it reads
+
+unfoldable pub readSavedNumber : List ℕ → List ℕ → ℕ
+readSavedNumber bytes ledger =
     cond (lengthWrong ledger) 53
-    (cond (ltb 0 (frameNumber kindOne bytes)) (frameNumber kindOne bytes)
+    (firstNumber (frameNumber kindOne bytes)
     (cond (bodyWrong bytes) 63
     (cond (ltb (roomOf ledger) (size (savedPairs bytes))) 64 0)))
 
 unfoldable pub readSaved : List ℕ → List ℕ → Loaded
-readSaved bytes ledger = cond (ltb 0 (savedNumber bytes ledger)) (Refused (savedNumber bytes ledger)) Done
+readSaved bytes ledger = cond (ltb 0 (readSavedNumber bytes ledger)) (Refused (readSavedNumber bytes ledger)) Done
 
-unfoldable pub savedLeft : List ℕ → List ℕ → List ℕ
-savedLeft bytes ledger = cond (ltb 0 (savedNumber bytes ledger)) ledger (lent (roomOf ledger) (savedPairs bytes))
+unfoldable pub readSavedAfter : List ℕ → List ℕ → List ℕ
+readSavedAfter bytes ledger = cond (ltb 0 (readSavedNumber bytes ledger)) ledger (lent (roomOf ledger) (savedPairs bytes))
 
--- the writer: 53, 1, 55
+-- ---- the writer: 53, 1, 55; 0 where it writes
+
 unfoldable pub savedOf : Pairs → List ℕ
-savedOf ps = framed kindOne (bytesOf ps)
+savedOf ps = framed kindOne (pairBytes ps)
 
-unfoldable pub saveNumber : List ℕ → List ℕ → ℕ
-saveNumber ledger out =
-    cond (lengthWrong ledger) 53
-    (cond (not (obeys ledger)) 1
-    (cond (ltb (length out) (length (savedOf (pairsOf ledger)))) 55 0))
+unfoldable pub writeSavedNumber : List ℕ → List ℕ → ℕ
+writeSavedNumber ledger out = firstNumber (ledgerRefusal ledger) (roomNumber (length (savedOf (pairsOf ledger))) out)
 
 unfoldable pub writeSaved : List ℕ → List ℕ → Written
-writeSaved ledger out =
-    cond (ltb 0 (saveNumber ledger out)) (NotWritten (saveNumber ledger out)) (Bytes (length (savedOf (pairsOf ledger))))
+writeSaved ledger out = writtenBy (writeSavedNumber ledger out) (length (savedOf (pairsOf ledger)))
 
-unfoldable pub savedWritten : List ℕ → List ℕ → List ℕ
-savedWritten ledger out =
-    let saved = savedOf (pairsOf ledger) in
-    cond (ltb 0 (saveNumber ledger out)) out (saved ++ drop (length saved) out)
+unfoldable pub writeSavedAfter : List ℕ → List ℕ → List ℕ
+writeSavedAfter ledger out = writtenAfter (writeSavedNumber ledger out) (savedOf (pairsOf ledger)) out

@@ -6,22 +6,22 @@ use mathlib.Core.Bool.{true}
 use mathlib.Core.List.{List}
 use lib.ListN.{length, take, drop}
 use Rattle.octets.specs.Digits.{fromLittle}
-use Rattle.ledger.specs.Pairs.{Pairs, none, pair, Ruled}
+use Rattle.answers.specs.Loaded.{loadedNumber}
+use Rattle.answers.specs.declared.loaded.Loaded.the-variants.{Done}
+use Rattle.ledger.specs.Pairs.{Pairs, none, pair, Ruled, isRuled}
 use Rattle.ledger.specs.Ledger.{lent, roomOf}
-use Rattle.ledger.specs.Answer.{loadedNumber}
-use Rattle.savedledgers.specs.Saved.{pairsIn, inOrder, savedPairs, readSaved, savedLeft}
-use Rattle.ledger.specs.declared.answer.Loaded.the-variants.{Done}
+use Rattle.savedledgers.specs.Saved.{pairsIn, savedPairs, readSaved, readSavedAfter}
 
 -- the bytes are refused with this number, and the ledger stays as it is
 pub record Refuses (bytes ledger : List ℕ) (k : ℕ) : Type 0 where
   pub number : loadedNumber (readSaved bytes ledger) ≡ k
-  pub unchanged : savedLeft bytes ledger ≡ ledger
+  pub unchanged : readSavedAfter bytes ledger ≡ ledger
 
 -- the bytes are read: the ledger holds these pairs, and zeros after them
 pub record Reads (bytes ledger : List ℕ) (ps : Pairs) : Type 0 where
   pub accepted : readSaved bytes ledger ≡ Done
   pub number : loadedNumber (readSaved bytes ledger) ≡ 0
-  pub left : savedLeft bytes ledger ≡ lent (roomOf ledger) ps
+  pub after : readSavedAfter bytes ledger ≡ lent (roomOf ledger) ps
 
 -- the length of a ledger that is not refused
 pub record RightLength (ledger : List ℕ) : Type 0 where
@@ -66,4 +66,4 @@ pub record SavedPairs : Type 0 where
   pub next-pair : (n : ℕ) (body : List ℕ)
       → pairsIn (suc n) body ≡ pair (fromLittle 256 (take 8 body)) (fromLittle 256 (take 8 (drop 8 body))) (pairsIn n (drop 16 body))
   -- the order that the reader tests is the ledger rule
-  pub order-is-rule : (ps : Pairs) → (inOrder 0 ps ≡ true) ↔ Ruled 0 ps
+  pub order-is-rule : (ps : Pairs) → (isRuled 0 ps ≡ true) ↔ Ruled 0 ps

@@ -1,6 +1,6 @@
 // The saved ledger, kind 1: bytes read into a ledger, and a ledger written as bytes.
-use ledger::answer::Loaded;
-use ledger::answer::Written;
+use answers::loaded::Loaded;
+use answers::written::Written;
 use ledger::rule;
 use octets::entries;
 use octets::little;
@@ -8,12 +8,12 @@ ghost use mathlib.Core.Path.{_≡_};
 ghost use Prim.Native.Nat.{_+_, _*_, _/_, _≤_};
 ghost use lib.ListN.{length, take, drop};
 ghost use Rattle.octets.specs.Digits.{fromLittle};
-ghost use Rattle.ledger.specs.Pairs.{size};
+ghost use Rattle.ledger.specs.Pairs.{size, isRuled};
 ghost use Rattle.ledger.specs.Ledger.{pairsOf};
 ghost use Rattle.savedledgers.specs.Numbers.{numbersIn, numberBytes};
-ghost use Rattle.savedledgers.specs.Saved.{frameLength, frameNumber, frameOf, pairLength, pairsIn, inOrder, readSaved, savedLeft, writeSaved, savedWritten};
+ghost use Rattle.savedledgers.specs.Saved.{frameLength, frameNumber, frameOf, pairLength, pairsIn, readSaved, readSavedAfter, writeSaved, writeSavedAfter};
 
-// The length field and the kind, which stand before the body of every kind.
+// The length field and the kind, which are before the body of every kind.
 const FRAME_LENGTH: usize = 6;
 
 const PAIR_LENGTH: usize = 16;
@@ -49,7 +49,7 @@ fn number_at(bytes: &[u8], at: usize) -> u64
 
 // Whether the pairs of a body obey the ledger rule, all of them used.
 fn in_order(body: &[u8]) -> bool
-    ensures { λ r. ⌜ r ≡ inOrder 0 (pairsIn (length (now (body .entry)) / pairLength) (now (body .entry))) ⌝ }
+    ensures { λ r. ⌜ r ≡ isRuled 0 (pairsIn (length (now (body .entry)) / pairLength) (now (body .entry))) ⌝ }
 {
     let n = body.len() / PAIR_LENGTH;
     let mut end: u64 = 0;
@@ -80,7 +80,7 @@ fn read_numbers(bytes: &[u8], entries: &mut [u64])
 
 // Reads a saved ledger into a ledger, whose entries past the pairs become 0; a refusal leaves the ledger as it is.
 pub fn read(bytes: &[u8], ledger: &mut [u64]) -> Loaded
-    ensures { λ r. ⌜ (r ≡ readSaved (now (bytes .entry)) (now (ledger .entry))) × (now (ledger .exit) ≡ savedLeft (now (bytes .entry)) (now (ledger .entry))) ⌝ }
+    ensures { λ r. ⌜ (r ≡ readSaved (now (bytes .entry)) (now (ledger .entry))) × (now (ledger .exit) ≡ readSavedAfter (now (bytes .entry)) (now (ledger .entry))) ⌝ }
 {
     if rule::length_wrong(ledger) {
         return Loaded::Refused(53);
@@ -146,13 +146,11 @@ fn write_numbers(numbers: &[u64], out: &mut [u8])
 
 // Writes the used pairs of a ledger as a saved ledger into the first bytes of out.
 pub fn write(ledger: &[u64], out: &mut [u8]) -> Written
-    ensures { λ r. ⌜ (r ≡ writeSaved (now (ledger .entry)) (now (out .entry))) × (now (out .exit) ≡ savedWritten (now (ledger .entry)) (now (out .entry))) ⌝ }
+    ensures { λ r. ⌜ (r ≡ writeSaved (now (ledger .entry)) (now (out .entry))) × (now (out .exit) ≡ writeSavedAfter (now (ledger .entry)) (now (out .entry))) ⌝ }
 {
-    if rule::length_wrong(ledger) {
-        return Written::Refused(53);
-    }
-    if !rule::obeys(ledger, rule::LARGEST) {
-        return Written::Refused(1);
+    let k = rule::refusal(ledger);
+    if 0 < k {
+        return Written::Refused(k);
     }
     let used = used_pairs(ledger);
     let n = PAIR_LENGTH * used;

@@ -1,5 +1,4 @@
-pub mod Lines
-pub mod Screens
+pub mod Screen
 pub mod ScreenRows
-pub mod ScreenTallies
-pub mod ScreenSets
+pub mod ScreenTally
+pub mod ScreenCases

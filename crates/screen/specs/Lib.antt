@@ -1,4 +1,4 @@
 pub mod Screen
 pub mod ScreenRows
 pub mod ScreenTally
-pub mod ScreenSet
+pub mod ScreenCases

@@ -2,23 +2,20 @@
 use Prim.Native.Nat.{ℕ, _≤_, _<_}
 use mathlib.Core.Path.{_≡_}
 use mathlib.Core.Bool.{true, false}
-use mathlib.Core.List.{List, _++_}
-use lib.ListN.{length, drop}
+use mathlib.Core.List.{List}
+use lib.ListN.{length}
+use Rattle.answers.specs.Written.{Refuses, Writes}
 use Rattle.transfer.specs.declared.state.Transfer.{Transfer}
 use Rattle.transfer.specs.Fit.{fitsLedger}
-use Rattle.screen.specs.Screen.{lineFor, screenOf, screenLeaves, lineNumber, lineBytes}
-
--- the answer's number, how many bytes it says were written, and the lent bytes
-abbrev pub Leaves : Transfer → List ℕ → List ℕ → ℕ → ℕ → List ℕ → Type 0
-Leaves t ledger out number written after =
-    (lineNumber (screenOf t ledger out) ≡ number) × (lineBytes (screenOf t ledger out) ≡ written) × (screenLeaves t ledger out ≡ after)
+use Rattle.screen.specs.Screen.{lineFor, screenOf, screenAfter}
 
 -- the premises carry the order of the numbers
 pub record ScreenRows : Type 0 where
   -- 1: transfer and ledger don't fit
-  pub row-1 : (t : Transfer) (ledger out : List ℕ) → fitsLedger t ledger ≡ false → Leaves t ledger out 1 0 out
+  pub row-1 : (t : Transfer) (ledger out : List ℕ) → fitsLedger t ledger ≡ false → Refuses (screenOf t ledger out) (screenAfter t ledger out) out 1
   -- 55: the lent bytes are too few for the whole line
-  pub row-55 : (t : Transfer) (ledger out : List ℕ) → fitsLedger t ledger ≡ true → length out < length (lineFor t ledger) → Leaves t ledger out 55 0 out
-  -- otherwise the line is written, and the bytes after it stay
+  pub row-55 : (t : Transfer) (ledger out : List ℕ) → fitsLedger t ledger ≡ true → length out < length (lineFor t ledger)
+      → Refuses (screenOf t ledger out) (screenAfter t ledger out) out 55
+  -- otherwise the line is written, and the bytes after it are unchanged
   pub row-written : (t : Transfer) (ledger out : List ℕ) → fitsLedger t ledger ≡ true → length (lineFor t ledger) ≤ length out
-      → let line = lineFor t ledger in Leaves t ledger out 0 (length line) (line ++ drop (length line) out)
+      → Writes (screenOf t ledger out) (screenAfter t ledger out) out (lineFor t ledger) (length (lineFor t ledger))

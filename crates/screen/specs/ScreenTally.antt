@@ -4,6 +4,7 @@ use mathlib.Core.Path.{_≡_}
 use mathlib.Core.Bool.{true}
 use mathlib.Core.List.{List}
 use lib.ListN.{length}
+use Rattle.answers.specs.Written.{roomNumber, writtenBy, writtenAfter}
 use Rattle.ledger.specs.Pairs.{Pairs, total}
 use Rattle.ledger.specs.Ledger.{largest}
 use Rattle.transfer.specs.declared.state.Transfer.{Transfer}
@@ -14,24 +15,24 @@ use Rattle.transfer.specs.Block.{bytesIn}
 use Rattle.transfer.specs.Tally.{Tally, blocksOf, known, endedIn, verdict}
 use Rattle.transfer.specs.AfterList.{Begun, tallyOf}
 use Rattle.receiver.specs.Stored.{storedCut}
-use Rattle.screen.specs.Screen.{lineText, lineOf, roomNumber, answerBy, leftBy, screenOf, screenLeaves}
+use Rattle.screen.specs.Screen.{lineText, lineOf, screenOf, screenAfter}
 
 -- the payload bytes taken, and those of the ranges held from the beginning, 0 until a transfer can be resumed
-abbrev pub bytesOf : Pairs → Tally → ℕ
-bytesOf before t = bytesIn (blocksOf (t .streams)) + total before
+abbrev pub tallyBytes : Pairs → Tally → ℕ
+tallyBytes before t = bytesIn (blocksOf (t .streams)) + total before
 
 unfoldable pub tallyLine : Pairs → Tally → List ℕ
-tallyLine before t = lineText (verdict t) (t .fault) (t .on) (endedIn (t .streams)) (known (t .streams)) (bytesOf before t)
+tallyLine before t = lineText (verdict t) (t .fault) (t .on) (endedIn (t .streams)) (known (t .streams)) (tallyBytes before t)
 
 pub record ScreenTally : Type 0 where
   -- nothing is cut off the stored bytes of a transfer and a ledger that fit, with a file whose length is a 64-bit number
   pub stored-is : (t : Transfer) (file ledger : List ℕ) → t .len ≤ largest → fitsLedger t ledger ≡ true → storedCut t ledger ≡ storedOf (world t file ledger)
   pub stored-after : (w : World) (file : List ℕ) (R : ℕ) (before : Pairs) → Begun w file R before → length file ≤ largest → (ks : List Call)
-      → storedCut (after w ks .t) (after w ks .lent .claimed) ≡ bytesOf before (tallyOf (length file) R before ks)
+      → storedCut (after w ks .t) (after w ks .lent .claimed) ≡ tallyBytes before (tallyOf (length file) R before ks)
   pub line-is : (w : World) (file : List ℕ) (R : ℕ) (before : Pairs) → Begun w file R before → (ks : List Call)
       → lineOf (after w ks) ≡ tallyLine before (tallyOf (length file) R before ks)
   -- the line is never refused by 1, and the tally's is what is written
   pub answer-is : (w : World) (file : List ℕ) (R : ℕ) (before : Pairs) → Begun w file R before → (ks : List Call) (out : List ℕ)
-      → let line = tallyLine before (tallyOf (length file) R before ks) in screenOf (after w ks .t) (after w ks .lent .claimed) out ≡ answerBy (roomNumber line out) line
-  pub leaves : (w : World) (file : List ℕ) (R : ℕ) (before : Pairs) → Begun w file R before → (ks : List Call) (out : List ℕ)
-      → let line = tallyLine before (tallyOf (length file) R before ks) in screenLeaves (after w ks .t) (after w ks .lent .claimed) out ≡ leftBy (roomNumber line out) line out
+      → let line = tallyLine before (tallyOf (length file) R before ks) in screenOf (after w ks .t) (after w ks .lent .claimed) out ≡ writtenBy (roomNumber (length line) out) (length line)
+  pub after-is : (w : World) (file : List ℕ) (R : ℕ) (before : Pairs) → Begun w file R before → (ks : List Call) (out : List ℕ)
+      → let line = tallyLine before (tallyOf (length file) R before ks) in screenAfter (after w ks .t) (after w ks .lent .claimed) out ≡ writtenAfter (roomNumber (length line) out) line out

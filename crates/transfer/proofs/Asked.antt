@@ -9,7 +9,7 @@ use native.Mathlib.Decide.{decLt, ℕ-discrete}
 use borrow.Author.Tests.{lt-ltb, le-ltb, eq-eqb, ne-eqb, ltb-true, ltb-false, eqb-true, eqb-false}
 use lib.Dec.{ltb, eqb}
 use Rattle.eblock.specs.Descriptor.{faultOf}
-use Rattle.eblock.proofs.Tables.{fault-numbers}
+use Rattle.eblock.proofs.Table.{fault-numbers}
 use Rattle.eblock.specs.Header.{countLimit, descriptorOf, secondOf, thirdOf}
 use Rattle.transfer.specs.Header.{isCount, Asks, counts, claims, nothing, faulty, askedOf}
 use Rattle.transfer.specs.Judgement.{Asked, by-descriptor, by-14, by-15, for-count, for-nothing, by-16, for-claim}

@@ -1,6 +1,6 @@
 -- `descriptor::fault`: each test on the way is one of the rule's.
 use mathlib.Core.Path.{_≡_, sym, _∙_}
-use mathlib.Core.Bool.{false}
+use mathlib.Core.Bool.{false, cond}
 use borrow.Author.Needs.{needs}
 use Rattle.eblock.specs.Descriptor.{has, endOfRecord, restartMarker, closesEarly, faultOf}
 use Rattle.eblock.proofs.descriptor.fault.Statement.{statement}
@@ -21,6 +21,16 @@ four c = sym (c .before .has4 .ensures) ∙ c .if4 .left
 
 five : (c : tie.Else5) → closesEarly (c .before .before .before .before .before .before .before .before .before .before .args .d) ≡ false
 five c = sym (c .before .closes-early .ensures) ∙ c .if5 .left
+
+-- the last test decides where they have
+last : (c : tie.After-suspects-count) → faultOf (c .before .before .before .before .before .before .before .before .before .before .before .args .d) ≡ cond (c .suspects-count .result) 13 0
+unfolding faultOf
+last c =
+    let e₅ = c .before in
+    let e₄ = e₅ .before .before in
+    let e₃ = e₄ .before .before in
+    let e₂ = e₃ .before .before in
+    rw (one (e₂ .before .before), two e₂, three e₃, four e₄, five e₅, c .suspects-count .ensures)
 
 has-requires : tie.Need-has-requires
 has-requires c κs = search needs
@@ -70,22 +80,10 @@ suspects-count-requires : tie.Need-suspects-count-requires
 suspects-count-requires c κs = search needs
 
 returns-6 : tie.Need-returns-6
-unfolding faultOf
-returns-6 c =
-    let e₅ = c .before .before in
-    let e₄ = e₅ .before .before in
-    let e₃ = e₄ .before .before in
-    let e₂ = e₃ .before .before in
-    rw (one (e₂ .before .before), two e₂, three e₃, four e₄, five e₅, sym (c .before .suspects-count .ensures) ∙ c .if6 .taken)
+returns-6 c = sym (last (c .before) ∙ rw (c .if6 .taken))
 
 returns-7 : tie.Need-returns-7
-unfolding faultOf
-returns-7 c =
-    let e₅ = c .before .before in
-    let e₄ = e₅ .before .before in
-    let e₃ = e₄ .before .before in
-    let e₂ = e₃ .before .before in
-    rw (one (e₂ .before .before), two e₂, three e₃, four e₄, five e₅, sym (c .before .suspects-count .ensures) ∙ c .if6 .left)
+returns-7 c = sym (last (c .before) ∙ rw (c .if6 .left))
 
 pub fault-spec : {M : Type 1} → statement M
 fault-spec =

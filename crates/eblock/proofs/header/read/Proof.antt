@@ -7,7 +7,7 @@ use borrow.Author.Needs.{needs}
 use Rattle.octets.specs.Digits.{fromBig}
 use Rattle.eblock.specs.Header.{descriptorOf, secondOf, thirdOf, refusalOf}
 use Rattle.eblock.specs.declared.header.Header.the-variants.{Eodc}
-use Rattle.eblock.proofs.Answers.{reads-21, reads-refused, reads-meant, meant-count, meant-data}
+use Rattle.eblock.proofs.HeaderAnswers.{reads-21, reads-refused, reads-meant, meant-count, meant-data}
 use Rattle.eblock.proofs.header.read.Statement.{statement}
 use Rattle.eblock.proofs.header.read.Tie as tie
 

@@ -6,7 +6,7 @@ use native.Mathlib.Omega.{arith}
 use borrow.Author.Needs.{needs}
 use borrow.Author.Tests.{not-true, not-false}
 use Rattle.eblock.specs.Descriptor.{has, eodc, faultOf}
-use Rattle.eblock.proofs.Answers.{refusal-fault, refusal-data, refusal-15, refusal-count}
+use Rattle.eblock.proofs.HeaderAnswers.{refusal-fault, refusal-data, refusal-15, refusal-count}
 use Rattle.eblock.proofs.header.refusal.Statement.{statement}
 use Rattle.eblock.proofs.header.refusal.Tie as tie
 

@@ -5,9 +5,11 @@ use lib.ListN.{length, set, take, drop, length-set, length-take, length-drop}
 use borrow.Author.Needs.{needs}
 use borrow.Rule.Slice.PartMut.{putMid}
 use Rattle.octets.specs.Digits.{toBig}
-use Rattle.eblock.specs.Header.{secondField}
-use Rattle.eblock.proofs.Answers.{writes-refused, writes-short, writes-header}
-use Rattle.eblock.proofs.Placed.{placed}
+use Rattle.answers.proofs.WrittenBy.{refused, written}
+use Rattle.eblock.specs.Header.{headerLength, bytesOf, secondField, writeNumber, writeOf, writeAfter}
+use Rattle.eblock.proofs.HeaderAnswers.{number-refused, number-55, number-0}
+use Rattle.eblock.proofs.HeaderFields.{length-bytesOf}
+use Rattle.eblock.proofs.HeaderStores.{placed}
 use Rattle.eblock.proofs.header.write.Statement.{statement}
 use Rattle.eblock.proofs.header.write.Tie as tie
 
@@ -15,17 +17,19 @@ refusal-requires : tie.Need-refusal-requires
 refusal-requires c κs = search needs
 
 returns : tie.Need-returns
+unfolding writeOf writeAfter
 returns c =
     let x = c .before .before .before .args in
-    let w = writes-refused (x .d) (x .length) (x .third) (x .out .now) (c .before .refusal .result) (sym (c .before .refusal .ensures)) (c .if1 .taken) in
-    (sym (w .0), sym (w .1))
+    let n = number-refused (x .d) (x .third) (x .out .now) _ (sym (c .before .refusal .ensures)) (c .if1 .taken) in
+    refused _ headerLength (bytesOf (x .d) (secondField (x .d) (x .length)) (x .third)) (x .out .now) _ n (c .if1 .taken)
 
 returns-2 : tie.Need-returns-2
+unfolding writeOf writeAfter
 returns-2 c =
     let r = c .before .before in
     let x = r .before .before .args in
-    let w = writes-short (x .d) (x .length) (x .third) (x .out .now) (omega (arith, r .refusal .ensures)) (c .if2 .taken) in
-    (sym (w .0), sym (w .1))
+    let n = number-55 (x .d) (x .third) (x .out .now) (omega (arith, r .refusal .ensures)) (c .if2 .taken) in
+    refused _ headerLength (bytesOf (x .d) (secondField (x .d) (x .length)) (x .third)) (x .out .now) 55 n (omega arith)
 
 slice-write-out : tie.Need-slice-write-out
 slice-write-out c = search needs
@@ -65,6 +69,7 @@ same-length c =
     omega (arith, length-set (x .out .now) 0 (x .d))
 
 returns-3 : tie.Need-returns-3
+unfolding writeOf writeAfter
 returns-3 c =
     let w₂ = c .before .before in
     let w₁ = w₂ .before .before .before .before in
@@ -78,8 +83,10 @@ returns-3 c =
     let n₂ : length (take 8 (drop 9 o₂)) ≡ 8 = simp (length-take, length-drop) (omega (arith, l₂, length-set (x .out .now) 0 (x .d))) in
     let ys : w₁ .write .last .1 .0 ≡ toBig 256 8 (secondField (x .d) (x .length)) = w₁ .write .ensures ∙ rw (n₁, f .second-field .ensures) in
     let zs : w₂ .write2 .last .1 .0 ≡ toBig 256 8 (x .third) = w₂ .write2 .ensures ∙ rw n₂ in
-    let h = writes-header (x .d) (x .length) (x .third) (x .out .now) (omega (arith, r .refusal .ensures)) (omega arith) in
-    (sym (h .0), placed (x .d) (secondField (x .d) (x .length)) (x .third) (x .out .now) _ _ (omega arith) ys zs ∙ sym (h .1))
+    let s = secondField (x .d) (x .length) in
+    let h = written _ headerLength (bytesOf (x .d) s (x .third)) (x .out .now) (number-0 (x .d) (x .third) (x .out .now) (omega (arith, r .refusal .ensures)) (omega arith)) in
+    let l = length-bytesOf (x .d) s (x .third) in
+    (h .0, placed (x .d) s (x .third) (x .out .now) _ _ (omega arith) ys zs ∙ rw l at (h .1))
 
 pub write-spec : {M : Type 1} → statement M
 write-spec =

@@ -1,6 +1,6 @@
 -- `header::cob_header_write`.
-use mathlib.Core.Path.{sym, ap, _∙_}
-use Rattle.eblock.specs.Header.{writtenBytes, writtenNumber}
+use mathlib.Core.Path.{ap, _∙_}
+use Rattle.host.specs.Written.{writtenOf}
 use borrow.Author.Needs.{needs}
 use Rattle.host.proofs.header.cob_header_write.Statement.{statement}
 use Rattle.host.proofs.header.cob_header_write.Tie as tie
@@ -8,40 +8,16 @@ use Rattle.host.proofs.header.cob_header_write.Tie as tie
 write-requires : tie.Need-write-requires
 write-requires c κs = search needs
 
-enum-known-answer : tie.Need-enum-known-answer
-enum-known-answer c = search needs
-
-enum-known-answer-2 : tie.Need-enum-known-answer-2
-enum-known-answer-2 c = search needs
+from-answer-requires : tie.Need-from-answer-requires
+from-answer-requires c κs = search needs
 
 same-length : tie.Need-same-length
 same-length c = search needs
 
 returns : tie.Need-returns
-unfolding writtenBytes writtenNumber
 returns c =
-    let w = c .before .before .before .before .before .write .ensures in
-    let answer = sym (c .before .answer .given .1) ∙ w .0 in
-    (ap writtenBytes answer, ap writtenNumber answer, w .1)
-
-same-length-2 : tie.Need-same-length-2
-same-length-2 c = search needs
-
-returns-2 : tie.Need-returns-2
-unfolding writtenBytes writtenNumber
-returns-2 c =
-    let w = c .before .before .before .before .before .write .ensures in
-    let answer = sym (c .before .answer2 .given .1) ∙ w .0 in
-    (ap writtenBytes answer, ap writtenNumber answer, w .1)
+    let w = c .before .before .before .write .ensures in
+    (c .from-answer .ensures ∙ ap writtenOf (w .0), w .1)
 
 pub cob-header-write-spec : {M : Type 1} → statement M
-cob-header-write-spec =
-    tie.close
-    (tie.spec
-    write-requires
-    enum-known-answer
-    enum-known-answer-2
-    same-length
-    returns
-    same-length-2
-    returns-2)
+cob-header-write-spec = tie.close (tie.spec write-requires from-answer-requires same-length returns)

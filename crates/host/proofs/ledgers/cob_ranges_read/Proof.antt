@@ -1,6 +1,6 @@
 -- `ledgers::cob_ranges_read`.
 use mathlib.Core.Path.{ap, _∙_}
-use Rattle.ledger.specs.Answer.{loadedNumber}
+use Rattle.answers.specs.Loaded.{loadedNumber}
 use borrow.Author.Needs.{needs}
 use Rattle.host.proofs.ledgers.cob_ranges_read.Statement.{statement}
 use Rattle.host.proofs.ledgers.cob_ranges_read.Tie as tie

@@ -1,6 +1,6 @@
 -- `ledgers::number_of`.
 use mathlib.Core.Path.{sym, ap}
-use Rattle.ledger.specs.Answer.{loadedNumber}
+use Rattle.answers.specs.Loaded.{loadedNumber}
 use borrow.Author.Needs.{needs}
 use Rattle.host.proofs.ledgers.number_of.Statement.{statement}
 use Rattle.host.proofs.ledgers.number_of.Tie as tie

@@ -1,4 +1,4 @@
--- `ranges::join_list`: what is left of the list, joined to the ledger as it stands, is the whole list joined to the ledger at entry.
+-- `ranges::join_list`: what is left of the list, joined to the ledger as it is, is the whole list joined to the ledger at entry.
 use Prim.Native.Nat.{ℕ, suc, _+_, _-_, _≤_, _<_}
 use mathlib.Core.Path.{_≡_, refl, sym, ap, _∙_}
 use mathlib.Core.Bool.{true}
@@ -8,10 +8,10 @@ use borrow.Author.Needs.{needs}
 use lib.ListN.{length, take, drop, length-drop}
 use lib.Seq.{take-all, drop-drop}
 use Rattle.ledger.specs.Ledger.{obeys, pairsOf, roomOf}
-use Rattle.rangelists.specs.RangeText.{merged, added, rangeOf, mergedFrom, parts, Says}
+use Rattle.rangelists.specs.RangeText.{merged, mergeRange, rangeOf, mergedFrom, parts, Represents}
 use Rattle.octets.specs.Text.{isNotComma, leading}
 use Rattle.octets.proofs.Texts.{leading-le}
-use Rattle.rangelists.proofs.Merging.{says-stopped, says-done, walk-stop, walk-last, walk-next}
+use Rattle.rangelists.proofs.RangeMerging.{represents-stopped, represents-done, walk-stop, walk-last, walk-next}
 use Rattle.rangelists.proofs.ranges.join_list.Statement.{statement}
 use Rattle.rangelists.proofs.ranges.join_list.Tie as tie
 
@@ -42,7 +42,7 @@ ends-le c =
 -- what was joined is the text up to that comma
 said : (c : tie.After-join-text Inv-loop μ-loop) → let k = c .before .before .before .before .before in let x = k .before .before .before .args in
     let d = drop (k .loop .at) (x .text .now) in
-    Says (added (roomOf (x .ledger .now)) (pairsOf (k .loop .ledger)) (rangeOf (take (leading isNotComma d) d)) merged) (c .join-text .result) (c .join-text .last .1 .0)
+    Represents (mergeRange (roomOf (x .ledger .now)) (pairsOf (k .loop .ledger)) (rangeOf (take (leading isNotComma d) d)) merged) (c .join-text .result) (c .join-text .last .1 .0)
 said c =
     let u = c .before .before .before in
     let k = u .before .before in
@@ -96,7 +96,7 @@ returns c =
     let k = j .before .before .before .before .before in
     let s = k .before .before .before .args .text .now in
     let h : 0 < j .join-text .result = omega arith in
-    says-stopped _ _ _ h (sym (k .loop .inv .3) ∙ walk-stop _ _ _ (drop (k .loop .at) s) _ (said j) h)
+    represents-stopped _ _ _ h (sym (k .loop .inv .3) ∙ walk-stop _ _ _ (drop (k .loop .at) s) _ (said j) h)
 
 same-length-2 : tie.Need-same-length-2 Inv-loop μ-loop
 same-length-2 c =
@@ -110,7 +110,7 @@ returns-2 c =
     let s = k .before .before .before .args .text .now in
     let z : j .join-text .result ≡ 0 = omega arith in
     let e : leading isNotComma (drop (k .loop .at) s) ≡ length (drop (k .loop .at) s) = omega (arith, ends (j .before .before .before), length-drop (k .loop .at) s) in
-    says-done _ _ (said j .done z .0) (sym (k .loop .inv .3) ∙ walk-last _ _ _ (drop (k .loop .at) s) _ (said j) z e)
+    represents-done _ _ (said j .done z .0) (sym (k .loop .inv .3) ∙ walk-last _ _ _ (drop (k .loop .at) s) _ (said j) z e)
 
 add-at : tie.Need-add-at Inv-loop μ-loop
 add-at c = omega (arith, ends-le (c .before .before .before .before .before .before .before))

@@ -7,7 +7,7 @@ use lib.ListN.{length, getD, drop}
 use Rattle.ledger.specs.Ledger.{pairsOf}
 use Rattle.ledger.proofs.Opened.{pairs-unused, pairs-used, pairs-over}
 use Rattle.rangelists.specs.RangeText.{rangesText}
-use Rattle.rangelists.proofs.RangeTexts.{listFrom, listFrom-none, listFrom-all, list-grows, comma-le}
+use Rattle.rangelists.proofs.RangeText.{listFrom, listFrom-none, listFrom-all, list-grows, comma-le}
 use Rattle.rangelists.proofs.ranges.list_length.Statement.{statement}
 use Rattle.rangelists.proofs.ranges.list_length.Tie as tie
 
@@ -47,8 +47,8 @@ returns c =
     let l = k .before .before .args .ledger .now in
     omega (arith, ap length (listFrom-none (k .loop .n) (pairsOf (drop (k .loop .i) l)) (pairs-unused l (k .loop .i) (omega arith) (c .if1 .taken))))
 
-behind-comma-requires : tie.Need-behind-comma-requires Inv-loop μ-loop
-behind-comma-requires c κs = search needs
+after-comma-requires : tie.Need-after-comma-requires Inv-loop μ-loop
+after-comma-requires c κs = search needs
 
 range-length-requires : tie.Need-range-length-requires Inv-loop μ-loop
 range-length-requires c κs = search needs
@@ -71,7 +71,7 @@ loop-again c =
     let l = k .before .before .args .ledger .now in
     let i = k .loop .i in
     let p = pairs-used l i (omega arith) (d .if1 .left) in
-    let g = list-grows (k .loop .n) (c .before .behind-comma .result + c .range-length .result) (getD l i 0) (getD l (i + 1) 0) (pairsOf (drop (i + 2) l)) (omega arith) in
+    let g = list-grows (k .loop .n) (c .before .after-comma .result + c .range-length .result) (getD l i 0) (getD l (i + 1) 0) (pairsOf (drop (i + 2) l)) (omega arith) in
     (omega arith, omega (arith, comma-le (k .loop .n)), g ∙ rw (← p) (k .loop .inv .2))
 
 returns-2 : tie.Need-returns-2 Inv-loop μ-loop
@@ -94,7 +94,7 @@ list-length-spec =
     mul-b
     shared-slice-read-b
     returns
-    behind-comma-requires
+    after-comma-requires
     range-length-requires
     add-n
     add-i

@@ -1,17 +1,15 @@
 -- `ranges::put_comma`.
-use mathlib.Core.Path.{sym, ap}
+use mathlib.Core.Path.{ap}
 use native.Mathlib.Omega.{arith}
 use borrow.Author.Needs.{needs}
 use lib.ListN.{length, length-set}
-use Rattle.rangelists.proofs.RangeTexts.{comma-none, comma-one}
-use Rattle.rangelists.proofs.Placing.{put-none, put-one}
+use Rattle.rangelists.proofs.RangeText.{comma-none, comma-one}
 use Rattle.rangelists.proofs.ranges.put_comma.Statement.{statement}
 use Rattle.rangelists.proofs.ranges.put_comma.Tie as tie
 
 returns : tie.Need-returns
 returns c =
-    let out = c .before .args .out .now in
-    (rw (c .if1 .taken, comma-none), rw (c .if1 .taken, comma-none) (sym (put-none 0 out)))
+    (rw (c .if1 .taken, comma-none), rw (c .if1 .taken, comma-none))
 
 slice-write-out : tie.Need-slice-write-out
 slice-write-out c =
@@ -28,7 +26,7 @@ returns-2 : tie.Need-returns-2
 returns-2 c =
     let x = c .before .args in
     let k = comma-one (x .n) (omega arith) in
-    (omega (arith, ap length k), rw k (put-one (x .n) 44 (x .out .now) (omega (arith, ap length k))))
+    (omega (arith, ap length k), rw k)
 
 pub put-comma-spec : {M : Type 1} → statement M
 put-comma-spec = tie.close (tie.spec returns slice-write-out add-result same-length returns-2)

@@ -1,14 +1,14 @@
--- `ranges::put_list`: the first n bytes of the text stand in front, and what is left of it are the ranges that are left.
+-- `ranges::put_list`: the first n bytes of the text are written, and the rest of it is the ranges that are left.
 use Prim.Native.Nat.{ℕ, _+_, _-_, _≤_}
 use mathlib.Core.Path.{_≡_, refl, sym, ap, _∙_}
 use native.Mathlib.Omega.{arith}
 use lib.ListN.{length, getD, take, drop}
+use lib.Seq.{sets}
 use Rattle.ledger.specs.Pairs.{none, pair}
 use Rattle.ledger.specs.Ledger.{pairsOf}
 use Rattle.ledger.proofs.Opened.{pairs-unused, pairs-used, pairs-over}
-use Rattle.rangelists.specs.RangeText.{comma, rangeText, rangesText, putAt}
-use Rattle.rangelists.proofs.RangeTexts.{listFrom, listFrom-none, listFrom-all, comma-fits, range-fits, list-left, list-put}
-use Rattle.rangelists.proofs.Placing.{put-none, next-all}
+use Rattle.rangelists.specs.RangeText.{comma, rangeText, rangesText}
+use Rattle.rangelists.proofs.RangeText.{listFrom, listFrom-none, listFrom-all, comma-fits, range-fits, list-left, list-put, next-all}
 use Rattle.rangelists.proofs.ranges.put_list.Statement.{statement}
 use Rattle.rangelists.proofs.ranges.put_list.Tie as tie
 
@@ -16,7 +16,7 @@ abbrev Inv-loop : tie.InvT-loop
 Inv-loop ledger out₀ n₀ i₀ out n i =
     let text = rangesText (pairsOf ledger) in
     (i ≤ length ledger) × (n ≤ length text) × (length text ≤ length out₀) × (length out ≡ length out₀)
-    × (drop n text ≡ listFrom n (pairsOf (drop i ledger))) × (out ≡ putAt 0 (take n text) out₀)
+    × (drop n text ≡ listFrom n (pairsOf (drop i ledger))) × (out ≡ sets out₀ 0 (take n text))
 
 abbrev μ-loop : tie.MeasureT-loop
 μ-loop ledger out₀ n₀ i₀ out n i = length ledger - i
@@ -30,9 +30,9 @@ left c =
     let l = k .before .before .before .args .ledger .now in
     k .loop .inv .4 ∙ rw (pairs-used l (k .loop .i) (omega arith) (c .if1 .left))
 
--- no range is left: the whole text stands in front
+-- no range is left: the whole text is written
 over : (k : tie.At-loop Inv-loop μ-loop) → let x = k .before .before .before .args in
-    pairsOf (drop (k .loop .i) (x .ledger .now)) ≡ none → k .loop .out ≡ putAt 0 (rangesText (pairsOf (x .ledger .now))) (x .out .now)
+    pairsOf (drop (k .loop .i) (x .ledger .now)) ≡ none → k .loop .out ≡ sets (x .out .now) 0 (rangesText (pairsOf (x .ledger .now)))
 over k e =
     let x = k .before .before .before .args in
     k .loop .inv .5 ∙ next-all (rangesText (pairsOf (x .ledger .now))) (x .out .now) (k .loop .n) (k .loop .inv .4 ∙ listFrom-none (k .loop .n) _ e)
@@ -40,7 +40,7 @@ over k e =
 loop-holds : tie.Need-loop-holds Inv-loop μ-loop
 loop-holds c =
     let x = c .before .before .args in
-    (omega arith, omega arith, c .before .before .pre, refl, sym (listFrom-all (pairsOf (x .ledger .now))), sym (put-none 0 (x .out .now)))
+    (omega arith, omega arith, c .before .before .pre, refl, sym (listFrom-all (pairsOf (x .ledger .now))), refl)
 
 add-loop : tie.Need-add-loop Inv-loop μ-loop
 add-loop c = omega arith
@@ -106,9 +106,9 @@ loop-again c =
       omega arith,
       w .put-range .kept .0 ∙ v .put-comma .kept .0 ∙ k .loop .inv .3,
       list-left text n a b _ (k .loop .inv .1) (left d) _ m,
-      list-put text n a b _ (k .loop .inv .1) (left d) _ m (x .out .now) (k .loop .out) (v .put-comma .last .0) _ (k .loop .inv .2) (k .loop .inv .5)
+      list-put text n a b _ (k .loop .inv .1) (left d) _ m (x .out .now) (k .loop .out) (v .put-comma .last .0) _ (k .loop .inv .5)
           (v .put-comma .ensures .1)
-          (w .put-range .ensures .1 ∙ ap (λ (z : ℕ). putAt z (rangeText a b) (v .put-comma .last .0)) (v .put-comma .ensures .0)),
+          (w .put-range .ensures .1 ∙ ap (λ (z : ℕ). sets (v .put-comma .last .0) z (rangeText a b)) (v .put-comma .ensures .0)),
     )
 
 same-length-2 : tie.Need-same-length-2 Inv-loop μ-loop

@@ -5,9 +5,9 @@ use native.Mathlib.Omega.{arith}
 use borrow.Author.Needs.{needs}
 use borrow.Rule.Slice.PartMut.{putMid}
 use lib.ListN.{length, set, length-set}
-use Rattle.rangelists.specs.RangeText.{rangeText, putAt}
-use Rattle.rangelists.proofs.RangeTexts.{length-rangeText, range-put}
-use Rattle.rangelists.proofs.Placing.{length-put}
+use lib.Seq.{sets, length-sets}
+use Rattle.rangelists.specs.RangeText.{rangeText}
+use Rattle.rangelists.proofs.RangeText.{length-rangeText, range-put}
 use Rattle.rangelists.proofs.ranges.put_range.Statement.{statement}
 use Rattle.rangelists.proofs.ranges.put_range.Tie as tie
 
@@ -16,7 +16,7 @@ whole : (c : tie.After-slice-known3) → let w = c .before .before in let n = w 
     let v = n .before .before .before in let m = v .before .before in let x = m .before .before .args in
     let h = x .at + m .length .result in
     putMid (h + 1) (h + 1 + n .length2 .result - (h + 1)) (set (putMid (x .at) (h - x .at) (x .out .now) (v .write .last .1 .0)) h 45) (w .write2 .last .1 .0)
-    ≡ putAt (x .at) (rangeText (x .a) (x .b)) (x .out .now)
+    ≡ sets (x .out .now) (x .at) (rangeText (x .a) (x .b))
 whole c =
     let w = c .before .before in
     let n = w .before .before in
@@ -87,7 +87,7 @@ write-requires-2 c κs = search needs
 same-length : tie.Need-same-length
 same-length c =
     let x = c .before .before .before .before .before .before .before .before .before .before .before .args in
-    ap length (whole c) ∙ length-put (x .at) (rangeText (x .a) (x .b)) (x .out .now) (omega arith)
+    ap length (whole c) ∙ length-sets (x .out .now) (x .at) (rangeText (x .a) (x .b))
 
 returns : tie.Need-returns
 returns c =

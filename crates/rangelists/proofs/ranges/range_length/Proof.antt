@@ -3,7 +3,7 @@ use Prim.Native.Nat.{_-_}
 use native.Mathlib.Omega.{arith}
 use borrow.Author.Needs.{needs}
 use Rattle.octets.proofs.Decimals.{width-20}
-use Rattle.rangelists.proofs.RangeTexts.{length-rangeText}
+use Rattle.rangelists.proofs.RangeText.{length-rangeText}
 use Rattle.rangelists.proofs.ranges.range_length.Statement.{statement}
 use Rattle.rangelists.proofs.ranges.range_length.Tie as tie
 

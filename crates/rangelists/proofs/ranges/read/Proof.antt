@@ -7,9 +7,9 @@ use borrow.Author.Needs.{needs}
 use lib.ListN.{length, replicate}
 use Rattle.ledger.specs.Ledger.{lengthWrong, pairsOf, roomOf}
 use Rattle.ledger.proofs.Sizes.{length-fits}
-use Rattle.rangelists.specs.RangeText.{rangesOf, Says}
-use Rattle.rangelists.proofs.Answered.{reads-53, reads-trouble, reads-merged}
-use Rattle.rangelists.proofs.Merging.{cleared-obeys, cleared-merged, obeyed-lent}
+use Rattle.rangelists.specs.RangeText.{rangesOf, Represents}
+use Rattle.rangelists.proofs.RangeReading.{reads-53, reads-trouble, reads-merged}
+use Rattle.rangelists.proofs.RangeMerging.{cleared-obeys, cleared-merged, obeyed-lent}
 use Rattle.rangelists.proofs.ranges.read.Statement.{statement}
 use Rattle.rangelists.proofs.ranges.read.Tie as tie
 
@@ -21,7 +21,7 @@ even c = length-fits (c .before .before .before .before .before .args .ledger .n
 
 -- the list was joined to a ledger of zeros
 said : (c : tie.After-join-list) → let e = c .before .before .before .before .before in let x = e .before .before .before .before .before .before .args in
-    Says (rangesOf (roomOf (x .ledger .now)) (x .text .now)) (c .join-list .result) (c .join-list .last .1 .0)
+    Represents (rangesOf (roomOf (x .ledger .now)) (x .text .now)) (c .join-list .result) (c .join-list .last .1 .0)
 said c =
     let r = c .before .before .before .before in
     let x = r .before .before .before .before .before .before .before .args in

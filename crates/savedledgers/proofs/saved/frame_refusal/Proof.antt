@@ -6,7 +6,7 @@ use lib.ListN.{take, drop, length-take}
 use lib.Seq.{take-all}
 use Rattle.octets.specs.Digits.{fromLittle}
 use Rattle.savedledgers.specs.Saved.{kindOf}
-use Rattle.savedledgers.proofs.Frames.{frame-short, frame-length-wrong, frame-kind-wrong, frame-right}
+use Rattle.savedledgers.proofs.SavedFrame.{frame-short, frame-length-wrong, frame-kind-wrong, frame-right}
 use Rattle.savedledgers.proofs.saved.frame_refusal.Statement.{statement}
 use Rattle.savedledgers.proofs.saved.frame_refusal.Tie as tie
 

@@ -1,4 +1,4 @@
--- `saved::in_order`: the pairs from the k-th on, behind the one before them, are in order as the whole body is.
+-- `saved::in_order`: the pairs from the k-th on, after the one before them, are in order as the whole body is.
 use Prim.Native.Nat.{suc, _+_, _*_, _-_, _/_, _≤_}
 use mathlib.Core.Path.{_≡_, refl, sym, _∙_}
 use mathlib.Core.Bool.{_&&_}
@@ -8,30 +8,31 @@ use borrow.Author.Needs.{needs}
 use borrow.Author.Tests.{not-true, not-false}
 use lib.ListN.{length, drop}
 use Rattle.ledger.proofs.Opened.{lowest, follows-less}
-use Rattle.savedledgers.specs.Saved.{pairsIn, inOrder}
-use Rattle.savedledgers.proofs.Bodies.{order-turn, order-behind}
+use Rattle.ledger.specs.Pairs.{isRuled}
+use Rattle.savedledgers.specs.Saved.{pairsIn}
+use Rattle.savedledgers.proofs.SavedBody.{isRuled-turn, isRuled-next}
 use Rattle.savedledgers.proofs.saved.in_order.Statement.{statement}
 use Rattle.savedledgers.proofs.saved.in_order.Tie as tie
 
 abbrev Inv-loop : tie.InvT-loop
 Inv-loop body n end₀ k₀ end k =
-    (k ≤ n) × (n ≡ length body / 16) × (inOrder (lowest end) (pairsIn (n - k) (drop (16 * k) body)) ≡ inOrder 0 (pairsIn n body))
+    (k ≤ n) × (n ≡ length body / 16) × (isRuled (lowest end) (pairsIn (n - k) (drop (16 * k) body)) ≡ isRuled 0 (pairsIn n body))
 
 abbrev μ-loop : tie.MeasureT-loop
 μ-loop body n end₀ k₀ end k = n - k
 
--- the pair that is looked at, and those behind it
+-- the pair that is looked at, and those after it
 turn : (c : tie.After-may-follow Inv-loop μ-loop) → let l = c .before .before .before .before in
     let body = l .before .before .args .body .now in
     let n = length body / 16 in
-    inOrder 0 (pairsIn n body) ≡ (c .may-follow .result && inOrder (suc (c .before .number-at2 .result)) (pairsIn (n - (l .loop .k + 1)) (drop (16 * (l .loop .k + 1)) body)))
+    isRuled 0 (pairsIn n body) ≡ (c .may-follow .result && isRuled (suc (c .before .number-at2 .result)) (pairsIn (n - (l .loop .k + 1)) (drop (16 * (l .loop .k + 1)) body)))
 turn c =
     let l = c .before .before .before .before in
     let body = l .before .before .args .body .now in
     let n = length body / 16 in
     let a = c .before .before .number-at in
     let b = c .before .number-at2 in
-    sym (l .loop .inv .2) ∙ order-turn body n (l .loop .k) (l .loop .end) (a .result) (b .result) (omega arith) (a .ensures) (b .ensures)
+    sym (l .loop .inv .2) ∙ isRuled-turn body n (l .loop .k) (l .loop .end) (a .result) (b .result) (omega arith) (a .ensures) (b .ensures)
     ∙ rw (c .may-follow .ensures)
 
 loop-holds : tie.Need-loop-holds Inv-loop μ-loop
@@ -71,10 +72,10 @@ loop-again c =
     let a = c .before .before .before .number-at .result in
     let b = c .before .before .number-at2 .result in
     let q = follows-less (l .loop .end) a b (sym (c .before .may-follow .ensures) ∙ e) in
-    (omega arith, refl, sym (turn (c .before) ∙ rw e (order-behind a b _ q)))
+    (omega arith, refl, sym (turn (c .before) ∙ rw e (isRuled-next a b _ q)))
 
 returns-2 : tie.Need-returns-2 Inv-loop μ-loop
-unfolding inOrder pairsIn
+unfolding isRuled pairsIn
 returns-2 c =
     let l = c .before in
     let z : length (l .before .before .args .body .now) / 16 - l .loop .k ≡ 0 = omega arith in

@@ -9,10 +9,11 @@ use lib.ListN.{length, take, drop, length-drop}
 use lib.Seq.{take-all}
 use Rattle.ledger.specs.Ledger.{lengthWrong}
 use Rattle.ledger.proofs.Sizes.{length-fits}
-use Rattle.savedledgers.specs.Saved.{kindOne, frameLength, frameNumber, bodyOf, pairLength, savedPairs, inOrder}
-use Rattle.ledger.specs.declared.answer.Loaded.the-variants.{Refused}
-use Rattle.savedledgers.proofs.Frames.{frame-sound}
-use Rattle.savedledgers.proofs.Loads.{reads-refused, reads-done, number-53, number-frame, number-parts, number-order, number-room, number-none, load-placed}
+use Rattle.ledger.specs.Pairs.{isRuled}
+use Rattle.savedledgers.specs.Saved.{kindOne, frameLength, frameNumber, bodyOf, pairLength, savedPairs}
+use Rattle.answers.specs.declared.loaded.Loaded.the-variants.{Refused}
+use Rattle.savedledgers.proofs.SavedFrame.{frame-sound}
+use Rattle.savedledgers.proofs.SavedReading.{reads-refused, reads-done, number-53, number-frame, number-parts, number-order, number-room, number-none, load-placed}
 use Rattle.savedledgers.proofs.saved.read.Statement.{statement}
 use Rattle.savedledgers.proofs.saved.read.Tie as tie
 
@@ -36,10 +37,10 @@ whole : (c : tie.Else3) → length (bodyOf (c .before .before .before .before .b
 whole c = rw (body-is (c .before .before)) at (c .if3 .left)
 
 order-is : (c : tie.After-in-order) → c .in-order .result
-    ≡ inOrder 0 (savedPairs (c .before .before .before .before .before .before .before .before .before .before .args .bytes .now))
+    ≡ isRuled 0 (savedPairs (c .before .before .before .before .before .before .before .before .before .before .args .bytes .now))
 order-is c = rw (body-is (c .before .before .before)) at (c .in-order .ensures)
 
-order : (c : tie.Else4) → inOrder 0 (savedPairs (c .before .before .before .before .before .before .before .before .before .before .before .args .bytes .now)) ≡ true
+order : (c : tie.Else4) → isRuled 0 (savedPairs (c .before .before .before .before .before .before .before .before .before .before .before .args .bytes .now)) ≡ true
 order c = sym (order-is (c .before)) ∙ not-false (c .before .in-order .result) (c .if4 .left)
 
 length-wrong-requires : tie.Need-length-wrong-requires

@@ -1,4 +1,4 @@
--- `saved::read_numbers`: the entries that hold their numbers, with the numbers still to be read behind them, are the whole.
+-- `saved::read_numbers`: the entries that hold their numbers, with the numbers still to be read after them, are the whole.
 use Prim.Native.Nat.{_*_, _-_, _≤_}
 use mathlib.Core.Path.{_≡_, refl, sym, _∙_}
 use mathlib.Core.List.{_++_, append-nil}
@@ -8,7 +8,7 @@ use borrow.Author.Needs.{needs}
 use lib.ListN.{length, take, drop, length-set}
 use lib.Seq.{take-length}
 use Rattle.savedledgers.specs.Numbers.{numbersIn}
-use Rattle.savedledgers.proofs.Eights.{read-turn}
+use Rattle.savedledgers.proofs.Numbers.{read-turn}
 use Rattle.savedledgers.proofs.saved.read_numbers.Statement.{statement}
 use Rattle.savedledgers.proofs.saved.read_numbers.Tie as tie
 

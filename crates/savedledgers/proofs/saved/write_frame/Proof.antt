@@ -6,7 +6,7 @@ use borrow.Author.Needs.{needs}
 use borrow.Rule.Slice.PartMut.{putMid}
 use lib.ListN.{length, take, drop, length-take, length-drop}
 use Rattle.octets.specs.Digits.{toLittle}
-use Rattle.savedledgers.proofs.Frames.{frame-placed}
+use Rattle.savedledgers.proofs.SavedFrame.{frame-placed}
 use Rattle.savedledgers.proofs.saved.write_frame.Statement.{statement}
 use Rattle.savedledgers.proofs.saved.write_frame.Tie as tie
 

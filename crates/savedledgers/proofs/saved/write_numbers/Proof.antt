@@ -1,4 +1,4 @@
--- `saved::write_numbers`: what stands written, with what is still to be written behind it, is the whole.
+-- `saved::write_numbers`: what is written, with what is still to be written after it, is the whole.
 use Prim.Native.Nat.{_*_, _-_, _≤_}
 use mathlib.Core.Path.{_≡_, refl, sym, _∙_}
 use mathlib.Core.List.{_++_, append-nil}
@@ -7,7 +7,7 @@ use borrow.Author.Needs.{needs}
 use lib.ListN.{length, take, drop}
 use lib.Seq.{take-length, drop-length}
 use Rattle.savedledgers.specs.Numbers.{numberBytes}
-use Rattle.savedledgers.proofs.Eights.{write-turn}
+use Rattle.savedledgers.proofs.Numbers.{write-turn}
 use Rattle.savedledgers.proofs.saved.write_numbers.Statement.{statement}
 use Rattle.savedledgers.proofs.saved.write_numbers.Tie as tie
 

@@ -4,7 +4,7 @@ use borrow.Author.Needs.{needs}
 use mathlib.Core.Path.{ap}
 use lib.ListN.{length}
 use Rattle.screen.specs.Screen.{unknownWord}
-use Rattle.screen.proofs.Lines.{count-unknown, count-known}
+use Rattle.screen.proofs.Screen.{count-unknown, count-known}
 use Rattle.screen.proofs.line.put_count.Statement.{statement}
 use Rattle.screen.proofs.line.put_count.Tie as tie
 

@@ -1,10 +1,10 @@
 -- `line::put_front`.
-use native.Mathlib.Omega.{arith}
-use borrow.Author.Needs.{needs}
 use mathlib.Core.Path.{ap}
+use native.Mathlib.Omega.{arith}
 use lib.ListN.{length, length-append}
 use Rattle.screen.specs.Screen.{guessWord, resultWord, endedText}
-use Rattle.screen.proofs.Lines.{puts-more, front-broken, front-guess, front-result}
+use Rattle.screen.proofs.Screen.{front-broken, front-guess, front-result}
+use borrow.Author.Needs.{needs}
 use Rattle.screen.proofs.line.put_front.Statement.{statement}
 use Rattle.screen.proofs.line.put_front.Tie as tie
 
@@ -20,53 +20,39 @@ put-broken-requires c κs =
 enum-told-2 : tie.Need-enum-told-2
 enum-told-2 c = search needs
 
-slice-aggregate-put-word : tie.Need-slice-aggregate-put-word
-slice-aggregate-put-word c = search needs
-
-put-word-requires : tie.Need-put-word-requires
-unfolding guessWord
-put-word-requires c κs =
-    let x = c .before .before .before .before .before .args in
-    let n = x .n in
-    omega (arith, ap length (front-guess (x .v) (n .fault) (n .on) (n .ended) (n .count) (c .before .before .enum-told2 .given .1)), length-append guessWord (endedText (n .ended) (n .count)))
+slice-aggregate-put-ended : tie.Need-slice-aggregate-put-ended
+slice-aggregate-put-ended c = search needs
 
 put-ended-requires : tie.Need-put-ended-requires
 unfolding guessWord
 put-ended-requires c κs =
-    let x = c .before .before .before .before .before .before .before .before .before .args in
+    let x = c .before .before .before .before .before .args in
     let n = x .n in
-    omega (arith, ap length (front-guess (x .v) (n .fault) (n .on) (n .ended) (n .count) (c .before .before .before .before .before .before .enum-told2 .given .1)), length-append guessWord (endedText (n .ended) (n .count)))
+    omega (arith, ap length (front-guess (x .v) (n .fault) (n .on) (n .ended) (n .count) (c .before .before .enum-told2 .given .1)), length-append guessWord (endedText (n .ended) (n .count)))
 
 enum-told-3 : tie.Need-enum-told-3
 enum-told-3 c = search needs
 
-slice-aggregate-put-word-2 : tie.Need-slice-aggregate-put-word-2
-slice-aggregate-put-word-2 c = search needs
-
-put-word-requires-2 : tie.Need-put-word-requires-2
-unfolding resultWord
-put-word-requires-2 c κs =
-    let x = c .before .before .before .before .before .args in
-    let n = x .n in
-    omega (arith, ap length (front-result (x .v) (n .fault) (n .on) (n .ended) (n .count) (c .before .before .enum-told3 .given .1)), length-append resultWord (endedText (n .ended) (n .count)))
+slice-aggregate-put-ended-2 : tie.Need-slice-aggregate-put-ended-2
+slice-aggregate-put-ended-2 c = search needs
 
 put-ended-requires-2 : tie.Need-put-ended-requires-2
 unfolding resultWord
 put-ended-requires-2 c κs =
-    let x = c .before .before .before .before .before .before .before .before .before .args in
+    let x = c .before .before .before .before .before .args in
     let n = x .n in
-    omega (arith, ap length (front-result (x .v) (n .fault) (n .on) (n .ended) (n .count) (c .before .before .before .before .before .before .enum-told3 .given .1)), length-append resultWord (endedText (n .ended) (n .count)))
+    omega (arith, ap length (front-result (x .v) (n .fault) (n .on) (n .ended) (n .count) (c .before .before .enum-told3 .given .1)), length-append resultWord (endedText (n .ended) (n .count)))
 
 same-length : tie.Need-same-length
 same-length c = search needs
 
 returns : tie.Need-returns
 returns c =
-    let b = c .before .before in
-    let e = b .before .before in
+    let p = c .before .before in
+    let e = p .before .before in
     let x = e .before .before .before .args in
     let n = x .n in
-    rw (front-broken (x .v) (n .fault) (n .on) (n .ended) (n .count) (e .enum-told .given .1)) (b .put-broken .ensures)
+    rw (front-broken (x .v) (n .fault) (n .on) (n .ended) (n .count) (e .enum-told .given .1)) (p .put-broken .ensures)
 
 same-length-2 : tie.Need-same-length-2
 same-length-2 c = search needs
@@ -75,12 +61,10 @@ returns-2 : tie.Need-returns-2
 unfolding guessWord
 returns-2 c =
     let p = c .before .before in
-    let w = p .before .before .before .before in
-    let e = w .before .before .before in
+    let e = p .before .before .before in
     let x = e .before .before .before .args in
     let n = x .n in
-    rw (front-guess (x .v) (n .fault) (n .on) (n .ended) (n .count) (e .enum-told2 .given .1))
-    (puts-more (x .out .now) _ _ guessWord (endedText (n .ended) (n .count)) 0 _ _ (w .put-word .ensures) (p .put-ended .ensures))
+    rw (front-guess (x .v) (n .fault) (n .on) (n .ended) (n .count) (e .enum-told2 .given .1)) (p .put-ended .ensures)
 
 same-length-3 : tie.Need-same-length-3
 same-length-3 c = search needs
@@ -89,12 +73,10 @@ returns-3 : tie.Need-returns-3
 unfolding resultWord
 returns-3 c =
     let p = c .before .before in
-    let w = p .before .before .before .before in
-    let e = w .before .before .before in
+    let e = p .before .before .before in
     let x = e .before .before .before .args in
     let n = x .n in
-    rw (front-result (x .v) (n .fault) (n .on) (n .ended) (n .count) (e .enum-told3 .given .1))
-    (puts-more (x .out .now) _ _ resultWord (endedText (n .ended) (n .count)) 0 _ _ (w .put-word2 .ensures) (p .put-ended2 .ensures))
+    rw (front-result (x .v) (n .fault) (n .on) (n .ended) (n .count) (e .enum-told3 .given .1)) (p .put-ended2 .ensures)
 
 pub put-front-spec : {M : Type 1} → statement M
 put-front-spec =
@@ -103,12 +85,10 @@ put-front-spec =
     enum-told
     put-broken-requires
     enum-told-2
-    slice-aggregate-put-word
-    put-word-requires
+    slice-aggregate-put-ended
     put-ended-requires
     enum-told-3
-    slice-aggregate-put-word-2
-    put-word-requires-2
+    slice-aggregate-put-ended-2
     put-ended-requires-2
     same-length
     returns

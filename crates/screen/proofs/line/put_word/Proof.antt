@@ -1,10 +1,10 @@
--- `line::put_word`: the first i bytes of the word stand at their place.
+-- `line::put_word`: the first i bytes of the word are written.
 use Prim.Native.Nat.{_-_, _+_, _≤_}
 use mathlib.Core.Path.{_≡_, refl, ap, _∙_}
 use native.Mathlib.Omega.{arith}
 use lib.ListN.{length, take, length-set}
 use lib.Seq.{sets, take-all}
-use Rattle.screen.proofs.Lines.{put-next}
+use Rattle.screen.proofs.Screen.{put-next}
 use Rattle.screen.proofs.line.put_word.Statement.{statement}
 use Rattle.screen.proofs.line.put_word.Tie as tie
 

@@ -6,10 +6,11 @@ use mathlib.Core.List.{[]}
 use native.Mathlib.Omega.{arith}
 use borrow.Author.Needs.{needs}
 use borrow.Author.Tests.{not-true, not-false}
+use Rattle.answers.proofs.WrittenBy.{refused}
 use Rattle.transfer.specs.Fit.{fitsLedger}
 use Rattle.screen.specs.declared.line.Numbers.{Numbers}
-use Rattle.screen.specs.Screen.{lineSaid}
-use Rattle.screen.proofs.Screens.{not-fit, fit, said, stored-whole}
+use Rattle.screen.specs.Screen.{lineFor, screenOf, screenAfter}
+use Rattle.screen.proofs.Screen.{not-fit, fit, said, stored-whole}
 use Rattle.screen.proofs.line.write.Statement.{statement}
 use Rattle.screen.proofs.line.write.Tie as tie
 
@@ -21,10 +22,12 @@ without-file-requires : tie.Need-without-file-requires
 without-file-requires c κs = search needs
 
 returns : tie.Need-returns
+unfolding screenOf screenAfter
 returns c =
     let f = c .before in
     let x = f .before .before .before .before .args in
-    not-fit (x .receiver .transfer) (x .ledger .now) (x .out .now) (sym (f .without-file .ensures) ∙ not-true (f .without-file .result) (c .if1 .taken))
+    let n = not-fit (x .receiver .transfer) (x .ledger .now) (x .out .now) (sym (f .without-file .ensures) ∙ not-true (f .without-file .result) (c .if1 .taken)) in
+    refused _ _ (lineFor (x .receiver .transfer) (x .ledger .now)) (x .out .now) 1 n (omega arith)
 
 verdict-requires : tie.Need-verdict-requires
 verdict-requires c κs = search needs
@@ -35,13 +38,14 @@ ended-requires c κs = search needs
 stored-requires : tie.Need-stored-requires
 stored-requires c κs = search needs
 
-put-where-room-requires : tie.Need-put-where-room-requires
-put-where-room-requires c κs = search needs
+put-numbers-requires : tie.Need-put-numbers-requires
+put-numbers-requires c κs = search needs
 
 same-length : tie.Need-same-length
 same-length c = search needs
 
 returns-2 : tie.Need-returns-2
+unfolding screenOf screenAfter
 returns-2 c =
     let w = c .before .before in
     let s = w .before .before in
@@ -55,7 +59,7 @@ returns-2 c =
     let bytes = s .stored .ensures ∙ stored-whole t [] ledger (omega (arith, len-fits (f .before))) fits in
     let n : Numbers = record { fault = t .fault; on = t .on; ended = e .ended .result; count = t .count; bytes = s .stored .result } in
     let line = said (v .verdict .result) n t ledger (v .verdict .ensures [] ledger) refl refl (e .ended .ensures) refl bytes in
-    fit t ledger (x .out .now) (lineSaid (v .verdict .result) n) _ _ fits line (w .put-where-room .ensures)
+    rw (fit t ledger (x .out .now) fits, ← line) (w .put-numbers .ensures)
 
 pub write-spec : {M : Type 1} → statement M
 write-spec =
@@ -66,6 +70,6 @@ write-spec =
     verdict-requires
     ended-requires
     stored-requires
-    put-where-room-requires
+    put-numbers-requires
     same-length
     returns-2)

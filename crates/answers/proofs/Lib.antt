@@ -1,0 +1,3 @@
+pub mod WritesAt
+pub mod WrittenBy
+pub mod Answers

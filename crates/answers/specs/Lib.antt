@@ -1,0 +1,4 @@
+pub mod Written
+pub mod Loaded
+pub mod WritesAt
+pub mod Answers

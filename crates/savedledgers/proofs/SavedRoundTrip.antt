@@ -1,0 +1,107 @@
+-- `SavedRoundTrip` holds.
+use Prim.Native.Nat.{ℕ, _*_, _/_, _≤_}
+use mathlib.Core.Path.{_≡_, refl, sym, ap, _∙_}
+use mathlib.Core.Bool.{true, false}
+use mathlib.Core.List.{List}
+use native.Mathlib.Omega.{arith}
+use lib.ListN.{length, take, drop}
+use lib.Seq.{take-at}
+use Rattle.octets.specs.Digits.{Below, toLittle}
+use Rattle.octets.proofs.Digits.{below-drop}
+use Rattle.answers.specs.declared.loaded.Loaded.the-variants.{Done}
+use Rattle.answers.specs.declared.written.Written.the-variants.{Bytes}
+use Rattle.ledger.specs.Pairs.{Pairs, size, Ruled, endsBy, isRuled}
+use Rattle.ledger.specs.Ledger.{largest, lengthWrong, roomOf, obeys, pairsOf, lent}
+use Rattle.ledger.proofs.Lents.{length-lent, pairsOf-lent, rule-lent, rule-ruled, lent-pairsOf, size-pairsOf}
+use Rattle.ledger.proofs.Sizes.{length-right, length-fits}
+use Rattle.ledger.proofs.IsRuled.{ruled-isRuled, isRuled-ruled}
+use Rattle.ledger.proofs.LedgerRefusal.{refusal-none}
+use Rattle.savedledgers.specs.Saved.{kindOne, pairBytes, framed, bodyOf, frameNumber, savedPairs, readSavedNumber, readSaved, readSavedAfter, savedOf, writeSaved, writeSavedAfter}
+use Rattle.savedledgers.specs.SavedReading.{Reads}
+use Rattle.savedledgers.specs.SavedRoundTrip.{Rewrites, SavedRoundTrip}
+use Rattle.savedledgers.proofs.SavedBody.{size-pairsIn, length-pairBytes, pairsIn-pairBytes, pairBytes-pairsIn}
+use Rattle.savedledgers.proofs.SavedFrame.{body-back, frame-back, framed-same}
+use Rattle.savedledgers.proofs.SavedReading.{Sound, number-sound, number-none, reads-done, reads}
+use Rattle.savedledgers.proofs.SavedWriting.{number-0, length-savedOf, writes-saved, accepted}
+
+-- ---- saved and read
+
+module _ (ps : Pairs) (ruled : Ruled 0 ps) (ends : endsBy largest ps ≡ true) where
+  saved-pairs : savedPairs (savedOf ps) ≡ ps
+  unfolding savedOf
+  saved-pairs =
+      let n : length (pairBytes ps) / 16 ≡ size ps = omega (arith, length-pairBytes ps) in
+      rw (body-back kindOne (pairBytes ps), n) (pairsIn-pairBytes 0 ps ruled ends)
+
+  pairs-back : (m : List ℕ) → lengthWrong m ≡ false → size ps ≤ 4096 → size ps ≤ roomOf m → Reads (savedOf ps) m ps
+  unfolding savedOf
+  pairs-back m lengths few room =
+      let h = savedOf ps in
+      let l = length-pairBytes ps in
+      let frame : frameNumber kindOne h ≡ 0 = frame-back kindOne (pairBytes ps) (omega arith) (omega arith) in
+      let body : length (bodyOf h) ≡ 16 * size ps = ap length (body-back kindOne (pairBytes ps)) ∙ l in
+      let order : isRuled 0 (savedPairs h) ≡ true = rw saved-pairs (ruled-isRuled 0 ps ruled) in
+      rw saved-pairs at (reads h m (number-none h m lengths frame (omega arith) order (omega arith)))
+
+module _ (l out m : List ℕ) (n : ℕ) (e : writeSaved l out ≡ Bytes n) (ends : endsBy largest (pairsOf l) ≡ true) where
+  reads-saved : lengthWrong m ≡ false → size (pairsOf l) ≤ roomOf m → Reads (take n (writeSavedAfter l out)) m (pairsOf l)
+  unfolding obeys
+  reads-saved lengths room =
+      let w = accepted l out n e in
+      let saved = savedOf (pairsOf l) in
+      let few : size (pairsOf l) ≤ 4096 = omega (arith, size-pairsOf l, length-fits l (w .lengths)) in
+      rw (w .after, take-at saved (drop (length saved) out) n (w .bytes)) (pairs-back (pairsOf l) (rule-ruled 0 l (w .ruled)) ends m lengths few room)
+
+  reads-same : length m ≡ length l → (readSaved (take n (writeSavedAfter l out)) m ≡ Done) × (readSavedAfter (take n (writeSavedAfter l out)) m ≡ l)
+  unfolding obeys
+  reads-same same =
+      let w = accepted l out n e in
+      let f = length-fits l (w .lengths) in
+      let lengths : lengthWrong m ≡ false = length-right m (omega (arith, f .0)) (omega (arith, f .1)) in
+      let r = reads-saved lengths (omega (arith, size-pairsOf l)) in
+      (r .accepted, r .after ∙ sym (lent-pairsOf (roomOf m) 0 l (w .ruled) (omega (arith, f .0))))
+
+-- ---- read and saved
+
+module _ (h m : List ℕ) (bytes : Below 256 h) (sound : Sound h m) where
+  read-ruled : Ruled 0 (savedPairs h)
+  read-ruled = isRuled-ruled 0 (savedPairs h) (sound .order)
+
+  pairs-same : pairsOf (lent (roomOf m) (savedPairs h)) ≡ savedPairs h
+  pairs-same =
+      pairsOf-lent (roomOf m) 0 (savedPairs h) read-ruled (omega (arith, sound .room, size-pairsIn (length (bodyOf h) / 16) (bodyOf h)))
+
+  bytes-same : savedOf (savedPairs h) ≡ h
+  unfolding savedOf
+  bytes-same =
+      let n : length (bodyOf h) ≡ 16 * (length (bodyOf h) / 16) = omega (arith, sound .parts) in
+      rw (pairBytes-pairsIn (length (bodyOf h) / 16) (bodyOf h) (below-drop 256 6 h bytes) n) (framed-same kindOne h bytes (sound .frame))
+
+  rewrites : Rewrites h (lent (roomOf m) (savedPairs h))
+  unfolding obeys
+  rewrites =
+      let l = lent (roomOf m) (savedPairs h) in
+      let ruled : obeys l ≡ true = rule-lent (roomOf m) 0 (savedPairs h) read-ruled in
+      let same : savedOf (pairsOf l) ≡ h = rw pairs-same bytes-same in
+      let n = length-lent (roomOf m) (savedPairs h) in
+      let lengths : lengthWrong l ≡ false = length-right l (omega (arith, n)) (omega (arith, n, length-fits m (sound .lengths))) in
+      let size-is = sym (length-savedOf (pairsOf l)) ∙ ap length same in
+      record {
+        ruled = ruled;
+        same = same;
+        writes = λ out g. rw same at (writes-saved l out (number-0 l out (refusal-none l lengths ruled) (omega (arith, size-is, g))));
+      }
+
+writes-read : (h m : List ℕ) → Below 256 h → readSavedNumber h m ≡ 0 → Rewrites h (readSavedAfter h m)
+writes-read h m b z = rw (reads-done h m z .1) (rewrites h m b (number-sound h m z))
+
+pub saved-round-trip : SavedRoundTrip
+unfolding savedOf framed pairBytes toLittle
+saved-round-trip =
+    record {
+      reads-what-was-saved = reads-saved;
+      reads-the-same = reads-same;
+      writes-what-was-read = writes-read;
+      empty = refl;
+      first-ninety = refl;
+    }

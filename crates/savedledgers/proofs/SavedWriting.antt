@@ -1,0 +1,111 @@
+-- What the writer of a saved ledger answers and leaves, case by case: `SavedWriting` and `SavedBytes` hold.
+use Prim.Native.Nat.{ℕ, _+_, _*_, _-_, _≤_, _<_}
+use mathlib.Core.Path.{_≡_, refl, sym, ap, _∙_}
+use mathlib.Core.Bool.{true, false}
+use mathlib.Core.List.{List, _++_, append-assoc}
+use native.Mathlib.Omega.{arith}
+use native.Mathlib.Nat.{sub-zero}
+use borrow.Rule.Slice.PartMut.{putMid}
+use lib.ListN.{length, take, drop, length-append}
+use lib.Seq.{take-at, drop-at, drop-drop}
+use Rattle.answers.specs.declared.written.Written.the-variants.{Bytes}
+use Rattle.answers.specs.Written.{roomNumber, Refuses}
+use Rattle.answers.proofs.WrittenBy.{first-some, first-none, first-zero, room-short, room-enough, written, written-only, refuses, writes}
+use Rattle.ledger.specs.Pairs.{Pairs, size}
+use Rattle.ledger.specs.Ledger.{lengthWrong, obeys, pairsOf, ledgerRefusal}
+use Rattle.ledger.proofs.Sizes.{length-wrong}
+use Rattle.ledger.proofs.LedgerRefusal.{refusal-53, refusal-1, refusal-none, refusal-zero}
+use Rattle.savedledgers.specs.Numbers.{numberBytes}
+use Rattle.savedledgers.specs.Saved.{kindOne, frameOf, pairBytes, savedOf, writeSavedNumber, writeSaved, writeSavedAfter, framed}
+use Rattle.savedledgers.specs.SavedWriting.{SavedWriting, SavedBytes}
+use Rattle.savedledgers.proofs.SavedBody.{length-pairBytes, flat-used, pairBytes-flat}
+use Rattle.savedledgers.proofs.SavedFrame.{framed-is, length-frameOf}
+use Rattle.savedledgers.proofs.SavedReading.{right-length}
+
+pub savedOf-is : (ps : Pairs) → savedOf ps ≡ frameOf kindOne (16 * size ps) ++ pairBytes ps
+unfolding savedOf
+savedOf-is ps = framed-is kindOne (pairBytes ps) ∙ rw (length-pairBytes ps)
+
+pub length-savedOf : (ps : Pairs) → length (savedOf ps) ≡ 6 + 16 * size ps
+length-savedOf ps =
+    rw (savedOf-is ps, length-append (frameOf kindOne (16 * size ps)) (pairBytes ps), length-frameOf kindOne (16 * size ps), length-pairBytes ps)
+
+-- ---- the number of a refusal
+
+module _ (ledger out : List ℕ) where
+  pub number-refused : (k : ℕ) → ledgerRefusal ledger ≡ k → 0 < k → writeSavedNumber ledger out ≡ k
+  unfolding writeSavedNumber
+  number-refused k e h = first-some (ledgerRefusal ledger) _ (omega arith) ∙ e
+
+  module _ (accepted : ledgerRefusal ledger ≡ 0) where
+    only-room : writeSavedNumber ledger out ≡ roomNumber (6 + 16 * size (pairsOf ledger)) out
+    unfolding writeSavedNumber
+    only-room = first-none (ledgerRefusal ledger) _ accepted ∙ rw (length-savedOf (pairsOf ledger))
+
+    pub number-55 : length out < 6 + 16 * size (pairsOf ledger) → writeSavedNumber ledger out ≡ 55
+    number-55 h = only-room ∙ room-short _ out h
+
+    pub number-0 : 6 + 16 * size (pairsOf ledger) ≤ length out → writeSavedNumber ledger out ≡ 0
+    number-0 h = only-room ∙ room-enough _ out h
+
+-- ---- the answer and the lent bytes
+
+pub writes-saved : (ledger out : List ℕ) → writeSavedNumber ledger out ≡ 0 → let saved = savedOf (pairsOf ledger) in
+    (writeSaved ledger out ≡ Bytes (length saved)) × (writeSavedAfter ledger out ≡ saved ++ drop (length saved) out)
+unfolding writeSaved writeSavedAfter
+writes-saved ledger out e =
+    let w = written _ _ (savedOf (pairsOf ledger)) out e in
+    (sym (w .0), sym (w .1))
+
+-- what a writer that writes n bytes has tested, and the lent bytes after it
+pub record Accepted (ledger out : List ℕ) (n : ℕ) : Type 0 where
+  pub lengths : lengthWrong ledger ≡ false
+  pub ruled : obeys ledger ≡ true
+  pub bytes : length (savedOf (pairsOf ledger)) ≡ n
+  pub after : writeSavedAfter ledger out ≡ savedOf (pairsOf ledger) ++ drop (length (savedOf (pairsOf ledger))) out
+
+pub accepted : (ledger out : List ℕ) (n : ℕ) → writeSaved ledger out ≡ Bytes n → Accepted ledger out n
+unfolding writeSaved writeSavedNumber
+accepted ledger out n e =
+    let w = written-only (writeSavedNumber ledger out) _ n e in
+    let t = refusal-zero ledger (first-zero (ledgerRefusal ledger) _ (w .0) .0) in
+    record { lengths = t .0; ruled = t .1; bytes = w .1; after = writes-saved ledger out (w .0) .1 }
+
+-- ---- the bytes
+
+-- ys and zs are the two parts of the lent bytes, the frame and the pairs
+pub save-placed : (ledger out ys zs : List ℕ) (used : ℕ) → used ≡ size (pairsOf ledger) → 6 + 16 * used ≤ length out
+    → ys ≡ frameOf kindOne (16 * used) → zs ≡ numberBytes (take (2 * used - 0) ledger)
+    → let saved = savedOf (pairsOf ledger) in putMid 6 (6 + 16 * used - 6) (putMid 0 6 out ys) zs ≡ saved ++ drop (length saved) out
+save-placed ledger out ys zs used u h e z =
+    let ps = pairsOf ledger in
+    let s : 2 * used - 0 ≡ 2 * used = sub-zero (2 * used) in
+    let q : 6 + 16 * used - 6 ≡ 16 * used = omega arith in
+    let n : length ys ≡ 6 = ap length e ∙ length-frameOf kindOne (16 * used) in
+    let zs-is : zs ≡ pairBytes ps = z ∙ rw (s, u, ← flat-used ledger) (sym (pairBytes-flat ps)) in
+    rw (q, take-at ys (drop 6 out) 6 n, drop-at ys (drop 6 out) 6 n, drop-drop (16 * used) 6 out, length-savedOf ps, savedOf-is ps, zs-is, e, u)
+    (sym (append-assoc (frameOf kindOne (16 * size ps)) (pairBytes ps) (drop (6 + 16 * size ps) out)))
+
+-- ---- the rows
+
+module _ (ledger out : List ℕ) where
+  refused : (k : ℕ) → writeSavedNumber ledger out ≡ k → 0 < k → Refuses (writeSaved ledger out) (writeSavedAfter ledger out) out k
+  unfolding writeSaved writeSavedAfter
+  refused k e h = refuses (writeSavedNumber ledger out) _ (savedOf (pairsOf ledger)) out k e h
+
+  pub saved-writing : SavedWriting ledger out
+  unfolding writeSaved writeSavedAfter
+  saved-writing =
+      record {
+        wrong-length = λ o. refused 53 (number-refused ledger out 53 (refusal-53 ledger (length-wrong ledger o)) (omega arith)) (omega arith);
+        broken-rule = λ l o. refused 1 (number-refused ledger out 1 (refusal-1 ledger (right-length ledger l) o) (omega arith)) (omega arith);
+        too-few-bytes = λ l o h. refused 55 (number-55 ledger out (refusal-none ledger (right-length ledger l) o) h) (omega arith);
+        written = λ l o h.
+            let n = length-savedOf (pairsOf ledger) in
+            rw n (writes (writeSavedNumber ledger out) (6 + 16 * size (pairsOf ledger)) (savedOf (pairsOf ledger)) out
+            (number-0 ledger out (refusal-none ledger (right-length ledger l) o) h) n);
+      }
+
+pub saved-bytes : SavedBytes
+unfolding savedOf framed pairBytes
+saved-bytes = record { all-bytes = λ ps. rw (length-pairBytes ps); no-pair = refl; next-pair = λ a b ps. refl }

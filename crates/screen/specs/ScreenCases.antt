@@ -1,0 +1,64 @@
+-- Worked cases of the screen line: document 01's example call by call, its broken line, and one with a payload under way, as one statement over a list of cases.
+use Prim.Native.Nat.{ℕ, _-_}
+use mathlib.Core.Path.{_≡_}
+use mathlib.Core.List.{List, [], _∷_, _++_}
+use lib.ListN.{length, replicate}
+use Rattle.octets.specs.Cases.{AllHold}
+use Rattle.answers.specs.declared.written.Written.the-variants.{Bytes, Refused}
+use Rattle.eblock.specs.Header.{bytesOf}
+use Rattle.transfer.specs.Calls.{Call, receive, begun, after}
+use Rattle.transfer.specs.Example.{first, second, third}
+use Rattle.screen.specs.Screen.{lineOf, screenOf, screenAfter}
+
+-- from a file of 8 bytes and a ledger of one pair, the calls leave this line
+pub record Case : Type 0 where
+  pub calls : List Call
+  pub line : List ℕ
+
+-- n lent bytes, filled so that unchanged ones show
+abbrev pub filled : ℕ → List ℕ
+filled n = replicate n 238
+
+abbrev pub Holds : Case → Type 0
+Holds k =
+    let w = after (begun (replicate 8 0) (replicate 2 7)) (k .calls) in
+    let n = length (k .line) in
+    (lineOf w ≡ k .line)
+    × (screenOf (w .t) (w .lent .claimed) (filled 40) ≡ Bytes n)
+    × (screenAfter (w .t) (w .lent .claimed) (filled 40) ≡ k .line ++ filled (40 - n))
+    -- one byte less than it has
+    × (screenOf (w .t) (w .lent .claimed) (filled (n - 1)) ≡ Refused 55)
+
+-- GUESS ended 0 of ? bytes 4
+abbrev pub firstLine : List ℕ
+firstLine = 71 ∷ 85 ∷ 69 ∷ 83 ∷ 83 ∷ 32 ∷ 101 ∷ 110 ∷ 100 ∷ 101 ∷ 100 ∷ 32 ∷ 48 ∷ 32 ∷ 111 ∷ 102 ∷ 32 ∷ 63 ∷ 32 ∷ 98 ∷ 121 ∷ 116 ∷ 101 ∷ 115 ∷ 32 ∷ 52 ∷ 10 ∷ []
+
+-- GUESS ended 1 of ? bytes 8
+abbrev pub secondLine : List ℕ
+secondLine = 71 ∷ 85 ∷ 69 ∷ 83 ∷ 83 ∷ 32 ∷ 101 ∷ 110 ∷ 100 ∷ 101 ∷ 100 ∷ 32 ∷ 49 ∷ 32 ∷ 111 ∷ 102 ∷ 32 ∷ 63 ∷ 32 ∷ 98 ∷ 121 ∷ 116 ∷ 101 ∷ 115 ∷ 32 ∷ 56 ∷ 10 ∷ []
+
+-- RESULT ended 2 of 2 bytes 8
+abbrev pub thirdLine : List ℕ
+thirdLine = 82 ∷ 69 ∷ 83 ∷ 85 ∷ 76 ∷ 84 ∷ 32 ∷ 101 ∷ 110 ∷ 100 ∷ 101 ∷ 100 ∷ 32 ∷ 50 ∷ 32 ∷ 111 ∷ 102 ∷ 32 ∷ 50 ∷ 32 ∷ 98 ∷ 121 ∷ 116 ∷ 101 ∷ 115 ∷ 32 ∷ 56 ∷ 10 ∷ []
+
+-- BROKEN 17 on 1 bytes 4
+abbrev pub brokenLine : List ℕ
+brokenLine = 66 ∷ 82 ∷ 79 ∷ 75 ∷ 69 ∷ 78 ∷ 32 ∷ 49 ∷ 55 ∷ 32 ∷ 111 ∷ 110 ∷ 32 ∷ 49 ∷ 32 ∷ 98 ∷ 121 ∷ 116 ∷ 101 ∷ 115 ∷ 32 ∷ 52 ∷ 10 ∷ []
+
+-- GUESS ended 0 of 2 bytes 2
+abbrev pub underWayLine : List ℕ
+underWayLine = 71 ∷ 85 ∷ 69 ∷ 83 ∷ 83 ∷ 32 ∷ 101 ∷ 110 ∷ 100 ∷ 101 ∷ 100 ∷ 32 ∷ 48 ∷ 32 ∷ 111 ∷ 102 ∷ 32 ∷ 50 ∷ 32 ∷ 98 ∷ 121 ∷ 116 ∷ 101 ∷ 115 ∷ 32 ∷ 50 ∷ 10 ∷ []
+
+abbrev pub cases : List Case
+cases =
+    record { calls = first ∷ []; line = firstLine }
+    ∷ record { calls = first ∷ second ∷ []; line = secondLine }
+    ∷ record { calls = first ∷ second ∷ third ∷ []; line = thirdLine }
+    -- bytes 3 and 4 asked for on channel 1, of which 3 is claimed
+    ∷ record { calls = first ∷ receive 1 (bytesOf 0 2 3) ∷ []; line = brokenLine }
+    -- a count known, and two bytes of a payload of four
+    ∷ record { calls = receive 0 (bytesOf 64 0 2) ∷ receive 1 (bytesOf 0 4 0 ++ (112 ∷ 108 ∷ [])) ∷ []; line = underWayLine }
+    ∷ []
+
+abbrev pub ScreenCases : Type 0
+ScreenCases = AllHold Holds cases
