@@ -58,7 +58,7 @@ passed-none ps ks heads next left h g =
     }
 
 module _ (ps : Pairs) (ks : List Channel) (heads : List ℕ) (c : ℕ) (h : c < length ks) where
-  -- the channel c, and those behind it
+  -- the channel c, and those after it
   pub one-more : channelsFit ps (drop c ks) (drop (heldLimit * c) heads)
       ≡ (channelFits ps (getD ks c blank .state) (getD ks c blank) (bytesAt heads c) && channelsFit ps (drop (c + 1) ks) (drop (heldLimit * (c + 1)) heads))
   unfolding channelsFit

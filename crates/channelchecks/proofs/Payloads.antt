@@ -44,7 +44,7 @@ packed-apart (k ∷ ks) = go (eqb (k .left) 0) refl (packed-apart ks)
 
 -- ---- one channel more
 
--- a channel's number is stored behind those that are packed, and kept where the channel has bytes left
+-- a channel's number is stored after those that are packed, and kept where the channel has bytes left
 pub packs : (f : Channel → ℕ) (ks : List Channel) (l : List ℕ) (n c : ℕ) → n < length l → c < length ks
     → take (n + cond (eqb (getD ks c blank .left) 0) 0 1) (set l n (f (getD ks c blank))) ++ ofPayloads f (drop (c + 1) ks) ≡ take n l ++ ofPayloads f (drop c ks)
 unfolding ofPayloads

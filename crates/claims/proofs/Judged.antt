@@ -2,7 +2,7 @@
 use Prim.Native.Nat.{ℕ, _≤_, _<_}
 use mathlib.Core.Path.{_≡_, refl, sym, ap, _∙_}
 use mathlib.Core.Logic.{_↔_}
-use mathlib.Core.Bool.{Bool, true, false, cond, true≢false}
+use mathlib.Core.Bool.{Bool, true, false, cond, true≢false, false≢true}
 use mathlib.Core.List.{List}
 use native.Mathlib.Omega.{arith}
 use borrow.Author.Tests.{ltb-true, ltb-false}
@@ -18,13 +18,18 @@ use Rattle.claims.proofs.JoinRoom.{fits, at-past}
 
 -- ---- the answers are not each other
 
+isAt : Room → Bool
+isAt Shares = false
+isAt Full = false
+isAt (At spot) = true
+
 pub shares-not-at : (spot : Spot) → Shares ≡ At spot → ⊥
-unfolding roomNumber
-shares-not-at spot e = let n : _≡_ {A = ℕ} 17 0 = ap roomNumber e in omega arith
+unfolding isAt
+shares-not-at spot e = false≢true (ap isAt e)
 
 pub full-not-at : (spot : Spot) → Full ≡ At spot → ⊥
-unfolding roomNumber
-full-not-at spot e = let n : _≡_ {A = ℕ} 18 0 = ap roomNumber e in omega arith
+unfolding isAt
+full-not-at spot e = false≢true (ap isAt e)
 
 spotIn : Spot → Room → Spot
 spotIn x Shares = x

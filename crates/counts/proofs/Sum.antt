@@ -16,7 +16,7 @@ use Rattle.transfer.specs.Transfer.{sum, oneIfEnded}
 pub length-mapped : (X Y : Type 0) (f : X → Y) (l : List X) (n : ℕ) → length (map f l) ≡ n → length l ≡ n
 length-mapped X Y f l n p = sym (length-map l f) ∙ p
 
--- the channel c, and those behind it
+-- the channel c, and those after it
 pub sum-at : (f : Channel → ℕ) (ks : List Channel) (c : ℕ) → c < length ks → sum f (drop c ks) ≡ f (getD ks c blank) + sum f (drop (c + 1) ks)
 unfolding sum
 sum-at f ks c h = rw (drop-cons ks c blank, add-one c)

@@ -6,7 +6,6 @@ use answers::written::Written;
 use receiver::receive::Receiver;
 use screen::line;
 
-
 pub fn show(receiver: Receiver, ledger: &[u64]) {
     let mut out = [fill::BYTE; 128];
     let answer = line::write(receiver, ledger, &mut out);

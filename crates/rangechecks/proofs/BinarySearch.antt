@@ -30,7 +30,7 @@ module _ (a b : ℕ) (rest : List ℕ) (i : ℕ) where
   end-on : getD (a ∷ b ∷ rest) (2 * suc i + 1) 0 ≡ getD rest (2 * i + 1) 0
   end-on = let e : 2 * suc i + 1 ≡ suc (suc (2 * i + 1)) = omega arith in rw e
 
-  -- a pair in front that is unused has none behind it
+  -- a first pair that is unused has no used one after it
   none-used : a ≡ 0 → b ≡ 0 → zeros rest ≡ true → getD (a ∷ b ∷ rest) (2 * i + 1) 0 ≡ 0
   none-used x y z = zeros-at (a ∷ b ∷ rest) (2 * i + 1) (unfold zeros in rw (x, y, z))
 
@@ -63,7 +63,7 @@ counted lo p i (a ∷ b ∷ rest) h g k = go i (rule-first lo a b rest h) g k (�
         let s : a ≤ p = omega (arith, lowest (suc b) j rest z m′) in
         rw (ne-eqb b 0 (λ q. omega arith)) (omega (arith, upTo-on p a b (pairsOf rest) s, f j z m′ n′))
 
--- a pair that is unused or starts above the place is not, nor is one behind it
+-- a pair that is unused or starts above the place is not, nor is one after it
 not-counted : (lo p i : ℕ) (l : List ℕ) → rule lo l ≡ true → (getD l (2 * i + 1) 0 ≡ 0) ⊎ (p < getD l (2 * i) 0) → upTo p (pairsOf l) ≤ i
 unfolding pairsOf
 not-counted lo p i [] h g = unfold upTo in omega arith

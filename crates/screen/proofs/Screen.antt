@@ -23,7 +23,7 @@ use Rattle.verdicts.specs.declared.verdict.Verdict.{Verdict as Shown}
 use Rattle.verdicts.specs.declared.verdict.Verdict.the-variants.{Guess, Result, Broken}
 use Rattle.verdicts.specs.Verdict.{verdictIs}
 use Rattle.receiver.specs.Stored.{storedCut}
-use Rattle.receiver.proofs.Ran.{fits-some}
+use Rattle.runs.proofs.Runs.{fits-some}
 use Rattle.screen.specs.Screen.{brokenWord, onWord, guessWord, resultWord, endedWord, ofWord, unknownWord, bytesWord, lineFeed, countText, brokenText, endedText, frontText, bytesText, lineText, lineOf, lineFor, lineTextOf, screenNumber}
 use Rattle.screen.specs.declared.line.Numbers.{Numbers}
 

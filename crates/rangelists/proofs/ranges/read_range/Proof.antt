@@ -10,8 +10,8 @@ use Rattle.octets.specs.Decimal.{numberOf}
 use Rattle.octets.specs.Text.{isDigit, leading}
 use Rattle.rangelists.specs.RangeText.{isPosition, positionOf}
 use Rattle.rangelists.proofs.RangeParsing.{position-nothing, position-value, position-is, range-no-hyphen, range-short, range-no-start, range-no-end, range-falling, range-places}
-use Rattle.rangelists.proofs.ranges.one_range.Statement.{statement}
-use Rattle.rangelists.proofs.ranges.one_range.Tie as tie
+use Rattle.rangelists.proofs.ranges.read_range.Statement.{statement}
+use Rattle.rangelists.proofs.ranges.read_range.Tie as tie
 
 hyphen : (c : tie.Else2) → let s = c .before .before .before .before .before .args .text .now in getD s (leading isDigit s) 0 ≡ 45
 hyphen c = rw (c .before .before .before .leading .ensures) at (c .if2 .left)
