@@ -1,4 +1,4 @@
--- What the requests of the code stand for.
+-- What the requests of the code mean.
 use Rattle.transfer.specs.Header.{Asks, counts, claims, nothing, faulty}
 use Rattle.headers.specs.declared.judge.Request.{Request}
 use Rattle.headers.specs.declared.judge.Request.the-variants.{Counts, Claims, Nothing, Faulty}

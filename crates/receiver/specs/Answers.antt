@@ -1,4 +1,4 @@
--- What the answers of the receiver stand for.
+-- What the answers of the receiver mean.
 use Rattle.transfer.specs.Receive.{Answer, refused, took}
 use Rattle.receiver.specs.declared.receive.Answer.{Answer as Answered}
 use Rattle.receiver.specs.declared.receive.Answer.the-variants.{Took, Refused}

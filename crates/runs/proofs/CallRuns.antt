@@ -1,4 +1,4 @@
--- A call's runs, one behind the other: what each leaves fits, and together they are its bytes.
+-- A call's runs, one after the other: what each leaves fits, and together they are its bytes.
 use Prim.Native.Nat.{ℕ, _+_, _≤_, _<_}
 use mathlib.Core.Path.{_≡_, refl, sym, ap, _∙_, subst}
 use mathlib.Core.Bool.{Bool, true, false, true≢false, and-eq-true-iff}
@@ -36,22 +36,22 @@ nothing-taken c w v b bs e =
     }
 
 -- 19
-pub locked-ran : (t : Transfer) (file ledger : List ℕ) (c : ℕ) (piece : List ℕ) → 0 < length piece → channelAt t c .state ≡ 0 → countReached (t .count) (usedOf t) ≡ true
+pub count-reached-run-of : (t : Transfer) (file ledger : List ℕ) (c : ℕ) (piece : List ℕ) → 0 < length piece → channelAt t c .state ≡ 0 → countReached (t .count) (usedOf t) ≡ true
     → RunOf c (world t file ledger) piece (world (putFault t 19 c) file ledger) 0 false
-locked-ran t file ledger c [] h s e = absurd (omega arith)
-locked-ran t file ledger c (b ∷ bs) h s e =
+count-reached-run-of t file ledger c [] h s e = absurd (omega arith)
+count-reached-run-of t file ledger c (b ∷ bs) h s e =
     let a = and-eq-true-iff (ltb 0 (t .count)) (eqb (usedOf t) (t .count)) .0 e in
     nothing-taken c (world t file ledger) (world (putFault t 19 c) file ledger) b bs (rows .by-19 (world t file ledger) c b (is-unused t c s) (ltb-true 0 (t .count) (a .0)) (eqb-true (usedOf t) (t .count) (a .1)))
 
 -- an ended channel
-pub ended-ran : (t : Transfer) (file ledger : List ℕ) (c : ℕ) (piece : List ℕ) → 0 < length piece → 4 ≤ channelAt t c .state → RunOf c (world t file ledger) piece (world t file ledger) 0 false
-ended-ran t file ledger c [] h s = absurd (omega arith)
-ended-ran t file ledger c (b ∷ bs) h s = nothing-taken c (world t file ledger) (world t file ledger) b bs left
+pub ended-run-of : (t : Transfer) (file ledger : List ℕ) (c : ℕ) (piece : List ℕ) → 0 < length piece → 4 ≤ channelAt t c .state → RunOf c (world t file ledger) piece (world t file ledger) 0 false
+ended-run-of t file ledger c [] h s = absurd (omega arith)
+ended-run-of t file ledger c (b ∷ bs) h s = nothing-taken c (world t file ledger) (world t file ledger) b bs left
   where
     left : byteOf (world t file ledger) c b ≡ leaves (world t file ledger)
     left = unfold byteOf in rw (is-ended t c s) (unfold byteOn in refl)
 
--- ---- one run behind the others: i bytes were taken before it
+-- ---- one run after the others: i bytes were taken before it
 
 module _ (c : ℕ) (h : c < channelCount) (w v : World) (piece : List ℕ) (i n : ℕ) (continues : Bool) (r : RunOf c w (drop i piece) v n continues) where
   pub further : continues ≡ true → bytesOn c w (drop i piece) i ≡ bytesOn c v (drop (i + n) piece) (i + n)

@@ -1,4 +1,4 @@
--- A channel of a world that fits: its state, read out and written back, changes nothing; and bytes held behind its header's.
+-- A channel of a world that fits: its state, read out and written back, changes nothing; and bytes held after its header's.
 use Prim.Native.Nat.{ℕ, zero, suc, _+_, _*_, _-_, _≤_, _<_}
 use mathlib.Core.Path.{_≡_, refl, sym, ap, _∙_}
 use mathlib.Core.Logic.{inl, inr}
@@ -49,10 +49,10 @@ drop-zeros zero m = let e : m ≡ m - 0 = omega arith in ap (λ i. replicate i 0
 drop-zeros (suc n) zero = let e : 0 ≡ 0 - suc n = omega arith in ap (λ i. replicate i 0) e
 drop-zeros (suc n) (suc m) = (let e : m - n ≡ suc m - suc n = omega arith in drop-zeros n m ∙ ap (λ i. replicate i 0) e)
 
--- bytes written behind h, over the first of those that follow it
-written-behind : (a h z b bs : List ℕ) (i j : ℕ) → length a ≡ i → length h ≡ j → length bs ≤ length z
+-- bytes written after h, over the first of those that follow it
+written-after : (a h z b bs : List ℕ) (i j : ℕ) → length a ≡ i → length h ≡ j → length bs ≤ length z
     → take (i + j) (a ++ ((h ++ z) ++ b)) ++ (bs ++ drop (i + j + length bs) (a ++ ((h ++ z) ++ b))) ≡ a ++ (((h ++ bs) ++ drop (length bs) z) ++ b)
-written-behind a h z b bs i j p q l =
+written-after a h z b bs i j p q l =
     let n : length (a ++ h) ≡ i + j = omega (arith, length-append a h) in
     let e : a ++ ((h ++ z) ++ b) ≡ (a ++ h) ++ (z ++ b) = ap (λ x. a ++ x) (append-assoc h z b) ∙ sym (append-assoc a h (z ++ b)) in
     let d : drop (i + j + length bs) ((a ++ h) ++ (z ++ b)) ≡ drop (length bs) z ++ b =
@@ -81,14 +81,14 @@ module _ (w : World) (f : Together w) (c : ℕ) (h : c < channelCount) where
   held-zeros =
       let x = drop (heldLimit * c) (w .t .heads) in
       let l : length (take heldLimit x) ≡ heldLimit = length-take-le heldLimit x sixteen in
-      let behind : length (drop (k .held) (take heldLimit x)) ≡ heldLimit - k .held = omega (arith, length-drop (k .held) (take heldLimit x), l) in
+      let rest-length : length (drop (k .held) (take heldLimit x)) ≡ heldLimit - k .held = omega (arith, length-drop (k .held) (take heldLimit x), l) in
       sym (take-append-drop (k .held) (take heldLimit x))
       ∙ ap (λ a. a ++ drop (k .held) (take heldLimit x)) (take-take (k .held) heldLimit x (held-within k (f .stages c h)))
       ∙ ap (λ a. heldNow ++ a)
       (all-zero (drop (k .held) (take heldLimit x))
-      (λ i q. getD-drop (k .held) (take heldLimit x) i 0 ∙ getD-take heldLimit x (k .held + i) 0 (omega (arith, q, behind)) ∙ getD-drop (heldLimit * c) (w .t .heads) (k .held + i) 0
-      ∙ f .bytes-zero c (k .held + i) h (omega arith) (omega (arith, q, behind)))
-      ∙ ap (λ n. replicate n 0) behind)
+      (λ i q. getD-drop (k .held) (take heldLimit x) i 0 ∙ getD-take heldLimit x (k .held + i) 0 (omega (arith, q, rest-length)) ∙ getD-drop (heldLimit * c) (w .t .heads) (k .held + i) 0
+      ∙ f .bytes-zero c (k .held + i) h (omega arith) (omega (arith, q, rest-length)))
+      ∙ ap (λ n. replicate n 0) rest-length)
 
   -- the held bytes of all channels, round these
   heads-are : w .t .heads ≡ take (heldLimit * c) (w .t .heads) ++ ((heldNow ++ replicate (heldLimit - k .held) 0) ++ drop (heldLimit * c + heldLimit) (w .t .heads))
@@ -102,7 +102,7 @@ module _ (w : World) (f : Together w) (c : ℕ) (h : c < channelCount) where
   unfolding putState stateAt
   put-back = rw (numbers-back k heldNow held-length (f .stages c h), set-getD (w .t .channels) c blank, bytes-back k heldNow held-length (f .stages c h), ← heads-are)
 
-  -- bytes put behind the held ones of a header
+  -- bytes put after the held ones of a header
   pub filled-is : (bs : List ℕ) → k .held + length bs ≤ heldLimit → withHeldBytesAt (w .t) c bs ≡ putState (w .t) c (header (heldNow ++ bs))
   unfolding withHeldBytesAt putState numbersOf stateNumber heldNumber nextNumber leftNumber heldBytes
   filled-is bs l =
@@ -113,7 +113,7 @@ module _ (w : World) (f : Together w) (c : ℕ) (h : c < channelCount) where
       let e : take (heldLimit * c + k .held) (w .t .heads) ++ (bs ++ drop (heldLimit * c + k .held + length bs) (w .t .heads))
       ≡ take (heldLimit * c) (w .t .heads) ++ (((heldNow ++ bs) ++ replicate (heldLimit - length (heldNow ++ bs)) 0) ++ drop (heldLimit * c + heldLimit) (w .t .heads)) =
       ap (λ x. take (heldLimit * c + k .held) x ++ (bs ++ drop (heldLimit * c + k .held + length bs) x)) heads-are
-      ∙ written-behind (take (heldLimit * c) (w .t .heads)) heldNow z (drop (heldLimit * c + heldLimit) (w .t .heads)) bs (heldLimit * c) (k .held) front held-length
+      ∙ written-after (take (heldLimit * c) (w .t .heads)) heldNow z (drop (heldLimit * c + heldLimit) (w .t .heads)) bs (heldLimit * c) (k .held) front held-length
       (omega (arith, length-replicate {A = ℕ} (heldLimit - k .held) 0))
       ∙ ap (λ x. take (heldLimit * c) (w .t .heads) ++ (((heldNow ++ bs) ++ x) ++ drop (heldLimit * c + heldLimit) (w .t .heads))) (drop-zeros (length bs) (heldLimit - k .held) ∙ ap (λ i. replicate i 0) rest) in
       rw (e, m)

@@ -49,10 +49,10 @@ module _ (w : World) (f : Together w) (c : ℕ) (g : c < channelCount) where
   has : Has (w .t) c
   has = record { row = omega (arith, f .channels); bytes = omega (arith, f .heads) }
 
-  abbrev pub withHeldBytes : List ℕ → World
-  withHeldBytes bs = world (withHeldBytesAt (w .t) c bs) (w .lent .file) (w .lent .claimed)
+  abbrev pub worldWithHeld : List ℕ → World
+  worldWithHeld bs = world (withHeldBytesAt (w .t) c bs) (w .lent .file) (w .lent .claimed)
 
-  filled-at : (bs : List ℕ) → channelAt (w .t) c .held + length bs ≤ heldLimit → at (w .t) (w .lent .file) (w .lent .claimed) c (header (heldNow w f c g ++ bs)) ≡ withHeldBytes bs
+  filled-at : (bs : List ℕ) → channelAt (w .t) c .held + length bs ≤ heldLimit → at (w .t) (w .lent .file) (w .lent .claimed) c (header (heldNow w f c g ++ bs)) ≡ worldWithHeld bs
   filled-at bs l = ap (λ x. world x (w .lent .file) (w .lent .claimed)) (sym (filled-is w f c g bs l))
 
   in-header : channelAt (w .t) c .state ≡ 1 → w ≡ at (w .t) (w .lent .file) (w .lent .claimed) c (header (heldNow w f c g))
@@ -67,7 +67,7 @@ module _ (w : World) (f : Together w) (c : ℕ) (g : c < channelCount) where
 
   -- bytes that are held
   pub held-run : TakesHeader (channelAt (w .t) c .state) (w .t .count) (usedOf (w .t)) → (b : ℕ) (bs qs : List ℕ) (k : ℕ) → channelAt (w .t) c .held + suc (length bs) ≤ heldLimit
-      → bytesOn c w ((b ∷ bs) ++ qs) k ≡ bytesOn c (withHeldBytes (b ∷ bs)) qs (k + suc (length bs))
+      → bytesOn c w ((b ∷ bs) ++ qs) k ≡ bytesOn c (worldWithHeld (b ∷ bs)) qs (k + suc (length bs))
   held-run (inr s) b bs qs k l =
       ap (λ v. bytesOn c v ((b ∷ bs) ++ qs) k) (in-header s)
       ∙ header-run (w .t) (w .lent .file) (w .lent .claimed) c has (b ∷ bs) (heldNow w f c g) qs k (omega (arith, held-length w f c g))
@@ -80,20 +80,20 @@ module _ (w : World) (f : Together w) (c : ℕ) (g : c < channelCount) where
       ∙ ap (λ v. bytesOn c v qs (k + suc (length bs))) (ap (λ h. at (w .t) (w .lent .file) (w .lent .claimed) c (header (h ++ (b ∷ bs)))) (sym (none-held-yet (s .0))) ∙ filled-at (b ∷ bs) l)
 
   -- 16 bytes are held, and one more comes
-  sixteen-run : TakesHeader (channelAt (w .t) c .state) (w .t .count) (usedOf (w .t)) → (bs qs : List ℕ) (k : ℕ) → channelAt (w .t) c .held + length bs ≡ heldLimit → bytesOn c w (bs ++ qs) k ≡ bytesOn c (withHeldBytes bs) qs (k + length bs)
+  sixteen-run : TakesHeader (channelAt (w .t) c .state) (w .t .count) (usedOf (w .t)) → (bs qs : List ℕ) (k : ℕ) → channelAt (w .t) c .held + length bs ≡ heldLimit → bytesOn c w (bs ++ qs) k ≡ bytesOn c (worldWithHeld bs) qs (k + length bs)
   sixteen-run s (b ∷ bs) qs k l = held-run s b bs qs k (omega arith)
   sixteen-run (inr s) [] qs k l =
       let e : k ≡ k + 0 = omega arith in
       ap (λ v. bytesOn c v qs k) (in-header s ∙ ap (λ h. at (w .t) (w .lent .file) (w .lent .claimed) c (header h)) (sym (append-nil (heldNow w f c g))) ∙ filled-at [] (omega arith))
-      ∙ ap (λ n. bytesOn c (withHeldBytes []) qs n) e
+      ∙ ap (λ n. bytesOn c (worldWithHeld []) qs n) e
   sixteen-run (inl s) [] qs k l = absurd (omega (arith, none-held (channelAt (w .t) c) (f .stages c g) (λ e. omega (arith, s .0, e))))
 
   pub whole-run : TakesHeader (channelAt (w .t) c .state) (w .t .count) (usedOf (w .t)) → (bs : List ℕ) (b : ℕ) (v : World) (continues : Bool) → channelAt (w .t) c .held + length bs ≡ heldLimit
-      → continuesOrStops continues v ≡ judges (withHeldBytes bs) c ((heldNow w f c g ++ bs) ++ b ∷ [])
+      → continuesOrStops continues v ≡ judges (worldWithHeld bs) c ((heldNow w f c g ++ bs) ++ b ∷ [])
       → (rest : List ℕ) (k : ℕ) → bytesOn c w (bs ++ (b ∷ rest)) k ≡ cond continues (bytesOn c v rest (k + suc (length bs))) (took (k + suc (length bs)), v)
   whole-run s bs b v continues l j rest k = sixteen-run s bs (b ∷ rest) k l ∙ go continues j
     where
-      judged : byteOf (withHeldBytes bs) c b ≡ judges (withHeldBytes bs) c ((heldNow w f c g ++ bs) ++ b ∷ [])
+      judged : byteOf (worldWithHeld bs) c b ≡ judges (worldWithHeld bs) c ((heldNow w f c g ++ bs) ++ b ∷ [])
       judged =
           subst (λ u. byteOf u c b ≡ judges u c ((heldNow w f c g ++ bs) ++ b ∷ [])) (filled-at bs (omega arith))
           (seventeenth (w .t) (w .lent .file) (w .lent .claimed) c has (heldNow w f c g ++ bs) b (omega (arith, length-append (heldNow w f c g) bs, held-length w f c g)))
@@ -101,7 +101,7 @@ module _ (w : World) (f : Together w) (c : ℕ) (g : c < channelCount) where
       e : suc (k + length bs) ≡ k + suc (length bs)
       e = omega arith
 
-      go : (continues : Bool) → continuesOrStops continues v ≡ judges (withHeldBytes bs) c ((heldNow w f c g ++ bs) ++ b ∷ [])
-          → bytesOn c (withHeldBytes bs) (b ∷ rest) (k + length bs) ≡ cond continues (bytesOn c v rest (k + suc (length bs))) (took (k + suc (length bs)), v)
-      go true j = bytes-goes (λ u x. byteOf u c x) (withHeldBytes bs) v b rest (k + length bs) (judged ∙ sym j) ∙ ap (λ n. bytesOn c v rest n) e
-      go false j = bytes-stops (λ u x. byteOf u c x) (withHeldBytes bs) v b rest (k + length bs) (judged ∙ sym j) ∙ ap (λ n. (took n, v)) e
+      go : (continues : Bool) → continuesOrStops continues v ≡ judges (worldWithHeld bs) c ((heldNow w f c g ++ bs) ++ b ∷ [])
+          → bytesOn c (worldWithHeld bs) (b ∷ rest) (k + length bs) ≡ cond continues (bytesOn c v rest (k + suc (length bs))) (took (k + suc (length bs)), v)
+      go true j = bytes-goes (λ u x. byteOf u c x) (worldWithHeld bs) v b rest (k + length bs) (judged ∙ sym j) ∙ ap (λ n. bytesOn c v rest n) e
+      go false j = bytes-stops (λ u x. byteOf u c x) (worldWithHeld bs) v b rest (k + length bs) (judged ∙ sym j) ∙ ap (λ n. (took n, v)) e

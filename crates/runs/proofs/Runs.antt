@@ -1,4 +1,4 @@
--- What the two kinds of runs come to, from what their leaves answer.
+-- `RunOf` for the runs of a header and of a payload, from what their leaves answer.
 use Prim.Native.Nat.{ℕ, zero, suc, _+_, _*_, _-_, _≤_, _<_, min}
 use mathlib.Core.Path.{_≡_, refl, sym, ap, _∙_, subst}
 use mathlib.Core.Logic.{inl, inr}
@@ -40,12 +40,12 @@ use Rattle.runs.proofs.PayloadRuns.{stored-run}
 fits-with : (t : Transfer) (file ledger : List ℕ) → length file ≡ t .len → fitsLedger t ledger ≡ true → Together (world t file ledger)
 fits-with t file ledger n e = fits-together (world t file ledger) (unfold fits in rw (eq-eqb (length file) (t .len) n) e)
 
--- any file of that length serves
+-- any file of that length will do
 pub fits-some : (t : Transfer) (ledger : List ℕ) → fitsLedger t ledger ≡ true → Together (world t (replicate (t .len) 0) ledger)
 fits-some t ledger e = fits-with t (replicate (t .len) 0) ledger (length-replicate {A = ℕ} (t .len) 0) e
 
-held-few : (t : Transfer) (ledger : List ℕ) (c : ℕ) → c < channelCount → fitsLedger t ledger ≡ true → channelAt t c .held ≤ heldLimit
-held-few t ledger c h e = held-within (channelAt t c) (fits-some t ledger e .stages c h)
+held-within-limit : (t : Transfer) (ledger : List ℕ) (c : ℕ) → c < channelCount → fitsLedger t ledger ≡ true → channelAt t c .held ≤ heldLimit
+held-within-limit t ledger c h e = held-within (channelAt t c) (fits-some t ledger e .stages c h)
 
 pub ledger-fits : (t : Transfer) (ledger : List ℕ) → fitsLedger t ledger ≡ true → (obeys ledger ≡ true) × (length ledger ≡ 2 * t .pairs)
 ledger-fits t ledger e = let f = fits-some t ledger e in (f .rule, f .entries)
@@ -80,7 +80,7 @@ takes-header (suc (suc s)) count used e h = absurd (omega arith)
 -- ---- of a channel written back
 
 pub held-at-most : (t : Transfer) (ledger : List ℕ) (c : ℕ) (o : OtherChannels) → CountsOthers t c o → (x : ChannelState) → fitsLedger (writeBack t c x) ledger ≡ true → x .held ≤ heldLimit
-held-at-most t ledger c o a x e = omega (arith, held-few (writeBack t c x) ledger c (a .below) e, ap (λ k. k .held) (write-back-at t c o a x))
+held-at-most t ledger c o a x e = omega (arith, held-within-limit (writeBack t c x) ledger c (a .below) e, ap (λ k. k .held) (write-back-at t c o a x))
 
 pub stage-of-channel : (t : Transfer) (c : ℕ) (o : OtherChannels) → CountsOthers t c o → (x : ChannelState) (file ledger : List ℕ) → fits (world (writeBack t c x) file ledger) ≡ true → Stage (numbers x)
 stage-of-channel t c o a x file ledger e = subst Stage (write-back-at t c o a x) (fits-together (world (writeBack t c x) file ledger) e .stages c (a .below))
@@ -93,11 +93,11 @@ write-back-takes t c o a x (inr s) = inr (ap (λ k. k .state) (write-back-at t c
 -- ---- a header's bytes
 
 -- all of the piece is held
-pub held-ran : (t : Transfer) (ledger : List ℕ) (c : ℕ) (piece : List ℕ) → c < channelCount → fitsLedger t ledger ≡ true → TakesHeader (channelAt t c .state) (t .count) (usedOf t) → 0 < length piece
+pub held-run-of : (t : Transfer) (ledger : List ℕ) (c : ℕ) (piece : List ℕ) → c < channelCount → fitsLedger t ledger ≡ true → TakesHeader (channelAt t c .state) (t .count) (usedOf t) → 0 < length piece
     → channelAt t c .held + length piece ≤ heldLimit → (u : Transfer) → u ≡ withHeldBytesAt t c piece
     → (file : List ℕ) → length file ≡ t .len → RunOf c (world t file ledger) piece (world u file ledger) (length piece) true
-held-ran t ledger c [] h e s z l u q file n = absurd (omega arith)
-held-ran t ledger c (b ∷ bs) h e s z l u q file n =
+held-run-of t ledger c [] h e s z l u q file n = absurd (omega arith)
+held-run-of t ledger c (b ∷ bs) h e s z l u q file n =
     record {
       if-continues = λ o rest k.
           ap (λ x. bytesOn c (world t file ledger) (x ++ rest) k) (take-length (b ∷ bs))
@@ -115,11 +115,11 @@ held16-put t c x a l =
     (take-at x (drop (heldLimit * c + heldLimit) (t .heads)) heldLimit l)
 
 -- 16 bytes are held, and the next makes it whole
-pub judged-ran : (t : Transfer) (ledger ledger′ : List ℕ) (c : ℕ) (piece : List ℕ) (n : ℕ) → c < channelCount → fitsLedger t ledger ≡ true → TakesHeader (channelAt t c .state) (t .count) (usedOf t)
+pub judged-run-of : (t : Transfer) (ledger ledger′ : List ℕ) (c : ℕ) (piece : List ℕ) (n : ℕ) → c < channelCount → fitsLedger t ledger ≡ true → TakesHeader (channelAt t c .state) (t .count) (usedOf t)
     → channelAt t c .held + n ≡ heldLimit → n < length piece → (u : Transfer) → u ≡ withHeldBytesAt t c (take n piece) → (whole : List ℕ) → whole ≡ heldBytesAt u c ++ getD piece n 0 ∷ []
     → (v : Transfer) (continues : Bool) → ((file : List ℕ) → continuesOrStops continues (world v file ledger′) ≡ judges (world u file ledger) c whole)
     → (file : List ℕ) → length file ≡ t .len → RunOf c (world t file ledger) piece (world v file ledger′) (n + 1) continues
-judged-ran t ledger ledger′ c piece n h e s l m u q whole r v continues j file i =
+judged-run-of t ledger ledger′ c piece n h e s l m u q whole r v continues j file i =
     record {
       if-continues = λ o rest k. ap (λ x. bytesOn c w x k) (taken-and rest) ∙ all rest k ∙ rw (o, next k);
       if-stops = λ o k. ap (λ x. bytesOn c w x k) (split-at piece n 0 m) ∙ all (drop (suc n) piece) k ∙ rw (o, next k);
@@ -140,13 +140,13 @@ judged-ran t ledger ledger′ c piece n h e s l m u q whole r v continues j file
     taken-and : (rest : List ℕ) → take (n + 1) piece ++ rest ≡ take n piece ++ (getD piece n 0 ∷ rest)
     taken-and rest = rw (add-one n, take-suc piece n 0 m) (append-assoc (take n piece) (getD piece n 0 ∷ []) rest)
 
-    withHeldBytes : u ≡ putState t c (header (heldNow (world t file ledger) f c h ++ take n piece))
-    withHeldBytes = q ∙ filled-is (world t file ledger) f c h (take n piece) (omega (arith, short))
+    held-is : u ≡ putState t c (header (heldNow (world t file ledger) f c h ++ take n piece))
+    held-is = q ∙ filled-is (world t file ledger) f c h (take n piece) (omega (arith, short))
 
     head-is : whole ≡ (heldNow (world t file ledger) f c h ++ take n piece) ++ getD piece n 0 ∷ []
     head-is =
         r ∙ ap (λ x. x ++ getD piece n 0 ∷ [])
-        (ap (λ x. heldBytesAt x c) withHeldBytes
+        (ap (λ x. heldBytesAt x c) held-is
         ∙ held16-put t c (heldNow (world t file ledger) f c h ++ take n piece) (record { row = omega (arith, f .channels); bytes = omega (arith, f .heads) })
         (omega (arith, short, held-length (world t file ledger) f c h, length-append (heldNow (world t file ledger) f c h) (take n piece))))
 
@@ -159,13 +159,13 @@ judged-ran t ledger ledger′ c piece n h e s l m u q whole r v continues j file
 
 -- ---- a payload's bytes
 
-pub stored-ran : (t : Transfer) (file file′ : List ℕ) (c : ℕ) (k : Channel) (i : channelAt t c ≡ k) (piece : List ℕ) (n : ℕ) → c < channelCount → 0 < length piece → 1 < k .state → k .state < 4
+pub stored-run-of : (t : Transfer) (file file′ : List ℕ) (c : ℕ) (k : Channel) (i : channelAt t c ≡ k) (piece : List ℕ) (n : ℕ) → c < channelCount → 0 < length piece → 1 < k .state → k .state < 4
     → k .next + k .left ≤ length file → n ≡ min (k .left) (length piece)
     → file′ ≡ take (k .next) file ++ (take n piece ++ drop (k .next + n) file)
     → (v : Transfer) (continues : Bool)
     → ((f l : List ℕ) → continuesOrStops continues (world v f l) ≡ opens (world t f l) c (k .next + n) (k .left - n) (eqb (k .state) 3))
     → (ledger : List ℕ) → fits (world t file ledger) ≡ true → RunOf c (world t file ledger) piece (world v file′ ledger) n continues
-stored-ran t file file′ c k i piece n h z a b m q d v continues o ledger e =
+stored-run-of t file file′ c k i piece n h z a b m q d v continues o ledger e =
     record {
       if-continues = λ x rest j. all rest j ∙ rw (x, short);
       if-stops = λ x j. ap (λ y. bytesOn c (world t file ledger) y j) (sym (take-append-drop n piece)) ∙ all (drop n piece) j ∙ rw (x, short);

@@ -1,4 +1,4 @@
--- `copy::write`: the part that came writeBack from `copy`, between what was before it and nothing behind it.
+-- `copy::write`: the part that came back from `copy_chunks`, between what was before it and nothing after it.
 use Prim.Native.Nat.{_-_}
 use mathlib.Core.Path.{_≡_, _∙_}
 use native.Mathlib.Omega.{arith}

@@ -6,7 +6,7 @@ use borrow.Author.Needs.{needs}
 use lib.ListN.{length}
 use Rattle.channels.specs.ChannelState.{writeBack}
 use Rattle.channels.proofs.WriteBack.{write-back-at, write-back-len, write-back-held-bytes}
-use Rattle.runs.proofs.Runs.{held-ran, write-back-takes}
+use Rattle.runs.proofs.Runs.{held-run-of, write-back-takes}
 use Rattle.runs.proofs.header_run.header_run.Statement.{statement}
 use Rattle.runs.proofs.header_run.header_run.Tie as tie
 
@@ -46,7 +46,7 @@ returns-2 c =
       omega arith,
       λ t file a k e n.
           let h = ap (λ y. y .held) (write-back-at t (x .c) (x .o) a (x .x)) in
-          held-ran (writeBack t (x .c) (x .x)) (x .ledger .now) (x .c) (x .piece .now) (a .below) e (write-back-takes t (x .c) (x .o) a (x .x) k) (s .pre) (omega (arith, h, l))
+          held-run-of (writeBack t (x .c) (x .x)) (x .ledger .now) (x .c) (x .piece .now) (a .below) e (write-back-takes t (x .c) (x .o) a (x .x) k) (s .pre) (omega (arith, h, l))
           (writeBack t (x .c) (c .hold-bytes .result)) (ap (writeBack t (x .c)) (c .hold-bytes .ensures l) ∙ write-back-held-bytes t (x .c) (x .o) a (x .x) (sixteen s) (x .piece .now) l) file (n ∙ sym (write-back-len t (x .c) (x .o) a (x .x))),
     )
 

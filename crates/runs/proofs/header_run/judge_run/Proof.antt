@@ -12,7 +12,7 @@ use Rattle.channels.specs.ChannelState.{writeBack}
 use Rattle.channels.specs.HeldBytes.{withHeldBytes}
 use Rattle.channels.specs.OtherChannels.{CountsOthers}
 use Rattle.channels.proofs.WriteBack.{with-held-bytes-state, write-back-at, write-back-len, write-back-bytes, write-back-held-bytes, write-back-pairs}
-use Rattle.runs.proofs.Runs.{held-at-most, ledger-fits, write-back-takes, judged-ran}
+use Rattle.runs.proofs.Runs.{held-at-most, ledger-fits, write-back-takes, judged-run-of}
 use Rattle.runs.proofs.header_run.judge_run.Statement.{statement}
 use Rattle.runs.proofs.header_run.judge_run.Tie as tie
 
@@ -69,7 +69,7 @@ returns c = (
       let g = filled h t a e in
       let l = length-take (x .more) (x .piece .now) in
       let f = ledger-fits (writeBack t (x .c) (x .x)) (x .ledger .now) e in
-      judged-ran (writeBack t (x .c) (x .x)) (x .ledger .now) _ (x .c) (x .piece .now) (x .more) (a .below) e (write-back-takes t (x .c) (x .o) a (x .x) k) (omega (arith, b, g .0, l, s .pre .0)) (s .pre .0)
+      judged-run-of (writeBack t (x .c) (x .x)) (x .ledger .now) _ (x .c) (x .piece .now) (x .more) (a .below) e (write-back-takes t (x .c) (x .o) a (x .x) k) (omega (arith, b, g .0, l, s .pre .0)) (s .pre .0)
       (writeBack t (x .c) (h .hold-bytes .result)) (ap (writeBack t (x .c)) (g .1) ∙ write-back-held-bytes t (x .c) (x .o) a (x .x) (sixteen s) (take (x .more) (x .piece .now)) (omega (arith, g .0)))
       (w .whole-header .result) (w .whole-header .ensures ∙ ap (λ z. z ++ getD (x .piece .now) (x .more) 0 ∷ []) (sym (write-back-bytes t (x .c) (x .o) a (h .hold-bytes .result) (held-sixteen h))))
       (writeBack t (x .c) (y .apply-header .result .channel)) (y .apply-header .result .continues)

@@ -10,7 +10,7 @@ use Rattle.transfer.specs.Receive.{opens}
 use Rattle.copies.proofs.CopiedBytes.{stored-is-written}
 use Rattle.channels.specs.ChannelState.{numbers, writeBack}
 use Rattle.channels.proofs.WriteBack.{write-back-at}
-use Rattle.runs.proofs.Runs.{stage-of-channel, storing-below, rest-inside, stored-ran}
+use Rattle.runs.proofs.Runs.{stage-of-channel, storing-below, rest-inside, stored-run-of}
 use Rattle.runs.proofs.payload_run.payload_run.Statement.{statement}
 use Rattle.runs.proofs.payload_run.payload_run.Tie as tie
 
@@ -52,7 +52,7 @@ returns c =
           let r = rest-inside w (x .c) (a .below) e (omega (arith, s .pre .1, ap (λ z. z .state) k)) (omega (arith, b, ap (λ z. z .state) k)) in
           let i : x .x .next + x .x .left ≤ length (x .file .now) = omega (arith, r, ap (λ z. z .next) k, ap (λ z. z .left) k) in
           let q : p .wrapping-add-u64 .result ≡ x .x .next + m = omega (arith, p .wrapping-add-u64 .ensures, n .lesser .ensures, i, file-fits (n .before)) in
-          stored-ran (writeBack t (x .c) (x .x)) (x .file .now) _ (x .c) (numbers (x .x)) k (x .piece .now) m (a .below) (s .pre .0) (s .pre .1) b i (n .lesser .ensures)
+          stored-run-of (writeBack t (x .c) (x .x)) (x .file .now) _ (x .c) (numbers (x .x)) k (x .piece .now) m (a .below) (s .pre .0) (s .pre .1) b i (n .lesser .ensures)
           (y .store .ensures ∙ stored-is-written (x .x .next) m (x .piece .now) (x .file .now) (omega (arith, n .lesser .ensures)) (omega (arith, n .lesser .ensures, i)))
           (writeBack t (x .c) (o .«open» .result .channel)) (o .«open» .result .continues)
           (λ f l. o .«open» .ensures b t f l a ∙ ap (λ z. opens (world (writeBack t (x .c) (x .x)) f l) (x .c) z (x .x .left - m) (eqb (x .x .state) 3)) q) ledger e,

@@ -13,7 +13,7 @@ use Rattle.verdicts.specs.Verdict.{countReached}
 use Rattle.channels.specs.ChannelState.{writeBack, numbers}
 use Rattle.channels.proofs.WriteBack.{write-back-at, write-back-len, write-back-count-reached}
 use Rattle.runs.proofs.Runs.{stage-of-channel, ended-above, takes-header}
-use Rattle.runs.proofs.CallRuns.{fits-parts, locked-ran, ended-ran}
+use Rattle.runs.proofs.CallRuns.{fits-parts, count-reached-run-of, ended-run-of}
 use Rattle.runs.proofs.run.run.Statement.{statement}
 use Rattle.runs.proofs.run.run.Tie as tie
 
@@ -31,7 +31,7 @@ returns c = (
       let x = s .args in
       let b = and-eq-true-iff (eqb (x .x .state) 0) (countReached (x .x .count) (x .o .used)) .0 (sym (g .gives-19 .ensures) ∙ c .if1 .taken) in
       let z = eqb-true (x .x .state) 0 (b .0) in
-      locked-ran (writeBack t (x .c) (x .x)) (x .file .now) (x .ledger .now) (x .c) (x .piece .now) (s .pre) (ap (λ k. k .state) (write-back-at t (x .c) (x .o) a (x .x)) ∙ z)
+      count-reached-run-of (writeBack t (x .c) (x .x)) (x .file .now) (x .ledger .now) (x .c) (x .piece .now) (s .pre) (ap (λ k. k .state) (write-back-at t (x .c) (x .o) a (x .x)) ∙ z)
       (write-back-count-reached t (x .c) (x .o) a (x .x) z ∙ b .1),
 )
 
@@ -83,7 +83,7 @@ returns-4 c = (
       let x = s .args in
       let k = write-back-at t (x .c) (x .o) a (x .x) in
       let h = ended-above (numbers (x .x)) (stage-of-channel t (x .c) (x .o) a (x .x) (x .file .now) (x .ledger .now) e) (omega (arith, i .if2 .left)) (c .if3 .left) in
-      ended-ran (writeBack t (x .c) (x .x)) (x .file .now) (x .ledger .now) (x .c) (x .piece .now) (s .pre) (omega (arith, h, ap (λ y. y .state) k)),
+      ended-run-of (writeBack t (x .c) (x .x)) (x .file .now) (x .ledger .now) (x .c) (x .piece .now) (s .pre) (omega (arith, h, ap (λ y. y .state) k)),
 )
 
 pub run-spec : {M : Type 1} → statement M

@@ -35,29 +35,29 @@ abbrev μ-loop : tie.MeasureT-loop
 μ-loop c o piece file₀ ledger₀ y₀ i₀ file ledger y i = length piece - i
 
 -- the channel as the runs so far left it, in its transfer
-abbrev stands : (l : tie.At-loop Inv-loop μ-loop) → Transfer → World
-stands l t = world (writeBack t (l .before .before .before .before .args .c) (l .loop .y)) (l .loop .file) (l .loop .ledger)
+abbrev reached : (l : tie.At-loop Inv-loop μ-loop) → Transfer → World
+reached l t = world (writeBack t (l .before .before .before .before .args .c) (l .loop .y)) (l .loop .file) (l .loop .ledger)
 
-abbrev Begun : (l : tie.At-loop Inv-loop μ-loop) → Transfer → Type 0
-Begun l t =
+abbrev Fitting : (l : tie.At-loop Inv-loop μ-loop) → Transfer → Type 0
+Fitting l t =
     let x = l .before .before .before .before .args in
     CountsOthers t (x .c) (x .o) × (fits (world (writeBack t (x .c) (x .x)) (x .file .now) (x .ledger .now)) ≡ true)
 
 -- one run, of the bytes after those taken
-ran : (e : tie.After-run Inv-loop μ-loop) → let l = e .before .before .before .before .before in let x = l .before .before .before .before .args in
-    (t : Transfer) → Begun l t
-    → RunOf (x .c) (stands l t) (drop (l .loop .i) (x .piece .now)) (world (writeBack t (x .c) (e .run .result .channel)) (e .run .last .1 .1 .1 .1 .0) (e .run .last .1 .1 .1 .1 .1 .0)) (e .run .result .taken) (e .run .result .continues)
-ran e t (a, f) =
+run-of : (e : tie.After-run Inv-loop μ-loop) → let l = e .before .before .before .before .before in let x = l .before .before .before .before .args in
+    (t : Transfer) → Fitting l t
+    → RunOf (x .c) (reached l t) (drop (l .loop .i) (x .piece .now)) (world (writeBack t (x .c) (e .run .result .channel)) (e .run .last .1 .1 .1 .1 .0) (e .run .last .1 .1 .1 .1 .1 .0)) (e .run .result .taken) (e .run .result .continues)
+run-of e t (a, f) =
     let l = e .before .before .before .before .before in
     let x = l .before .before .before .before .args in
-    subst (λ p. RunOf (x .c) (stands l t) p (world (writeBack t (x .c) (e .run .result .channel)) (e .run .last .1 .1 .1 .1 .0) (e .run .last .1 .1 .1 .1 .1 .0)) (e .run .result .taken) (e .run .result .continues))
+    subst (λ p. RunOf (x .c) (reached l t) p (world (writeBack t (x .c) (e .run .result .channel)) (e .run .last .1 .1 .1 .1 .0) (e .run .last .1 .1 .1 .1 .1 .0)) (e .run .result .taken) (e .run .result .continues))
     (part (x .piece .now) (l .loop .i)) (e .run .ensures .2 t a (l .loop .inv .3 t a f .0))
 
 piece-fits : (a : tie.After-shared-slice-known Inv-loop μ-loop) → length (a .before .args .piece .now) ≤ 18446744073709551615
 piece-fits a = omega arith
 
-taken-few : (e : tie.After-run Inv-loop μ-loop) → let l = e .before .before .before .before .before in l .loop .i + e .run .result .taken ≤ length (l .before .before .before .before .args .piece .now)
-taken-few e =
+taken-within : (e : tie.After-run Inv-loop μ-loop) → let l = e .before .before .before .before .before in l .loop .i + e .run .result .taken ≤ length (l .before .before .before .before .args .piece .now)
+taken-within e =
     let l = e .before .before .before .before .before in
     let p = l .before .before .before .before .args .piece .now in
     omega (arith, e .run .ensures .0, ap length (part p (l .loop .i)), length-drop (l .loop .i) p, l .loop .inv .0)
@@ -83,7 +83,7 @@ run-requires c κs =
 add-i : tie.Need-add-i Inv-loop μ-loop
 add-i c =
     let e = c .before .before .before .before .before .before in
-    omega (arith, taken-few e, piece-fits (e .before .before .before .before .before .before .before .before))
+    omega (arith, taken-within e, piece-fits (e .before .before .before .before .before .before .before .before))
 
 same-length : tie.Need-same-length Inv-loop μ-loop
 same-length c =
@@ -100,12 +100,12 @@ returns c t a f =
     let e = c .before .before .before .before .before .before .before .before in
     let l = e .before .before .before .before .before in
     let x = l .before .before .before .before .args in
-    sym (l .loop .inv .3 t a f .1 ∙ stopped (x .c) (a .below) _ _ (x .piece .now) (l .loop .i) (e .run .result .taken) (e .run .result .continues) (ran e t (a, f)) (not-true (e .run .result .continues) (c .if1 .taken)))
+    sym (l .loop .inv .3 t a f .1 ∙ stopped (x .c) (a .below) _ _ (x .piece .now) (l .loop .i) (e .run .result .taken) (e .run .result .continues) (run-of e t (a, f)) (not-true (e .run .result .continues) (c .if1 .taken)))
 
 loop-less : tie.Need-loop-less Inv-loop μ-loop
 loop-less c =
     let e = c .before .before .before .before .before .before .before .before in
-    omega (arith, taken-few e, e .run .ensures .1 (not-false (e .run .result .continues) (c .if1 .left)))
+    omega (arith, taken-within e, e .run .ensures .1 (not-false (e .run .result .continues) (c .if1 .left)))
 
 loop-again : tie.Need-loop-again Inv-loop μ-loop
 loop-again c =
@@ -114,11 +114,11 @@ loop-again c =
     let x = l .before .before .before .before .args in
     let v = l .loop .inv in
     let o = not-false (e .run .result .continues) (c .if1 .left) in (
-      taken-few e,
+      taken-within e,
       e .run .kept .1 .1 .1 .1 .0 ∙ v .1,
       e .run .kept .1 .1 .1 .1 .1 .0 ∙ v .2,
       λ t a f.
-          let r = ran e t (a, f) in (
+          let r = run-of e t (a, f) in (
             still-fits (x .c) (a .below) _ _ (x .piece .now) (l .loop .i) (e .run .result .taken) (e .run .result .continues) r o (v .3 t a f .0),
             v .3 t a f .1 ∙ further (x .c) (a .below) _ _ (x .piece .now) (l .loop .i) (e .run .result .taken) (e .run .result .continues) r o,
           ),
@@ -134,7 +134,7 @@ returns-2 : tie.Need-returns-2 Inv-loop μ-loop
 returns-2 c t a f =
     let l = c .before in
     let x = l .before .before .before .before .args in
-    sym (l .loop .inv .3 t a f .1 ∙ ap (λ p. bytesOn (x .c) (stands l t) p (l .loop .i)) (drop-of-length-le (x .piece .now) (c .loop-test .left)) ∙ bytes-none (λ v b. byteOf v (x .c) b) (stands l t) (l .loop .i))
+    sym (l .loop .inv .3 t a f .1 ∙ ap (λ p. bytesOn (x .c) (reached l t) p (l .loop .i)) (drop-of-length-le (x .piece .now) (c .loop-test .left)) ∙ bytes-none (λ v b. byteOf v (x .c) b) (reached l t) (l .loop .i))
 
 pub take-spec : {M : Type 1} → statement M
 take-spec =
