@@ -1,5 +1,6 @@
 // What a call asks of the rest of its transfer.
 use channelchecks::survey::Survey;
+use octets::sum;
 ghost use mathlib.Core.Path.{_≡_};
 ghost use mathlib.Core.Bool.{cond};
 ghost use Prim.Native.Nat.{_-_};
@@ -19,10 +20,7 @@ fn less_one_if(counted: bool, n: u64) -> u64
     if !counted {
         return n;
     }
-    if n == 0 {
-        return 0;
-    }
-    n - 1
+    sum::saturating_sub(n, 1)
 }
 
 // The counts of all channels, less one in that state.

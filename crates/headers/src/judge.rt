@@ -2,6 +2,7 @@
 use eblock::descriptor;
 use eblock::header;
 use octets::big;
+use octets::sum;
 ghost use mathlib.Core.Path.{_≡_};
 ghost use mathlib.Core.Bool.{cond, _||_};
 ghost use Prim.Native.Nat.{_+_};
@@ -17,16 +18,6 @@ pub enum Request {
     Claims { start: u64, end: u64 },
     Nothing,
     Faulty(u8),
-}
-
-// Whether a payload ends past the file, in whole numbers.
-fn ends_past(offset: u64, length: u64, len: u64) -> bool
-    ensures { λ r. ⌜ r ≡ ltb len (offset + length) ⌝ }
-{
-    if len < length {
-        return true;
-    }
-    len - length < offset
 }
 
 // A count, where the known one or 0 and the other channels used are given; this one is used with them.
@@ -55,7 +46,7 @@ fn judge_payload(len: u64, length: u64, offset: u64) -> Request
     if length == 0 {
         return Request::Nothing;
     }
-    if ends_past(offset, length, len) {
+    if !sum::sum_at_most(offset, length, len) {
         return Request::Faulty(16);
     }
     Request::Claims {

@@ -2,6 +2,7 @@
 use crate::receive::Receiver;
 use counts::count;
 use ledger::rule;
+use octets::sum;
 use verdicts::verdict;
 use verdicts::verdict::Verdict;
 ghost use mathlib.Core.Path.{_≡_};
@@ -24,9 +25,6 @@ impl Receiver {
     {
         let claimed = rule::total(ledger);
         let left = count::left(self.transfer);
-        if claimed < left {
-            return 0;
-        }
-        claimed - left
+        sum::saturating_sub(claimed, left)
     }
 }

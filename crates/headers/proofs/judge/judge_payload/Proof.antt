@@ -1,10 +1,10 @@
 -- `judge::judge_payload`.
-use Prim.Native.Nat.{_+_, _≤_}
+use Prim.Native.Nat.{_+_, _≤_, _<_}
 use mathlib.Core.Path.{_≡_, sym, _∙_}
 use mathlib.Core.Bool.{false}
 use native.Mathlib.Omega.{arith}
 use borrow.Author.Needs.{needs}
-use borrow.Author.Tests.{ltb-false, ne-eqb}
+use borrow.Author.Tests.{lt-ltb, le-ltb, leb-true, leb-false, ne-eqb, not-true, not-false}
 use lib.Dec.{ltb, eqb}
 use Rattle.headers.proofs.judge.judge_payload.Statement.{statement}
 use Rattle.headers.proofs.judge.judge_payload.Tie as tie
@@ -12,23 +12,27 @@ use Rattle.headers.proofs.judge.judge_payload.Tie as tie
 some : (c : tie.Else1) → eqb (c .before .args .length) 0 ≡ false
 some c = ne-eqb (c .before .args .length) 0 (c .if1 .left)
 
-inside : (c : tie.Else2) → let x = c .before .before .before .args in ltb (x .len) (x .offset + x .length) ≡ false
-inside c = sym (c .before .ends-past .ensures) ∙ c .if2 .left
+-- the test of the sum, turned round
+past : (c : tie.Then2) → let x = c .before .before .before .args in x .len < x .offset + x .length
+past c = let x = c .before .before .before .args in leb-false (x .offset + x .length) (x .len) (sym (c .before .sum-at-most .ensures) ∙ not-true _ (c .if2 .taken))
+
+inside : (c : tie.Else2) → let x = c .before .before .before .args in x .offset + x .length ≤ x .len
+inside c = let x = c .before .before .before .args in leb-true (x .offset + x .length) (x .len) (sym (c .before .sum-at-most .ensures) ∙ not-false _ (c .if2 .left))
 
 returns : tie.Need-returns
 returns c = rw (c .if1 .taken)
 
-ends-past-requires : tie.Need-ends-past-requires
-ends-past-requires c κs = search needs
+sum-at-most-requires : tie.Need-sum-at-most-requires
+sum-at-most-requires c κs = search needs
 
 returns-2 : tie.Need-returns-2
-returns-2 c = rw (some (c .before .before), sym (c .before .ends-past .ensures) ∙ c .if2 .taken)
+returns-2 c = let x = c .before .before .before .args in rw (some (c .before .before), lt-ltb (x .len) (x .offset + x .length) (past c))
 
 add-t6 : tie.Need-add-t6
-add-t6 c = let x = c .before .before .before .args in omega (arith, ltb-false (x .len) (x .offset + x .length) (inside c))
+add-t6 c = let x = c .before .before .before .args in omega (arith, inside c)
 
 returns-3 : tie.Need-returns-3
-returns-3 c = rw (some (c .before .before), inside c)
+returns-3 c = let x = c .before .before .before .args in rw (some (c .before .before), le-ltb (x .len) (x .offset + x .length) (inside c))
 
 pub judge-payload-spec : {M : Type 1} → statement M
-judge-payload-spec = tie.close (tie.spec returns ends-past-requires returns-2 add-t6 returns-3)
+judge-payload-spec = tie.close (tie.spec returns sum-at-most-requires returns-2 add-t6 returns-3)

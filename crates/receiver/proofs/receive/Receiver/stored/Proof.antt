@@ -11,13 +11,12 @@ total-requires c κs = search needs
 left-requires : tie.Need-left-requires
 left-requires c κs = search needs
 
+saturating-sub-requires : tie.Need-saturating-sub-requires
+saturating-sub-requires c κs = search needs
+
 returns : tie.Need-returns
 unfolding storedCut
-returns c = omega (arith, c .before .before .total .ensures, c .before .left .ensures)
-
-returns-2 : tie.Need-returns-2
-unfolding storedCut
-returns-2 c = omega (arith, c .before .before .total .ensures, c .before .left .ensures)
+returns c = omega (arith, c .before .before .total .ensures, c .before .left .ensures, c .saturating-sub .ensures)
 
 pub stored-spec : {M : Type 1} → statement M
-stored-spec = tie.close (tie.spec total-requires left-requires returns returns-2)
+stored-spec = tie.close (tie.spec total-requires left-requires saturating-sub-requires returns)
