@@ -1,4 +1,4 @@
 pub mod Passed
 pub mod Payloads
-pub mod SurveyFields
+pub mod FitReportFields
 pub mod Used

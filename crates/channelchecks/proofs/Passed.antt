@@ -16,7 +16,7 @@ use Rattle.transfer.specs.declared.state.Transfer.{Transfer}
 use Rattle.transfer.specs.Channel.{channelCount, heldLimit, blank}
 use Rattle.transfer.specs.Transfer.{sum, oneIfEnded, endedOf, usedOf}
 use Rattle.transfer.specs.Fit.{channelFits, channelsFit}
-use Rattle.transfer.proofs.Stages.{Stage}
+use Rattle.transfer.proofs.FitChannelKinds.{Stage}
 use Rattle.transfer.proofs.FitChannels.{bytesAt, channel-says}
 use Rattle.counts.proofs.Sum.{sum-at, sum-over, ended-le}
 use Rattle.channelchecks.specs.declared.pass.Pass.{Pass}

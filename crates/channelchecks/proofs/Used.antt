@@ -7,14 +7,14 @@ use native.Mathlib.Omega.{arith}
 use native.Mathlib.Decide.{ℕ-discrete}
 use borrow.Author.Tests.{lt-ltb, ne-eqb}
 use Rattle.transfer.specs.declared.state.Channel.{Channel}
-use Rattle.transfer.specs.Transfer.{sum, oneIfEnded, oneIfAlive}
-use Rattle.transfer.proofs.Stages.{Stage, resting, collecting, storing, state-known}
+use Rattle.transfer.specs.Transfer.{sum, oneIfEnded, oneIfActive}
+use Rattle.transfer.proofs.FitChannelKinds.{Stage, resting, collecting, storing, state-known}
 
 -- one for each channel not unused
 abbrev pub oneIfUsed : Channel → ℕ
-oneIfUsed k = oneIfEnded k + oneIfAlive k
+oneIfUsed k = oneIfEnded k + oneIfActive k
 
-pub sum-used : (ks : List Channel) → sum oneIfUsed ks ≡ sum oneIfEnded ks + sum oneIfAlive ks
+pub sum-used : (ks : List Channel) → sum oneIfUsed ks ≡ sum oneIfEnded ks + sum oneIfActive ks
 unfolding sum
 sum-used [] = refl
 sum-used (k ∷ ks) = omega (arith, sum-used ks)

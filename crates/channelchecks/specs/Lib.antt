@@ -1,3 +1,3 @@
 pub mod Pass
 pub mod Payloads
-pub mod Survey
+pub mod FitReport

@@ -3,4 +3,4 @@ mod channel;
 mod held;
 pub mod limits;
 mod pass;
-pub mod survey;
+pub mod report;

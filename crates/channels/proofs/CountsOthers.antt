@@ -10,14 +10,14 @@ use borrow.Author.Tests.{ne-eqb}
 use lib.Dec.{eqb}
 use lib.ListN.{length, take, drop, set, take-append-drop}
 use lib.Seq.{set-getD, drop-drop}
-use Rattle.channelchecks.specs.declared.survey.Survey.{Survey}
+use Rattle.channelchecks.specs.declared.report.FitReport.{FitReport}
 use Rattle.transfer.specs.declared.state.Channel.{Channel}
 use Rattle.transfer.specs.declared.state.Transfer.{Transfer}
 use Rattle.transfer.specs.Channel.{channelCount, heldLimit, blank, channelAt}
-use Rattle.transfer.specs.Transfer.{sum, oneIfEnded, oneIfAlive, endedOf, usedOf, World}
-use Rattle.transfer.proofs.Stages.{Stage, resting, collecting, storing}
+use Rattle.transfer.specs.Transfer.{sum, oneIfEnded, oneIfActive, endedOf, usedOf, World}
+use Rattle.transfer.proofs.FitChannelKinds.{Stage, resting, collecting, storing}
 use Rattle.transfer.proofs.Sums.{sum-set, one-of}
-use Rattle.transfer.proofs.Together.{Together}
+use Rattle.transfer.proofs.FitByChannel.{Together}
 use Rattle.channels.specs.declared.channel_state.ChannelState.{ChannelState}
 use Rattle.channels.specs.ChannelState.{numbers, channelStateOf, writeBack}
 use Rattle.channels.specs.OtherChannels.{othersOf, CountsOthers}
@@ -38,14 +38,14 @@ unfolding writeBack
 write-back-fields t c x h e = rw e
 
 -- a channel that is not unused counts for one
-counted : (k : Channel) → Stage k → oneIfEnded k + oneIfAlive k ≡ cond (eqb (k .state) 0) 0 1
+counted : (k : Channel) → Stage k → oneIfEnded k + oneIfActive k ≡ cond (eqb (k .state) 0) 0 1
 counted k (resting (inl s) a b d) = rw s
 counted k (resting (inr s) a b d) = rw s
 counted k (collecting s a b d) = rw s
 counted k (storing (inl s) a b) = rw s
 counted k (storing (inr s) a b) = rw s
 
-module _ (w : World) (f : Together w) (c : ℕ) (h : c < channelCount) (found : Survey) (u : found .used ≡ usedOf (w .t)) (e : found .ended ≡ endedOf (w .t)) where
+module _ (w : World) (f : Together w) (c : ℕ) (h : c < channelCount) (found : FitReport) (u : found .used ≡ usedOf (w .t)) (e : found .ended ≡ endedOf (w .t)) where
   abbrev k : Channel
   k = channelAt (w .t) c
 
@@ -69,28 +69,28 @@ module _ (w : World) (f : Together w) (c : ℕ) (h : c < channelCount) (found : 
       go (yes p) = let i : oneIfEnded k ≡ 1 = rw p in rw p (omega (arith, e, s, one, i))
       go (no p) = let i : oneIfEnded k ≡ 0 = rw (ne-eqb (k .state) 4 p) in rw (ne-eqb (k .state) 4 p) (omega (arith, e, s, i))
 
-  rest-used : (x : ChannelState) → usedOf (writeBack (w .t) c x) ≡ cond (eqb (k .state) 0) (found .used) (found .used - 1) + (oneIfEnded (numbers x) + oneIfAlive (numbers x))
+  rest-used : (x : ChannelState) → usedOf (writeBack (w .t) c x) ≡ cond (eqb (k .state) 0) (found .used) (found .used - 1) + (oneIfEnded (numbers x) + oneIfActive (numbers x))
   unfolding usedOf endedOf writeBack
   rest-used x = go (ℕ-discrete (k .state) 0)
     where
       s : sum oneIfEnded (set ks c (numbers x)) + oneIfEnded k ≡ sum oneIfEnded ks + oneIfEnded (numbers x)
       s = sum-set oneIfEnded blank ks c (numbers x) row
 
-      a : sum oneIfAlive (set ks c (numbers x)) + oneIfAlive k ≡ sum oneIfAlive ks + oneIfAlive (numbers x)
-      a = sum-set oneIfAlive blank ks c (numbers x) row
+      a : sum oneIfActive (set ks c (numbers x)) + oneIfActive k ≡ sum oneIfActive ks + oneIfActive (numbers x)
+      a = sum-set oneIfActive blank ks c (numbers x) row
 
-      n : oneIfEnded k + oneIfAlive k ≡ cond (eqb (k .state) 0) 0 1
+      n : oneIfEnded k + oneIfActive k ≡ cond (eqb (k .state) 0) 0 1
       n = counted k (f .stages c h)
 
       one : oneIfEnded k ≤ sum oneIfEnded ks
       one = one-of oneIfEnded blank ks c row
 
-      two : oneIfAlive k ≤ sum oneIfAlive ks
-      two = one-of oneIfAlive blank ks c row
+      two : oneIfActive k ≤ sum oneIfActive ks
+      two = one-of oneIfActive blank ks c row
 
-      go : Dec (k .state ≡ 0) → sum oneIfEnded (set ks c (numbers x)) + sum oneIfAlive (set ks c (numbers x)) ≡ cond (eqb (k .state) 0) (found .used) (found .used - 1) + (oneIfEnded (numbers x) + oneIfAlive (numbers x))
-      go (yes p) = let m : oneIfEnded k + oneIfAlive k ≡ 0 = n ∙ rw p in rw p (omega (arith, u, s, a, m))
-      go (no p) = let m : oneIfEnded k + oneIfAlive k ≡ 1 = n ∙ rw (ne-eqb (k .state) 0 p) in rw (ne-eqb (k .state) 0 p) (omega (arith, u, s, a, m, one, two))
+      go : Dec (k .state ≡ 0) → sum oneIfEnded (set ks c (numbers x)) + sum oneIfActive (set ks c (numbers x)) ≡ cond (eqb (k .state) 0) (found .used) (found .used - 1) + (oneIfEnded (numbers x) + oneIfActive (numbers x))
+      go (yes p) = let m : oneIfEnded k + oneIfActive k ≡ 0 = n ∙ rw p in rw p (omega (arith, u, s, a, m))
+      go (no p) = let m : oneIfEnded k + oneIfActive k ≡ 1 = n ∙ rw (ne-eqb (k .state) 0 p) in rw (ne-eqb (k .state) 0 p) (omega (arith, u, s, a, m, one, two))
 
   pub counts-others : CountsOthers (w .t) c (othersOf (w .t .len) found (k .state))
   unfolding othersOf

@@ -6,39 +6,39 @@ use mathlib.Core.List.{List, []}
 use Rattle.transfer.specs.declared.state.Transfer.{Transfer}
 use Rattle.transfer.specs.Channel.{header, payload, ended, putState, putFault}
 use Rattle.transfer.specs.Transfer.{World, world, withTransfer, isFinal}
-use Rattle.transfer.specs.Receive.{goes, stops, faults, ends, opens}
+use Rattle.transfer.specs.Receive.{continues, stops, stopWithFault, endChannel, beginPayload}
 
-opens-some : (w : World) (c p n : ℕ) (last : Bool) → (n ≡ 0 → ⊥) → goes (withTransfer w (putState (w .t) c (payload p n last))) ≡ opens w c p n last
-unfolding opens
+opens-some : (w : World) (c p n : ℕ) (last : Bool) → (n ≡ 0 → ⊥) → continues (withTransfer w (putState (w .t) c (payload p n last))) ≡ beginPayload w c p n last
+unfolding beginPayload
 opens-some w c p zero last z = absurd (z refl)
 opens-some w c p (suc n) last z = refl
 
 -- from the transfer t the code makes u
 module _ (t u : Transfer) (c : ℕ) (file ledger : List ℕ) where
-  pub leaves-fault : (k : ℕ) → u ≡ putFault (putState t c (header [])) k c → stops (world u file ledger) ≡ faults (world t file ledger) c k
-  unfolding faults
+  pub leaves-fault : (k : ℕ) → u ≡ putFault (putState t c (header [])) k c → stops (world u file ledger) ≡ stopWithFault (world t file ledger) c k
+  unfolding stopWithFault
   leaves-fault k e = rw e
 
-  pub ends-20 : isFinal t ≡ true → u ≡ putFault (putState t c (header [])) 20 c → stops (world u file ledger) ≡ ends (world t file ledger) c
-  unfolding ends
+  pub ends-20 : isFinal t ≡ true → u ≡ putFault (putState t c (header [])) 20 c → stops (world u file ledger) ≡ endChannel (world t file ledger) c
+  unfolding endChannel
   ends-20 f e = rw f (leaves-fault 20 e)
 
-  pub ends-ended : isFinal t ≡ false → u ≡ putState t c ended → stops (world u file ledger) ≡ ends (world t file ledger) c
-  unfolding ends
+  pub ends-ended : isFinal t ≡ false → u ≡ putState t c ended → stops (world u file ledger) ≡ endChannel (world t file ledger) c
+  unfolding endChannel
   ends-ended f e = rw (f, e)
 
   -- n payload bytes from the place p on are to come
   module _ (p n : ℕ) (last : Bool) where
     pub opens-header : n ≡ 0 → last ≡ false → u ≡ putState t c (header [])
-        → goes (world u file ledger) ≡ opens (world t file ledger) c p n last
-    unfolding opens
+        → continues (world u file ledger) ≡ beginPayload (world t file ledger) c p n last
+    unfolding beginPayload
     opens-header z l e = rw (z, l, e)
 
     pub opens-payload : (n ≡ 0 → ⊥) → u ≡ putState t c (payload p n last)
-        → goes (world u file ledger) ≡ opens (world t file ledger) c p n last
+        → continues (world u file ledger) ≡ beginPayload (world t file ledger) c p n last
     opens-payload z e = rw e (opens-some (world t file ledger) c p n last z)
 
 -- no payload, and the channel ends
-pub opens-ends : (w : World) (c p n : ℕ) (last : Bool) → n ≡ 0 → last ≡ true → ends w c ≡ opens w c p n last
-unfolding opens
+pub opens-ends : (w : World) (c p n : ℕ) (last : Bool) → n ≡ 0 → last ≡ true → endChannel w c ≡ beginPayload w c p n last
+unfolding beginPayload
 opens-ends w c p n last z l = rw (z, l)

@@ -10,8 +10,8 @@ use lib.ListN.{length, take, drop, length-append}
 use lib.Seq.{getD-set-same, set-set, take-at, drop-at, take-append-add, take-append-le, drop-append-add, drop-append-le, length-take-le}
 use Rattle.transfer.specs.declared.state.Transfer.{Transfer}
 use Rattle.transfer.specs.Channel.{heldLimit, State, header, payload, ended, stateNumber, heldNumber, nextNumber, leftNumber, heldBytes, numbersOf, blank, channelAt, putState, putFault}
-use Rattle.transfer.specs.Transfer.{oneIfEnded, oneIfAlive, endedOf, usedOf, world, guess, result, broken, isFinal, verdictOf}
-use Rattle.transfer.specs.Header.{askedOf}
+use Rattle.transfer.specs.Transfer.{oneIfEnded, oneIfActive, endedOf, usedOf, world, guess, result, broken, isFinal, verdictOf}
+use Rattle.transfer.specs.Header.{requestOf}
 use Rattle.channels.specs.declared.channel_state.ChannelState.{ChannelState}
 use Rattle.channels.specs.declared.other_channels.OtherChannels.{OtherChannels}
 use Rattle.channels.specs.ChannelState.{numbers, writeBack, withState, withFault}
@@ -128,14 +128,14 @@ module _ (t : Transfer) (c : ℕ) (o : OtherChannels) (a : CountsOthers t c o) w
   write-back-verdict x file ledger = rw (a .ended x) (unfold writeBack in refl)
 
   pub write-back-used : (x : ChannelState) → x .state ≡ 1 → usedOf (writeBack t c x) ≡ o .used + 1
-  write-back-used x s = let z : oneIfEnded (numbers x) + oneIfAlive (numbers x) ≡ 1 = rw s in omega (arith, a .used x, z)
+  write-back-used x s = let z : oneIfEnded (numbers x) + oneIfActive (numbers x) ≡ 1 = rw s in omega (arith, a .used x, z)
 
   pub write-back-unused : (x : ChannelState) → x .state ≡ 0 → usedOf (writeBack t c x) ≡ o .used
-  write-back-unused x s = let z : oneIfEnded (numbers x) + oneIfAlive (numbers x) ≡ 0 = rw s in omega (arith, a .used x, z)
+  write-back-unused x s = let z : oneIfEnded (numbers x) + oneIfActive (numbers x) ≡ 0 = rw s in omega (arith, a .used x, z)
 
   pub write-back-count-reached : (x : ChannelState) → x .state ≡ 0 → countReached (writeBack t c x .count) (usedOf (writeBack t c x)) ≡ countReached (x .count) (o .used)
   write-back-count-reached x s = rw (write-back-unused x s) (unfold writeBack in refl)
 
   -- what a header asks for, by the numbers that the code has
-  pub write-back-asked : (x : ChannelState) (h : List ℕ) → x .state ≡ 1 → askedOf (o .len) (x .count) (o .used + 1) h ≡ askedOf (writeBack t c x .len) (writeBack t c x .count) (usedOf (writeBack t c x)) h
+  pub write-back-asked : (x : ChannelState) (h : List ℕ) → x .state ≡ 1 → requestOf (o .len) (x .count) (o .used + 1) h ≡ requestOf (writeBack t c x .len) (writeBack t c x .count) (usedOf (writeBack t c x)) h
   write-back-asked x h s = rw (write-back-used x s) (unfold writeBack in rw (a .len))

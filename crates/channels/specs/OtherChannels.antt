@@ -4,16 +4,16 @@ use mathlib.Core.Path.{_≡_}
 use mathlib.Core.Bool.{cond}
 use lib.Dec.{eqb}
 use lib.ListN.{length}
-use Rattle.channelchecks.specs.declared.survey.Survey.{Survey}
+use Rattle.channelchecks.specs.declared.report.FitReport.{FitReport}
 use Rattle.transfer.specs.declared.state.Transfer.{Transfer}
 use Rattle.transfer.specs.Channel.{channelCount, heldLimit}
-use Rattle.transfer.specs.Transfer.{oneIfEnded, oneIfAlive, endedOf, usedOf}
+use Rattle.transfer.specs.Transfer.{oneIfEnded, oneIfActive, endedOf, usedOf}
 use Rattle.channels.specs.declared.channel_state.ChannelState.{ChannelState}
 use Rattle.channels.specs.declared.other_channels.OtherChannels.{OtherChannels}
 use Rattle.channels.specs.ChannelState.{numbers, writeBack}
 
 -- the counts of all channels, less one in that state
-unfoldable pub othersOf : ℕ → Survey → ℕ → OtherChannels
+unfoldable pub othersOf : ℕ → FitReport → ℕ → OtherChannels
 othersOf len found s =
     record { len = len; used = cond (eqb s 0) (found .used) (found .used - 1); ended = cond (eqb s 4) (found .ended - 1) (found .ended) }
 
@@ -23,5 +23,5 @@ pub record CountsOthers (t : Transfer) (c : ℕ) (o : OtherChannels) : Type 0 wh
   pub channels : length (t .channels) ≡ channelCount
   pub heads : length (t .heads) ≡ heldLimit * channelCount
   pub len : t .len ≡ o .len
-  pub used : (x : ChannelState) → usedOf (writeBack t c x) ≡ o .used + (oneIfEnded (numbers x) + oneIfAlive (numbers x))
+  pub used : (x : ChannelState) → usedOf (writeBack t c x) ≡ o .used + (oneIfEnded (numbers x) + oneIfActive (numbers x))
   pub ended : (x : ChannelState) → endedOf (writeBack t c x) ≡ o .ended + oneIfEnded (numbers x)

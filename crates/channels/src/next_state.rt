@@ -9,7 +9,7 @@ ghost use mathlib.Core.List.{List};
 ghost use Prim.Native.Nat.{ℕ, _<_};
 ghost use Rattle.transfer.specs.declared.state.Transfer.{Transfer};
 ghost use Rattle.transfer.specs.Transfer.{world};
-ghost use Rattle.transfer.specs.Receive.{opens, ends};
+ghost use Rattle.transfer.specs.Receive.{beginPayload, endChannel};
 ghost use Rattle.channels.specs.ChannelState.{writeBack};
 ghost use Rattle.channels.specs.OtherChannels.{CountsOthers};
 ghost use Rattle.channels.specs.NextState.{continuesOrStops};
@@ -22,7 +22,7 @@ pub struct NextState {
 
 // The channel ends; 20 where as many as announced have ended already.
 fn close(x: ChannelState, c: usize, o: OtherChannels) -> NextState
-    ensures { λ r. ⌜ (x .state < 4 → (t : Transfer) (file ledger : List ℕ) → CountsOthers t c o → continuesOrStops (r .continues) (world (writeBack t c (r .channel)) file ledger) ≡ ends (world (writeBack t c x) file ledger) c) ⌝ }
+    ensures { λ r. ⌜ (x .state < 4 → (t : Transfer) (file ledger : List ℕ) → CountsOthers t c o → continuesOrStops (r .continues) (world (writeBack t c (r .channel)) file ledger) ≡ endChannel (world (writeBack t c x) file ledger) c) ⌝ }
 {
     if verdict::count_reached(x.count, o.ended) {
         return NextState {
@@ -55,7 +55,7 @@ pub fn open(
     left: u64,
     last: bool,
 ) -> NextState
-    ensures { λ r. ⌜ (x .state < 4 → (t : Transfer) (file ledger : List ℕ) → CountsOthers t c o → continuesOrStops (r .continues) (world (writeBack t c (r .channel)) file ledger) ≡ opens (world (writeBack t c x) file ledger) c next left last) ⌝ }
+    ensures { λ r. ⌜ (x .state < 4 → (t : Transfer) (file ledger : List ℕ) → CountsOthers t c o → continuesOrStops (r .continues) (world (writeBack t c (r .channel)) file ledger) ≡ beginPayload (world (writeBack t c x) file ledger) c next left last) ⌝ }
 {
     if left == 0 {
         if last {

@@ -1,5 +1,5 @@
 // What a call asks of the rest of its transfer.
-use channelchecks::survey::Survey;
+use channelchecks::report::FitReport;
 use octets::sum;
 ghost use mathlib.Core.Path.{_≡_};
 ghost use mathlib.Core.Bool.{cond};
@@ -24,7 +24,7 @@ fn less_one_if(counted: bool, n: u64) -> u64
 }
 
 // The counts of all channels, less one in that state.
-pub fn counts_without(len: u64, found: Survey, state: u8) -> OtherChannels
+pub fn counts_without(len: u64, found: FitReport, state: u8) -> OtherChannels
     ensures { λ r. ⌜ r ≡ othersOf len found state ⌝ }
 {
     OtherChannels {

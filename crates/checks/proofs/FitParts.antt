@@ -6,12 +6,12 @@ use mathlib.Core.List.{List}
 use borrow.Author.Tests.{eq-eqb}
 use lib.Dec.{leb, eqb}
 use lib.ListN.{length}
-use Rattle.ledger.specs.Pairs.{endsBy}
+use Rattle.ledger.specs.Pairs.{endsAtMost}
 use Rattle.ledger.specs.Ledger.{obeys, pairsOf}
 use Rattle.transfer.specs.declared.state.Transfer.{Transfer}
 use Rattle.transfer.specs.Channel.{channelCount, heldLimit}
 use Rattle.transfer.specs.Fit.{pairLimit, channelsFit, restsApart, countFits, faultFits, fitsLedger}
-use Rattle.channelchecks.specs.Survey.{allFit, ledgerFits}
+use Rattle.channelchecks.specs.FitReport.{allFit, ledgerFits}
 
 -- eight tests, the last moved to the front
 moved : (a b o e k r n f : Bool) → (a && (b && (o && (e && (k && (r && (n && f))))))) ≡ ((a && b) && (f && (((o && e) && (k && r)) && n)))
@@ -33,7 +33,7 @@ fits-by-parts t l h g =
     (leb (t .pairs) pairLimit)
     (eqb (length l) (2 * t .pairs))
     (obeys l)
-    (endsBy (t .len) (pairsOf l))
+    (endsAtMost (t .len) (pairsOf l))
     (channelsFit (pairsOf l) (t .channels) (t .heads))
     (restsApart (t .channels))
     (countFits t)

@@ -1,2 +1,2 @@
 pub mod FitParts
-pub mod FitSurvey
+pub mod ReportOf

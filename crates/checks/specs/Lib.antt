@@ -1,1 +1,1 @@
-pub mod FitSurvey
+pub mod ReportOf

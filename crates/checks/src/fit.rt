@@ -1,28 +1,28 @@
 // FIT: the tests that read least come first.
 use crate::numbers;
-use channelchecks::survey;
-use channelchecks::survey::Survey;
+use channelchecks::report;
+use channelchecks::report::FitReport;
 use transfer::state::Transfer;
 ghost use mathlib.Core.Path.{_≡_};
 ghost use Rattle.transfer.specs.Fit.{fitsLedger};
-ghost use Rattle.checks.specs.FitSurvey.{surveyOf, surveyIn};
+ghost use Rattle.checks.specs.ReportOf.{reportOf, reportIn};
 
 // All but the file's length, with what is counted on the way.
-fn surveyed(t: Transfer, ledger: &[u64]) -> Survey
-    ensures { λ r. ⌜ r ≡ surveyOf t (now (ledger .entry)) ⌝ }
+fn fit_report(t: Transfer, ledger: &[u64]) -> FitReport
+    ensures { λ r. ⌜ r ≡ reportOf t (now (ledger .entry)) ⌝ }
 {
     if !numbers::pairs_fit(t.pairs, ledger.len()) {
-        return survey::unfit();
+        return report::unfit();
     }
     if !numbers::fault_fits(t.fault, t.on) {
-        return survey::unfit();
+        return report::unfit();
     }
-    let found = survey::survey_channels(t, ledger);
+    let found = report::report_channels(t, ledger);
     if !found.fits {
-        return survey::unfit();
+        return report::unfit();
     }
     if !numbers::count_fits(t.count, found.used) {
-        return survey::unfit();
+        return report::unfit();
     }
     found
 }
@@ -31,16 +31,16 @@ fn surveyed(t: Transfer, ledger: &[u64]) -> Survey
 pub fn without_file(t: Transfer, ledger: &[u64]) -> bool
     ensures { λ r. ⌜ r ≡ fitsLedger t (now (ledger .entry)) ⌝ }
 {
-    let found = surveyed(t, ledger);
+    let found = fit_report(t, ledger);
     found.fits
 }
 
 // The whole of it, for a file of so many bytes.
-pub fn whole(t: Transfer, file: usize, ledger: &[u64]) -> Survey
-    ensures { λ r. ⌜ r ≡ surveyIn file t (now (ledger .entry)) ⌝ }
+pub fn whole(t: Transfer, file: usize, ledger: &[u64]) -> FitReport
+    ensures { λ r. ⌜ r ≡ reportIn file t (now (ledger .entry)) ⌝ }
 {
     if file as u64 != t.len {
-        return survey::unfit();
+        return report::unfit();
     }
-    surveyed(t, ledger)
+    fit_report(t, ledger)
 }

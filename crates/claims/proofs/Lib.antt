@@ -1,5 +1,5 @@
 mod ShiftLoops
-mod Shares
+mod Overlaps
 mod ShiftedPairs
 mod JoinRoom
 mod PairCounts

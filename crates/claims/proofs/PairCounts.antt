@@ -9,8 +9,8 @@ use borrow.Author.Tests.{lt-ltb, ltb-true}
 use lib.Dec.{ltb}
 use lib.ListN.{length, getD, drop}
 use Rattle.ledger.specs.Pairs.{Pairs, none, pair}
-use Rattle.ledger.specs.Ledger.{pairsOf, roomOf}
-use Rattle.ledger.proofs.Opened.{pairs-unused, pairs-used, pairs-over}
+use Rattle.ledger.specs.Ledger.{pairsOf, capacity}
+use Rattle.ledger.proofs.LedgerPairAt.{pairs-unused, pairs-used, pairs-over}
 use Rattle.rangechecks.proofs.BinarySearch.{past-end}
 
 -- a count that goes on while the test holds
@@ -21,7 +21,7 @@ pub record Counts (count : Pairs → ℕ) (test : ℕ → ℕ → Bool) : Type 0
 
 module _ (count : Pairs → ℕ) (test : ℕ → ℕ → Bool) (v : Counts count test) (l : List ℕ) (k : ℕ) where
   pub counted : (ltb 0 (getD l (2 * k + 1) 0) && test (getD l (2 * k) 0) (getD l (2 * k + 1) 0)) ≡ true
-      → (k < roomOf l) × (count (pairsOf (drop (2 * k) l)) ≡ suc (count (pairsOf (drop (2 * (k + 1)) l))))
+      → (k < capacity l) × (count (pairsOf (drop (2 * k) l)) ≡ suc (count (pairsOf (drop (2 * (k + 1)) l))))
   counted e =
       let a = getD l (2 * k) 0 in
       let b = getD l (2 * k + 1) 0 in

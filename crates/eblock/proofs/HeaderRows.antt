@@ -10,7 +10,7 @@ use Rattle.octets.specs.Digits.{toBig}
 use Rattle.answers.specs.Written.{Refuses, Writes}
 use Rattle.answers.proofs.WrittenBy.{refuses, writes}
 use Rattle.eblock.specs.Descriptor.{has, faultOf}
-use Rattle.eblock.specs.Header.{descriptorOf, secondOf, thirdOf, bytesOf, refusalOf, readOf, secondField, writeNumber, writeOf, writeAfter, number, values}
+use Rattle.eblock.specs.Header.{descriptorOf, secondOf, thirdOf, headerBytes, refusalOf, readOf, secondField, writeNumber, writeOf, writeAfter, number, values}
 use Rattle.eblock.specs.HeaderRows.{Reads, ReadRows, WriteRows}
 use Rattle.eblock.specs.declared.header.Header.{Header}
 use Rattle.eblock.specs.declared.header.Header.the-variants.{Data, Eodc, Refused}
@@ -59,13 +59,13 @@ read-rows = record { reads-21 = reads-21; reads-fault = reads-fault; reads-15 = 
 module _ (d len third : ℕ) (out : List ℕ) where
   refused : (k : ℕ) → writeNumber d third out ≡ k → 0 < k → Refuses (writeOf d third out) (writeAfter d len third out) out k
   unfolding writeOf writeAfter
-  refused k e h = refuses (writeNumber d third out) 17 (bytesOf d (secondField d len) third) out k e h
+  refused k e h = refuses (writeNumber d third out) 17 (headerBytes d (secondField d len) third) out k e h
 
   written : (second : ℕ) → refusalOf d third ≡ 0 → secondField d len ≡ second → 17 ≤ length out
       → Writes (writeOf d third out) (writeAfter d len third out) out (d ∷ (toBig 256 8 second ++ toBig 256 8 third)) 17
-  unfolding writeOf writeAfter bytesOf
+  unfolding writeOf writeAfter headerBytes
   written second r s l =
-      rw s (writes (writeNumber d third out) 17 (bytesOf d second third) out (answers.number-0 d third out r l) (length-bytesOf d second third))
+      rw s (writes (writeNumber d third out) 17 (headerBytes d second third) out (answers.number-0 d third out r l) (length-bytesOf d second third))
 
   writes-fault : 0 < faultOf d → Refuses (writeOf d third out) (writeAfter d len third out) out (faultOf d)
   writes-fault f = refused (faultOf d) (answers.number-refused d third out (faultOf d) (answers.refusal-fault d third f) f) f

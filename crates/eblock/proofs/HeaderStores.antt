@@ -8,12 +8,12 @@ use lib.ListN.{length, set, drop}
 use lib.Seq.{take-at, drop-at, drop-drop}
 use Rattle.octets.specs.Digits.{toBig}
 use Rattle.octets.proofs.Digits.{length-toBig}
-use Rattle.eblock.specs.Header.{headerLength, bytesOf}
+use Rattle.eblock.specs.Header.{headerLength, headerBytes}
 
 -- ys and zs are the two parts of eight bytes
 pub placed : (d second third : ℕ) (out ys zs : List ℕ) → headerLength ≤ length out → ys ≡ toBig 256 8 second → zs ≡ toBig 256 8 third
-    → putMid 9 8 (putMid 1 8 (set out 0 d) ys) zs ≡ bytesOf d second third ++ drop headerLength out
-unfolding bytesOf
+    → putMid 9 8 (putMid 1 8 (set out 0 d) ys) zs ≡ headerBytes d second third ++ drop headerLength out
+unfolding headerBytes
 placed d second third [] ys zs h e g = absurd (omega arith)
 placed d second third (x ∷ rest) ys zs h e g =
     let s = toBig 256 8 second in

@@ -11,7 +11,7 @@ use Rattle.octets.specs.Digits.{Below}
 use Rattle.answers.specs.declared.written.Written.the-variants.{Bytes}
 use Rattle.answers.proofs.WrittenBy.{written}
 use Rattle.eblock.specs.Descriptor.{has, eodc}
-use Rattle.eblock.specs.Header.{headerLength, descriptorOf, secondOf, thirdOf, bytesOf, refusalOf, meant, readOf, secondField, writeNumber, writeOf, writeAfter}
+use Rattle.eblock.specs.Header.{headerLength, descriptorOf, secondOf, thirdOf, headerBytes, refusalOf, meant, readOf, secondField, writeNumber, writeOf, writeAfter}
 use Rattle.eblock.specs.RoundTrip.{Rewrites, RoundTrip}
 use Rattle.eblock.specs.declared.header.Header.{Header}
 use Rattle.eblock.specs.declared.header.Header.the-variants.{Data, Eodc, Refused}
@@ -38,20 +38,20 @@ second-lt d len h = go (has eodc d) refl
     go false e = rw e h
 
 -- the reader on the bytes of fields that are accepted
-reads-bytes : (d second third : ℕ) → second < 2 ^ 64 → third < 2 ^ 64 → refusalOf d third ≡ 0 → readOf (bytesOf d second third) ≡ meant d second third
-unfolding bytesOf
+reads-bytes : (d second third : ℕ) → second < 2 ^ 64 → third < 2 ^ 64 → refusalOf d third ≡ 0 → readOf (headerBytes d second third) ≡ meant d second third
+unfolding headerBytes
 reads-bytes d second third h g k =
-    let b = bytesOf d second third in
+    let b = headerBytes d second third in
     let t : thirdOf b ≡ third = third-reads-back d second third g in
     let s : secondOf b ≡ second = second-reads-back d second third h in
     reads-meant b (length-bytesOf d second third) (ap (refusalOf d) t ∙ k) ∙ rw (s, t)
 
 -- the lent bytes after a header that was written
 stored : (d len third : ℕ) (out : List ℕ) → refusalOf d third ≡ 0 → headerLength ≤ length out
-    → (writeOf d third out ≡ Bytes headerLength) × (writeAfter d len third out ≡ bytesOf d (secondField d len) third ++ drop headerLength out)
+    → (writeOf d third out ≡ Bytes headerLength) × (writeAfter d len third out ≡ headerBytes d (secondField d len) third ++ drop headerLength out)
 unfolding writeOf writeAfter
 stored d len third out r l =
-    let bytes = bytesOf d (secondField d len) third in
+    let bytes = headerBytes d (secondField d len) third in
     let w = written (writeNumber d third out) headerLength bytes out (number-0 d third out r l) in
     (sym (w .0), sym (w .1) ∙ rw (length-bytesOf d (secondField d len) third))
 
@@ -60,7 +60,7 @@ reads-written : (d len third : ℕ) (out : List ℕ) → len < 2 ^ 64 → third 
 reads-written d len third out h g e =
     let a = accepts d third out e in
     let s = secondField d len in
-    rw (stored d len third out (a .0) (a .1) .1, take-at (bytesOf d s third) (drop headerLength out) headerLength (length-bytesOf d s third))
+    rw (stored d len third out (a .0) (a .1) .1, take-at (headerBytes d s third) (drop headerLength out) headerLength (length-bytesOf d s third))
     (reads-bytes d s third (second-lt d len h) g (a .0) ∙ meant-second d len third)
 
 -- ---- what was read

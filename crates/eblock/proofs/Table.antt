@@ -5,10 +5,10 @@ use mathlib.Core.Logic.{_⊎_, inl, inr}
 use mathlib.Core.Bool.{Bool, true, false, cond, _||_}
 use native.Mathlib.Omega.{arith}
 use Rattle.eblock.specs.Descriptor.{has, endOfRecord, restartMarker, closesEarly, suspectsCount, faultOf}
-use Rattle.eblock.specs.Table.{those, withFault, Table}
+use Rattle.eblock.specs.Table.{filterBelow, withFault, Table}
 
 pub table : Table
-unfolding those withFault faultOf has
+unfolding filterBelow withFault faultOf has
 table = record { accepted = refl; eleven = refl; twelve = refl; thirteen = refl; counts = refl; ends = refl }
 
 either : (t : Bool) (a b : ℕ) → (P : ℕ → Type 0) → P a → P b → P (cond t a b)

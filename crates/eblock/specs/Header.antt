@@ -33,8 +33,8 @@ unfoldable pub thirdOf : List ℕ → ℕ
 thirdOf h = fromBig 256 (take 8 (drop 9 h))
 
 -- the bytes of a header with these three fields
-unfoldable pub bytesOf : ℕ → ℕ → ℕ → List ℕ
-bytesOf d second third = d ∷ (toBig 256 8 second ++ toBig 256 8 third)
+unfoldable pub headerBytes : ℕ → ℕ → ℕ → List ℕ
+headerBytes d second third = d ∷ (toBig 256 8 second ++ toBig 256 8 third)
 
 -- ---- what reader and writer share
 
@@ -72,7 +72,7 @@ unfoldable pub writeOf : ℕ → ℕ → List ℕ → Written
 writeOf d third out = writtenBy (writeNumber d third out) headerLength
 
 unfoldable pub writeAfter : ℕ → ℕ → ℕ → List ℕ → List ℕ
-writeAfter d len third out = writtenAfter (writeNumber d third out) (bytesOf d (secondField d len) third) out
+writeAfter d len third out = writtenAfter (writeNumber d third out) (headerBytes d (secondField d len) third) out
 
 -- ---- document 01's number for each case of an answer, 0 where nothing is refused, and the values it carries
 

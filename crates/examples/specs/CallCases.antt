@@ -5,7 +5,7 @@ use mathlib.Core.Path.{_≡_}
 use mathlib.Core.List.{List, [], _∷_, _++_}
 use lib.ListN.{replicate}
 use Rattle.octets.specs.Cases.{AllHold}
-use Rattle.eblock.specs.Header.{bytesOf}
+use Rattle.eblock.specs.Header.{headerBytes}
 use Rattle.transfer.specs.Transfer.{Verdict, guess, result, broken, verdictOf, storedOf}
 use Rattle.transfer.specs.Receive.{Answer, refused, took}
 use Rattle.transfer.specs.Calls.{Call, receive, begun, answersOf, after}
@@ -51,29 +51,29 @@ cases =
     -- after RESULT every call is 3, 1 and 2 before it
     ∷ goesOn 8 1 (first ∷ second ∷ third ∷ receive 5 [] ∷ receive 64 [] ∷ []) (took 21 ∷ took 21 ∷ took 17 ∷ refused 3 ∷ refused 2 ∷ []) result 8 (0 ∷ 8 ∷ [])
     -- an empty range far past F
-    ∷ goesOn 8 0 (receive 0 (bytesOf 0 0 100) ∷ []) (took 17 ∷ []) guess 0 []
+    ∷ goesOn 8 0 (receive 0 (headerBytes 0 0 100) ∷ []) (took 17 ∷ []) guess 0 []
     -- offset and length of which the sum does not fit 64 bits
-    ∷ breaks 8 1 (receive 0 (bytesOf 0 18446744073709551615 18446744073709551615) ∷ []) (took 17 ∷ []) 16 0 0 (0 ∷ 0 ∷ [])
+    ∷ breaks 8 1 (receive 0 (headerBytes 0 18446744073709551615 18446744073709551615) ∷ []) (took 17 ∷ []) 16 0 0 (0 ∷ 0 ∷ [])
     -- bytes 0 to 3 claimed: 6 to 7 lacks a pair
-    ∷ breaks 8 1 (receive 0 (bytesOf 0 4 0) ∷ receive 1 (bytesOf 0 2 6) ∷ []) (took 17 ∷ took 17 ∷ []) 18 1 0 (0 ∷ 4 ∷ [])
+    ∷ breaks 8 1 (receive 0 (headerBytes 0 4 0) ∷ receive 1 (headerBytes 0 2 6) ∷ []) (took 17 ∷ took 17 ∷ []) 18 1 0 (0 ∷ 4 ∷ [])
     -- past F and sharing bytes: 16; sharing bytes where pairs are lacking: 17
-    ∷ breaks 8 1 (receive 0 (bytesOf 0 4 0) ∷ receive 1 (bytesOf 0 6 3) ∷ []) (took 17 ∷ took 17 ∷ []) 16 1 0 (0 ∷ 4 ∷ [])
-    ∷ breaks 8 2 (receive 0 (bytesOf 0 2 0) ∷ receive 1 (bytesOf 0 2 6) ∷ receive 2 (bytesOf 0 3 4) ∷ []) (took 17 ∷ took 17 ∷ took 17 ∷ []) 17 2 0 (0 ∷ 2 ∷ 6 ∷ 8 ∷ [])
+    ∷ breaks 8 1 (receive 0 (headerBytes 0 4 0) ∷ receive 1 (headerBytes 0 6 3) ∷ []) (took 17 ∷ took 17 ∷ []) 16 1 0 (0 ∷ 4 ∷ [])
+    ∷ breaks 8 2 (receive 0 (headerBytes 0 2 0) ∷ receive 1 (headerBytes 0 2 6) ∷ receive 2 (headerBytes 0 3 4) ∷ []) (took 17 ∷ took 17 ∷ took 17 ∷ []) 17 2 0 (0 ∷ 2 ∷ 6 ∷ 8 ∷ [])
     -- counts: 0, 65, 64, fewer than are used, a second one
-    ∷ breaks 8 1 (receive 3 (bytesOf 64 0 0) ∷ []) (took 17 ∷ []) 15 3 0 (0 ∷ 0 ∷ [])
-    ∷ breaks 8 1 (receive 3 (bytesOf 64 0 65) ∷ []) (took 17 ∷ []) 15 3 0 (0 ∷ 0 ∷ [])
-    ∷ goesOn 8 1 (receive 3 (bytesOf 64 0 64) ∷ []) (took 17 ∷ []) guess 0 (0 ∷ 0 ∷ [])
-    ∷ breaks 8 1 (receive 0 (0 ∷ []) ∷ receive 1 (bytesOf 64 0 1) ∷ []) (took 1 ∷ took 17 ∷ []) 15 1 0 (0 ∷ 0 ∷ [])
-    ∷ breaks 8 1 (receive 0 (bytesOf 64 0 2 ++ bytesOf 64 0 2) ∷ []) (took 34 ∷ []) 14 0 0 (0 ∷ 0 ∷ [])
+    ∷ breaks 8 1 (receive 3 (headerBytes 64 0 0) ∷ []) (took 17 ∷ []) 15 3 0 (0 ∷ 0 ∷ [])
+    ∷ breaks 8 1 (receive 3 (headerBytes 64 0 65) ∷ []) (took 17 ∷ []) 15 3 0 (0 ∷ 0 ∷ [])
+    ∷ goesOn 8 1 (receive 3 (headerBytes 64 0 64) ∷ []) (took 17 ∷ []) guess 0 (0 ∷ 0 ∷ [])
+    ∷ breaks 8 1 (receive 0 (0 ∷ []) ∷ receive 1 (headerBytes 64 0 1) ∷ []) (took 1 ∷ took 17 ∷ []) 15 1 0 (0 ∷ 0 ∷ [])
+    ∷ breaks 8 1 (receive 0 (headerBytes 64 0 2 ++ headerBytes 64 0 2) ∷ []) (took 34 ∷ []) 14 0 0 (0 ∷ 0 ∷ [])
     -- n = 2, two used: a byte on a third is not taken
-    ∷ breaks 8 1 (receive 0 (bytesOf 64 0 2) ∷ receive 1 (0 ∷ []) ∷ receive 2 (0 ∷ []) ∷ []) (took 17 ∷ took 1 ∷ took 0 ∷ []) 19 2 0 (0 ∷ 0 ∷ [])
+    ∷ breaks 8 1 (receive 0 (headerBytes 64 0 2) ∷ receive 1 (0 ∷ []) ∷ receive 2 (0 ∷ []) ∷ []) (took 17 ∷ took 1 ∷ took 0 ∷ []) 19 2 0 (0 ∷ 0 ∷ [])
     -- where a channel ends, the rest of the piece is left; offered again it is 4, and an empty piece is accepted
-    ∷ goesOn 8 1 (receive 0 (bytesOf 8 0 0 ++ (1 ∷ [])) ∷ receive 0 (1 ∷ []) ∷ receive 0 [] ∷ []) (took 17 ∷ refused 4 ∷ took 0 ∷ []) guess 0 (0 ∷ 0 ∷ [])
+    ∷ goesOn 8 1 (receive 0 (headerBytes 8 0 0 ++ (1 ∷ [])) ∷ receive 0 (1 ∷ []) ∷ receive 0 [] ∷ []) (took 17 ∷ refused 4 ∷ took 0 ∷ []) guess 0 (0 ∷ 0 ∷ [])
     -- channel 63 is the last; 64 is none
-    ∷ goesOn 8 1 (receive 63 (bytesOf 72 0 1) ∷ []) (took 17 ∷ []) result 0 (0 ∷ 0 ∷ [])
+    ∷ goesOn 8 1 (receive 63 (headerBytes 72 0 1) ∷ []) (took 17 ∷ []) result 0 (0 ∷ 0 ∷ [])
     ∷ goesOn 8 1 (receive 64 (0 ∷ []) ∷ []) (refused 2 ∷ []) guess 0 (0 ∷ 0 ∷ [])
     -- a ledger of 4,096 pairs, 8,192 entries
-    ∷ goesOn 8 4096 (receive 0 (bytesOf 0 4 4) ∷ []) (took 17 ∷ []) guess 0 (4 ∷ 8 ∷ replicate 8190 0)
+    ∷ goesOn 8 4096 (receive 0 (headerBytes 0 4 4) ∷ []) (took 17 ∷ []) guess 0 (4 ∷ 8 ∷ replicate 8190 0)
     ∷ []
 
 abbrev pub CallCases : Type 0

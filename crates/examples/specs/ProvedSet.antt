@@ -8,7 +8,7 @@ use Rattle.octets.specs.Cases.{AllHold}
 use Rattle.answers.specs.Loaded.{loadedNumber}
 use Rattle.answers.specs.Written.{writtenNumber, writtenBytes}
 use Rattle.eblock.specs.Descriptor.{faultOf}
-use Rattle.eblock.specs.Header.{meant, number, readOf, writeOf, writeAfter, bytesOf}
+use Rattle.eblock.specs.Header.{meant, number, readOf, writeOf, writeAfter, headerBytes}
 use Rattle.rangelists.specs.RangeText.{readRanges, readRangesAfter}
 use Rattle.transfer.specs.Receive.{Answer, took}
 use Rattle.transfer.specs.Calls.{Call, receive, begun, answersOf, after}
@@ -42,9 +42,9 @@ Holds (header d second third bytes) =
     × (writeAfter d second third lentBytes ≡ bytes)
 Holds (descriptor d fault) =
     (faultOf d ≡ fault)
-    × (number (readOf (bytesOf d 0 0)) ≡ fault)
+    × (number (readOf (headerBytes d 0 0)) ≡ fault)
     × (writtenNumber (writeOf d 0 lentBytes) ≡ fault)
-    × (after (begun (replicate 8 0) lentLedger) (receive 0 (bytesOf d 0 0) ∷ []) .t .fault ≡ fault)
+    × (after (begun (replicate 8 0) lentLedger) (receive 0 (headerBytes d 0 0) ∷ []) .t .fault ≡ fault)
 Holds (received calls fault ledger) =
     let start = begun (replicate 8 0) lentLedger in
     (answersOf start calls ≡ map whole calls)
@@ -55,7 +55,7 @@ Holds (ranges text k ledger) =
 
 -- a header of a payload of so many bytes at that offset
 abbrev pub asks : ℕ → ℕ → List ℕ
-asks offset len = bytesOf 0 len offset
+asks offset len = headerBytes 0 len offset
 
 abbrev pub starred : List Case
 starred =

@@ -7,21 +7,21 @@ use native.Mathlib.Omega.{arith}
 use Rattle.transfer.specs.declared.state.Transfer.{Transfer}
 use Rattle.transfer.specs.Channel.{putCount}
 use Rattle.transfer.specs.Transfer.{usedOf, World, world}
-use Rattle.transfer.specs.Header.{endsChannel, payloadLength, Asks, counts, claims, nothing, faulty, askedOf}
-use Rattle.transfer.specs.Judgement.{Asked, by-descriptor, by-14, by-15, for-count, for-nothing, by-16, for-claim}
-use Rattle.transfer.specs.Receive.{Took, faults, opens, heeds, judges}
-use Rattle.transfer.proofs.Asked.{asked}
+use Rattle.transfer.specs.Header.{endsChannel, payloadLength, HeaderRequest, counts, claims, nothing, faulty, requestOf}
+use Rattle.transfer.specs.Judgement.{HeaderAsks, by-descriptor, by-14, by-15, for-count, for-nothing, by-16, for-claim}
+use Rattle.transfer.specs.Receive.{Outcome, stopWithFault, beginPayload, applyHeader, judgeHeader}
+use Rattle.transfer.proofs.JudgementByTransfer.{asked}
 use Rattle.headers.specs.ClaimRange.{claimOrFault}
 
 -- a range that a header asks for is not empty, and is as long as the payload
 module _ (F known used : ℕ) (h : List ℕ) where
-  abbrev Ranged : Asks → Type 0
+  abbrev Ranged : HeaderRequest → Type 0
   Ranged (counts n) = Unit {0}
   Ranged (claims s e) = (s < e) × (e - s ≡ payloadLength h)
   Ranged nothing = Unit {0}
   Ranged (faulty k) = Unit {0}
 
-  ranged : (a : Asks) → Asked F known used h a → Ranged a
+  ranged : (a : HeaderRequest) → HeaderAsks F known used h a → Ranged a
   unfolding payloadLength
   ranged _ (by-descriptor d) = tt
   ranged _ (by-14 d q k) = tt
@@ -31,26 +31,26 @@ module _ (F known used : ℕ) (h : List ℕ) where
   ranged _ (by-16 d q l f) = tt
   ranged _ (for-claim d q l f) = (omega arith, rw q (omega arith))
 
-  pub range-asked : (s e : ℕ) → claims s e ≡ askedOf F known used h → (s < e) × (e - s ≡ payloadLength h)
-  range-asked s e q = rw (sym q) at (ranged (askedOf F known used h) (asked F known used h))
+  pub range-asked : (s e : ℕ) → claims s e ≡ requestOf F known used h → (s < e) × (e - s ≡ payloadLength h)
+  range-asked s e q = rw (sym q) at (ranged (requestOf F known used h) (asked F known used h))
 
 module _ (t : Transfer) (file l : List ℕ) (c : ℕ) (h : List ℕ) where
-  abbrev AsksFor : Asks → Type 0
-  AsksFor a = a ≡ askedOf (t .len) (t .count) (usedOf t) h
+  abbrev AsksFor : HeaderRequest → Type 0
+  AsksFor a = a ≡ requestOf (t .len) (t .count) (usedOf t) h
 
-  pub apply-fault : (k : ℕ) → AsksFor (faulty k) → faults (world t file l) c k ≡ judges (world t file l) c h
-  unfolding judges heeds
+  pub apply-fault : (k : ℕ) → AsksFor (faulty k) → stopWithFault (world t file l) c k ≡ judgeHeader (world t file l) c h
+  unfolding judgeHeader applyHeader
   apply-fault k q = rw (sym q)
 
-  module _ (v : Took World) (last : Bool) (is : last ≡ endsChannel h) where
-    pub apply-count : (n : ℕ) → AsksFor (counts n) → v ≡ opens (world (putCount t n) file l) c 0 0 last → v ≡ judges (world t file l) c h
-    unfolding judges heeds
+  module _ (v : Outcome World) (last : Bool) (is : last ≡ endsChannel h) where
+    pub apply-count : (n : ℕ) → AsksFor (counts n) → v ≡ beginPayload (world (putCount t n) file l) c 0 0 last → v ≡ judgeHeader (world t file l) c h
+    unfolding judgeHeader applyHeader
     apply-count n q e = rw (sym q) (rw is at e)
 
-    pub apply-nothing : AsksFor nothing → v ≡ opens (world t file l) c 0 0 last → v ≡ judges (world t file l) c h
-    unfolding judges heeds
+    pub apply-nothing : AsksFor nothing → v ≡ beginPayload (world t file l) c 0 0 last → v ≡ judgeHeader (world t file l) c h
+    unfolding judgeHeader applyHeader
     apply-nothing q e = rw (sym q) (rw is at e)
 
-    pub apply-claim : (s e : ℕ) → AsksFor (claims s e) → v ≡ claimOrFault (world t file l) c s e last → v ≡ judges (world t file l) c h
-    unfolding judges heeds claimOrFault
+    pub apply-claim : (s e : ℕ) → AsksFor (claims s e) → v ≡ claimOrFault (world t file l) c s e last → v ≡ judgeHeader (world t file l) c h
+    unfolding judgeHeader applyHeader claimOrFault
     apply-claim s e q w = rw (sym q) (rw (is, range-asked (t .len) (t .count) (usedOf t) h s e q .1) at w)

@@ -3,17 +3,17 @@ use Prim.Native.Nat.{ℕ}
 use mathlib.Core.Path.{_≡_, refl}
 use mathlib.Core.Bool.{Bool, true, false, cond}
 use lib.Dec.{ltb}
-use Rattle.ledger.specs.Pairs.{Pairs, size, join, shares}
-use Rattle.claims.specs.declared.claim.Room.the-variants.{Shares, Full, At}
-use Rattle.claims.specs.Claim.{spotOf, judged, roomNumber}
+use Rattle.ledger.specs.Pairs.{Pairs, size, join, overlaps}
+use Rattle.claims.specs.declared.claim.ClaimCheck.the-variants.{Overlaps, Full, Free}
+use Rattle.claims.specs.Claim.{slotOf, judged, claimNumber}
 use Rattle.transfer.specs.Header.{claimFault}
 use Rattle.headers.specs.ClaimNumber.{ClaimNumber}
 
-pub claim-number : (R : ℕ) (ps : Pairs) (s e : ℕ) → roomNumber (judged R s e ps) ≡ claimFault R ps s e
-unfolding roomNumber judged claimFault
-claim-number R ps s e = go (shares s e ps) (ltb R (size (join s e ps)))
+pub claim-number : (R : ℕ) (ps : Pairs) (s e : ℕ) → claimNumber (judged R s e ps) ≡ claimFault R ps s e
+unfolding claimNumber judged claimFault
+claim-number R ps s e = go (overlaps s e ps) (ltb R (size (join s e ps)))
   where
-    go : (t u : Bool) → roomNumber (cond t Shares (cond u Full (At (spotOf s e ps)))) ≡ cond t 17 (cond u 18 0)
+    go : (t u : Bool) → claimNumber (cond t Overlaps (cond u Full (Free (slotOf s e ps)))) ≡ cond t 17 (cond u 18 0)
     go true u = refl
     go false true = refl
     go false false = refl

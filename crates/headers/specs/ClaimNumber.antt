@@ -2,8 +2,8 @@
 use Prim.Native.Nat.{ℕ}
 use mathlib.Core.Path.{_≡_}
 use Rattle.ledger.specs.Pairs.{Pairs}
-use Rattle.claims.specs.Claim.{judged, roomNumber}
+use Rattle.claims.specs.Claim.{judged, claimNumber}
 use Rattle.transfer.specs.Header.{claimFault}
 
 pub record ClaimNumber : Type 0 where
-  pub claim-number : (R : ℕ) (ps : Pairs) (s e : ℕ) → roomNumber (judged R s e ps) ≡ claimFault R ps s e
+  pub claim-number : (R : ℕ) (ps : Pairs) (s e : ℕ) → claimNumber (judged R s e ps) ≡ claimFault R ps s e

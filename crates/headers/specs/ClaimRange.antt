@@ -5,10 +5,10 @@ use lib.Dec.{ltb}
 use Rattle.ledger.specs.Ledger.{pairsOf}
 use Rattle.transfer.specs.Transfer.{World}
 use Rattle.transfer.specs.Header.{claimFault}
-use Rattle.transfer.specs.Receive.{Took, faults, opens, claimsRange}
+use Rattle.transfer.specs.Receive.{Outcome, stopWithFault, beginPayload, claimRange}
 
 -- its fault, or it is claimed and its payload opened
-unfoldable pub claimOrFault : World → ℕ → ℕ → ℕ → Bool → Took World
+unfoldable pub claimOrFault : World → ℕ → ℕ → ℕ → Bool → Outcome World
 claimOrFault w c s e last =
     let k = claimFault (w .t .pairs) (pairsOf (w .lent .claimed)) s e in
-    cond (ltb 0 k) (faults w c k) (opens (claimsRange w s e) c s (e - s) last)
+    cond (ltb 0 k) (stopWithFault w c k) (beginPayload (claimRange w s e) c s (e - s) last)

@@ -7,31 +7,31 @@ use channels::next_state;
 use channels::next_state::NextState;
 use channels::other_channels::OtherChannels;
 use claims::claim;
-use claims::claim::Room;
+use claims::claim::ClaimCheck;
 use eblock::descriptor;
 ghost use mathlib.Core.Path.{_≡_};
 ghost use mathlib.Core.Bool.{true};
 ghost use mathlib.Core.List.{List};
 ghost use Prim.Native.Nat.{ℕ, _*_, _<_};
 ghost use lib.ListN.{length};
-ghost use Rattle.claims.specs.Claim.{roomNumber};
+ghost use Rattle.claims.specs.Claim.{claimNumber};
 ghost use Rattle.ledger.specs.Ledger.{obeys};
 ghost use Rattle.transfer.specs.declared.state.Transfer.{Transfer};
 ghost use Rattle.transfer.specs.Transfer.{world};
-ghost use Rattle.transfer.specs.Receive.{judges};
+ghost use Rattle.transfer.specs.Receive.{judgeHeader};
 ghost use Rattle.channels.specs.ChannelState.{writeBack};
 ghost use Rattle.channels.specs.OtherChannels.{CountsOthers};
 ghost use Rattle.channels.specs.NextState.{continuesOrStops};
 ghost use Rattle.headers.specs.ClaimRange.{claimOrFault};
 
 // The number of the fault of a range that is so judged, 0 where there is none.
-fn fault_of(room: Room) -> u64
-    ensures { λ r. ⌜ r ≡ roomNumber room ⌝ }
+fn fault_of(check: ClaimCheck) -> u64
+    ensures { λ r. ⌜ r ≡ claimNumber check ⌝ }
 {
-    match room {
-        Room::Shares => 17,
-        Room::Full => 18,
-        Room::At(_) => 0,
+    match check {
+        ClaimCheck::Overlaps => 17,
+        ClaimCheck::Full => 18,
+        ClaimCheck::Free(_) => 0,
     }
 }
 
@@ -48,14 +48,14 @@ fn claim_range(
     requires { ⌜ start < end ⌝ }
     ensures { λ r. ⌜ (x .state < 4 → obeys (now (ledger .entry)) ≡ true → (t : Transfer) (file : List ℕ) → CountsOthers t c o → length (now (ledger .entry)) ≡ 2 * t .pairs → continuesOrStops (r .continues) (world (writeBack t c (r .channel)) file (now (ledger .exit))) ≡ claimOrFault (world (writeBack t c x) file (now (ledger .entry))) c start end last) ⌝ }
 {
-    let room = claim::judge(ledger, start, end);
-    match room {
-        Room::At(spot) => {
-            claim::put(ledger, spot, start, end);
+    let check = claim::judge(ledger, start, end);
+    match check {
+        ClaimCheck::Free(slot) => {
+            claim::put(ledger, slot, start, end);
             next_state::open(x, c, o, start, end - start, last)
         }
         _ => NextState {
-            channel: channel_state::with_fault(x, c, fault_of(room)),
+            channel: channel_state::with_fault(x, c, fault_of(check)),
             continues: false,
         },
     }
@@ -69,7 +69,7 @@ pub fn apply_header(
     head: &[u8; 17],
     ledger: &mut [u64],
 ) -> NextState
-    ensures { λ r. ⌜ (x .state ≡ 1 → obeys (now (ledger .entry)) ≡ true → (t : Transfer) (file : List ℕ) → CountsOthers t c o → length (now (ledger .entry)) ≡ 2 * t .pairs → continuesOrStops (r .continues) (world (writeBack t c (r .channel)) file (now (ledger .exit))) ≡ judges (world (writeBack t c x) file (now (ledger .entry))) c (now (head .entry))) ⌝ }
+    ensures { λ r. ⌜ (x .state ≡ 1 → obeys (now (ledger .entry)) ≡ true → (t : Transfer) (file : List ℕ) → CountsOthers t c o → length (now (ledger .entry)) ≡ 2 * t .pairs → continuesOrStops (r .continues) (world (writeBack t c (r .channel)) file (now (ledger .exit))) ≡ judgeHeader (world (writeBack t c x) file (now (ledger .entry))) c (now (head .entry))) ⌝ }
 {
     let last = descriptor::has(descriptor::END_OF_DATA, head[0]);
     match judge::judge_header(o.len, x.count, o.used, head) {

@@ -9,7 +9,7 @@ use transfer::state::Transfer;
 use verdicts::verdict::Verdict;
 ghost use mathlib.Core.Path.{_≡_};
 ghost use mathlib.Core.List.{[]};
-ghost use Rattle.transfer.specs.Transfer.{world, startNumber, startOf, startLeaves, verdictOf};
+ghost use Rattle.transfer.specs.Transfer.{world, startNumber, startOf, startAfter, verdictOf};
 ghost use Rattle.transfer.specs.Receive.{receiveOf};
 ghost use Rattle.verdicts.specs.Verdict.{verdictIs};
 ghost use Rattle.receiver.specs.Stored.{storedCut};
@@ -35,7 +35,7 @@ pub struct Received {
 
 #[no_mangle]
 pub extern "C" fn cob_start(len: u64, ledger: &mut [u64]) -> Started
-    ensures { λ r. ⌜ (r .refused ≡ startNumber (now (ledger .entry))) × (r .transfer ≡ startOf len (now (ledger .entry))) × (now (ledger .exit) ≡ startLeaves (now (ledger .entry))) ⌝ }
+    ensures { λ r. ⌜ (r .refused ≡ startNumber (now (ledger .entry))) × (r .transfer ≡ startOf len (now (ledger .entry))) × (now (ledger .exit) ≡ startAfter (now (ledger .entry))) ⌝ }
 {
     let started = start::start(len, ledger);
     let receiver = started.receiver;

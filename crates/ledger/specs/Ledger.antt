@@ -18,8 +18,8 @@ largest = 18446744073709551615
 unfoldable pub lengthWrong : List ℕ → Bool
 lengthWrong ledger = not (eqb (length ledger % 2) 0) || ltb entryLimit (length ledger)
 
-abbrev pub roomOf : List ℕ → ℕ
-roomOf ledger = length ledger / 2
+abbrev pub capacity : List ℕ → ℕ
+capacity ledger = length ledger / 2
 
 unfoldable pub zeros : List ℕ → Bool
 zeros [] = true
@@ -35,8 +35,8 @@ rule lo (a ∷ b ∷ rest) =
     cond (eqb b 0) (eqb a 0 && (zeros rest && eqb (length rest % 2) 0)) (leb lo a && (ltb a b && behind))
 
 -- the pair (a, b) may stand behind one that ends at `end`, 0 where there is none before it
-abbrev pub follows : ℕ → ℕ → ℕ → Bool
-follows end a b = (eqb end 0 || ltb end a) && ltb a b
+abbrev pub mayFollow : ℕ → ℕ → ℕ → Bool
+mayFollow end a b = (eqb end 0 || ltb end a) && ltb a b
 
 unfoldable pub obeys : List ℕ → Bool
 obeys ledger = rule 0 ledger
@@ -54,11 +54,11 @@ pairsOf (a ∷ b ∷ rest) =
     cond (eqb b 0) none (pair a b behind)
 
 -- a ledger of r pairs with these used ones, and zeros after them
-unfoldable pub lent : ℕ → Pairs → List ℕ
-lent zero ps = []
-lent (suc r) none = 0 ∷ 0 ∷ lent r none
-lent (suc r) (pair a b ps) = a ∷ b ∷ lent r ps
+unfoldable pub laidOut : ℕ → Pairs → List ℕ
+laidOut zero ps = []
+laidOut (suc r) none = 0 ∷ 0 ∷ laidOut r none
+laidOut (suc r) (pair a b ps) = a ∷ b ∷ laidOut r ps
 
 -- the place p lies in one of the ledger's pairs
-abbrev pub Holds : ℕ → List ℕ → Type 0
-Holds p ledger = (i : ℕ) × (getD ledger (2 * i) 0 ≤ p) × (p < getD ledger (2 * i + 1) 0)
+abbrev pub Contains : ℕ → List ℕ → Type 0
+Contains p ledger = (i : ℕ) × (getD ledger (2 * i) 0 ≤ p) × (p < getD ledger (2 * i + 1) 0)

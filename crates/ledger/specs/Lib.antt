@@ -1,3 +1,3 @@
 pub mod Pairs
 pub mod Ledger
-pub mod Means
+pub mod Ledgers

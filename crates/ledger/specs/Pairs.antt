@@ -18,13 +18,13 @@ total none = 0
 total (pair a b ps) = (b - a) + total ps
 
 -- 1 where the place p lies from a up to b, b not counted, and 0 elsewhere
-unfoldable pub hit : ℕ → ℕ → ℕ → ℕ
-hit a b p = cond (leb a p && ltb p b) 1 0
+unfoldable pub inRange : ℕ → ℕ → ℕ → ℕ
+inRange a b p = cond (leb a p && ltb p b) 1 0
 
 -- 1 where one of the pairs holds the place p, and 0 where none does
-unfoldable pub holds : ℕ → Pairs → ℕ
-holds p none = 0
-holds p (pair a b ps) = max (hit a b p) (holds p ps)
+unfoldable pub contains : ℕ → Pairs → ℕ
+contains p none = 0
+contains p (pair a b ps) = max (inRange a b p) (contains p ps)
 
 -- the ledger rule for pairs from the place lo on: start < end, and each end less than the next start
 abbrev pub Ruled : ℕ → Pairs → Type 0
@@ -45,9 +45,9 @@ join s e (pair a b ps) =
     cond (ltb e a) (pair s e (pair a b ps)) (cond (ltb b s) (pair a b behind) wider)
 
 -- the range from s to e shares a place with one of the pairs
-unfoldable pub shares : ℕ → ℕ → Pairs → Bool
-shares s e none = false
-shares s e (pair a b ps) = (ltb s b && ltb a e) || shares s e ps
+unfoldable pub overlaps : ℕ → ℕ → Pairs → Bool
+overlaps s e none = false
+overlaps s e (pair a b ps) = (ltb s b && ltb a e) || overlaps s e ps
 
 -- the range from s to e lies inside one of the pairs
 unfoldable pub inside : ℕ → ℕ → Pairs → Bool
@@ -55,16 +55,16 @@ inside s e none = false
 inside s e (pair a b ps) = (leb a s && leb e b) || inside s e ps
 
 -- no end is above f
-unfoldable pub endsBy : ℕ → Pairs → Bool
-endsBy f none = true
-endsBy f (pair a b ps) = leb b f && endsBy f ps
+unfoldable pub endsAtMost : ℕ → Pairs → Bool
+endsAtMost f none = true
+endsAtMost f (pair a b ps) = leb b f && endsAtMost f ps
 
 -- the number of pairs, from the first on, that end below s
-unfoldable pub below : ℕ → Pairs → ℕ
-below s none = 0
-below s (pair a b ps) = cond (ltb b s) (suc (below s ps)) 0
+unfoldable pub countEndingBelow : ℕ → Pairs → ℕ
+countEndingBelow s none = 0
+countEndingBelow s (pair a b ps) = cond (ltb b s) (suc (countEndingBelow s ps)) 0
 
 -- the number of pairs, from the first on, that start at e or before
-unfoldable pub upTo : ℕ → Pairs → ℕ
-upTo e none = 0
-upTo e (pair a b ps) = cond (leb a e) (suc (upTo e ps)) 0
+unfoldable pub countStartingBy : ℕ → Pairs → ℕ
+countStartingBy e none = 0
+countStartingBy e (pair a b ps) = cond (leb a e) (suc (countStartingBy e ps)) 0

@@ -5,8 +5,8 @@ ghost use mathlib.Core.Bool.{_&&_};
 ghost use Prim.Native.Nat.{_%_, min};
 ghost use lib.Dec.{eqb};
 ghost use lib.ListN.{length};
-ghost use Rattle.ledger.specs.Pairs.{total, endsBy};
-ghost use Rattle.ledger.specs.Ledger.{lengthWrong, zeros, follows, obeys, ledgerRefusal, pairsOf};
+ghost use Rattle.ledger.specs.Pairs.{total, endsAtMost};
+ghost use Rattle.ledger.specs.Ledger.{lengthWrong, zeros, mayFollow, obeys, ledgerRefusal, pairsOf};
 
 // The most entries that a ledger may have.
 pub const ENTRY_LIMIT: usize = 8192;
@@ -48,7 +48,7 @@ fn zero_pairs(entries: &[u64]) -> bool
 
 // Whether the pair (a, b) may stand behind one that ends at end; an end of 0 says that there is none before it.
 pub fn may_follow(end: u64, a: u64, b: u64) -> bool
-    ensures { λ r. ⌜ r ≡ follows end a b ⌝ }
+    ensures { λ r. ⌜ r ≡ mayFollow end a b ⌝ }
 {
     if b <= a {
         return false;
@@ -61,7 +61,7 @@ pub fn may_follow(end: u64, a: u64, b: u64) -> bool
 
 // Whether the ledger obeys its rule with no end above the limit.
 pub fn obeys(ledger: &[u64], limit: u64) -> bool
-    ensures { λ r. ⌜ r ≡ (obeys (now (ledger .entry)) && endsBy limit (pairsOf (now (ledger .entry)))) ⌝ }
+    ensures { λ r. ⌜ r ≡ (obeys (now (ledger .entry)) && endsAtMost limit (pairsOf (now (ledger .entry)))) ⌝ }
 {
     let mut end: u64 = 0;
     let mut i = 0;

@@ -1,6 +1,6 @@
 pub mod Texts
 pub mod Digits
 pub mod Decimals
-pub mod Readings
+pub mod Reading
 mod Turn
-pub mod RoundTrips
+pub mod RoundTrip

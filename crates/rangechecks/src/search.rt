@@ -5,12 +5,12 @@ ghost use mathlib.Core.Bool.{true, _&&_};
 ghost use Prim.Native.Nat.{_+_, _*_, _≤_, _<_};
 ghost use lib.Dec.{leb, ltb};
 ghost use lib.ListN.{getD};
-ghost use Rattle.ledger.specs.Pairs.{inside, upTo};
-ghost use Rattle.ledger.specs.Ledger.{roomOf, obeys, pairsOf};
+ghost use Rattle.ledger.specs.Pairs.{inside, countStartingBy};
+ghost use Rattle.ledger.specs.Ledger.{capacity, obeys, pairsOf};
 
 // Whether the pair with the number i is used and starts at the place or before it.
 fn starts_by(ledger: &[u64], i: usize, place: u64) -> bool
-    requires { ⌜ i < roomOf (now ledger) ⌝ }
+    requires { ⌜ i < capacity (now ledger) ⌝ }
     ensures { λ r. ⌜ r ≡ (ltb 0 (getD (now (ledger .entry)) (2 * i + 1) 0) && leb (getD (now (ledger .entry)) (2 * i) 0) place) ⌝ }
 {
     if ledger[2 * i + 1] == 0 {
@@ -31,7 +31,7 @@ pub fn pair_starts_by(ledger: &[u64], i: usize, place: u64) -> bool
 
 // In a ledger by the rule, how many pairs, from the first on, are used and start at the place or before it.
 fn started(ledger: &[u64], place: u64) -> usize
-    ensures { λ r. ⌜ (r ≤ roomOf (now (ledger .entry))) × (obeys (now (ledger .entry)) ≡ true → r ≡ upTo place (pairsOf (now (ledger .entry)))) ⌝ }
+    ensures { λ r. ⌜ (r ≤ capacity (now (ledger .entry))) × (obeys (now (ledger .entry)) ≡ true → r ≡ countStartingBy place (pairsOf (now (ledger .entry)))) ⌝ }
 {
     let mut low = 0;
     let mut high = ledger.len() / 2;

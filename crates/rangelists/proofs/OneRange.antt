@@ -10,7 +10,7 @@ use lib.ListN.{length, getD, drop, take, List·getD-eq-default}
 use lib.Seq.{take-append-seam, getD-append-seam, drop-append-add, split-at}
 use Rattle.octets.specs.Decimal.{numberOf}
 use Rattle.octets.specs.Text.{isDigit, all, leading}
-use Rattle.octets.proofs.Readings.{digits-at}
+use Rattle.octets.proofs.Reading.{digits-at}
 use Rattle.octets.proofs.Texts.{leading-append}
 use Rattle.rangelists.specs.RangeText.{rangeOf}
 use Rattle.rangelists.specs.OneRange.{Position, IsRange, OneRange}

@@ -10,12 +10,12 @@ use lib.Dec.{ltb}
 use lib.ListN.{length, take, drop, replicate, length-replicate}
 use lib.Seq.{take-all}
 use Rattle.ledger.specs.Pairs.{Pairs, none, size, join}
-use Rattle.ledger.specs.Ledger.{obeys, pairsOf, lent, roomOf}
-use Rattle.ledger.proofs.Joined.{join-ruled}
-use Rattle.ledger.proofs.Lents.{pairsOf-lent, rule-lent, rule-ruled, lent-pairsOf}
-use Rattle.ledger.proofs.Odd.{obeys-even}
+use Rattle.ledger.specs.Ledger.{obeys, pairsOf, laidOut, capacity}
+use Rattle.ledger.proofs.PairsJoin.{join-ruled}
+use Rattle.ledger.proofs.LedgerLayout.{pairsOf-laidOut, rule-laidOut, rule-ruled, laidOut-pairsOf}
+use Rattle.ledger.proofs.LedgerOdd.{obeys-even}
 use Rattle.octets.specs.Text.{isNotComma, leading}
-use Rattle.claims.specs.Claim.{Joins}
+use Rattle.claims.specs.Claim.{JoinResult}
 use Rattle.rangelists.specs.RangeText.{parts, rangesOf, rangeOf, Merged, merged, trouble, mergeRange, mergedFrom, Represents}
 use Rattle.rangelists.specs.declared.ranges.Range.{Range}
 use Rattle.rangelists.specs.declared.ranges.Range.the-variants.{Places, Malformed}
@@ -63,30 +63,30 @@ module _ (r : ℕ) (ps : Pairs) (t l : List ℕ) where
   unfolding mergeRange
   represents-51 e = represents-stopped _ 51 l (omega arith) (rw e)
 
-module _ (t l : List ℕ) (s e : ℕ) (h : rangeOf t ≡ Places s e) (o : obeys l ≡ true) (done : Bool) (m : List ℕ) (j : Joins s e l done m) where
+module _ (t l : List ℕ) (s e : ℕ) (h : rangeOf t ≡ Places s e) (o : obeys l ≡ true) (done : Bool) (m : List ℕ) (j : JoinResult s e l done m) where
   -- there is no pair for it exactly where it was not joined
-  lacks : (d : Bool) → done ≡ d → ltb (roomOf l) (size (join s e (pairsOf l))) ≡ not d
-  lacks true f = le-ltb (roomOf l) (size (join s e (pairsOf l))) (j .done-where o (range-some t s e h) .0 f)
-  lacks false f = go (decLt (roomOf l) (size (join s e (pairsOf l))))
+  lacks : (d : Bool) → done ≡ d → ltb (capacity l) (size (join s e (pairsOf l))) ≡ not d
+  lacks true f = le-ltb (capacity l) (size (join s e (pairsOf l))) (j .done-where o (range-some t s e h) .0 f)
+  lacks false f = go (decLt (capacity l) (size (join s e (pairsOf l))))
     where
-      go : Dec (roomOf l < size (join s e (pairsOf l))) → ltb (roomOf l) (size (join s e (pairsOf l))) ≡ true
-      go (yes x) = lt-ltb (roomOf l) (size (join s e (pairsOf l))) x
+      go : Dec (capacity l < size (join s e (pairsOf l))) → ltb (capacity l) (size (join s e (pairsOf l))) ≡ true
+      go (yes x) = lt-ltb (capacity l) (size (join s e (pairsOf l))) x
       go (no x) = absurd (false≢true (sym f ∙ j .done-where o (range-some t s e h) .1 (omega arith)))
 
-  pub represents-52 : done ≡ false → Represents (mergeRange (roomOf l) (pairsOf l) (rangeOf t) merged) 52 m
+  pub represents-52 : done ≡ false → Represents (mergeRange (capacity l) (pairsOf l) (rangeOf t) merged) 52 m
   unfolding mergeRange
   represents-52 f = represents-stopped _ 52 m (omega arith) (rw (h, lacks false f))
 
-  pub represents-joined : done ≡ true → Represents (mergeRange (roomOf l) (pairsOf l) (rangeOf t) merged) 0 m
+  pub represents-joined : done ≡ true → Represents (mergeRange (capacity l) (pairsOf l) (rangeOf t) merged) 0 m
   unfolding mergeRange obeys
   represents-joined f =
       let k = range-some t s e h in
       let x = lacks true f in
       let w = join-ruled s e 0 (pairsOf l) k (omega arith) (rule-ruled 0 l o) in
-      let z = ltb-false (roomOf l) (size (join s e (pairsOf l))) x in
+      let z = ltb-false (capacity l) (size (join s e (pairsOf l))) x in
       rw (j .by-rule o k f)
-      (represents-done _ (lent (roomOf l) (join s e (pairsOf l))) (rule-lent (roomOf l) 0 (join s e (pairsOf l)) w)
-      (rw (h, x, pairsOf-lent (roomOf l) 0 (join s e (pairsOf l)) w z)))
+      (represents-done _ (laidOut (capacity l) (join s e (pairsOf l))) (rule-laidOut (capacity l) 0 (join s e (pairsOf l)) w)
+      (rw (h, x, pairsOf-laidOut (capacity l) 0 (join s e (pairsOf l)) w z)))
 
 -- ---- the list, as the code walks it: the text up to the first comma is joined
 
@@ -109,28 +109,28 @@ module _ (r k : ℕ) (ps : Pairs) (text l : List ℕ) (q : Represents (mergeRang
 
 -- ---- the ledger before the first range, and after the last
 
-zero-lent : (r : ℕ) → replicate (2 * r) 0 ≡ lent r none
-unfolding lent
+zero-lent : (r : ℕ) → replicate (2 * r) 0 ≡ laidOut r none
+unfolding laidOut
 zero-lent zero = refl
 zero-lent (suc r) = let e : 2 * suc r ≡ suc (suc (2 * r)) = omega arith in rw (e, zero-lent r)
 
 module _ (l cleared : List ℕ) (n : length l % 2 ≡ 0) (c : cleared ≡ replicate (length l) 0) where
-  cleared-lent : cleared ≡ lent (roomOf l) none
-  cleared-lent = let e : length l ≡ 2 * (length l / 2) = omega arith in c ∙ ap (λ (m : ℕ). replicate m 0) e ∙ zero-lent (roomOf l)
+  cleared-lent : cleared ≡ laidOut (capacity l) none
+  cleared-lent = let e : length l ≡ 2 * (length l / 2) = omega arith in c ∙ ap (λ (m : ℕ). replicate m 0) e ∙ zero-lent (capacity l)
 
   cleared-length : length cleared ≡ length l
   cleared-length = ap length c ∙ length-replicate (length l) 0
 
   pub cleared-obeys : obeys cleared ≡ true
   unfolding obeys
-  cleared-obeys = rw cleared-lent (rule-lent (roomOf l) 0 none tt)
+  cleared-obeys = rw cleared-lent (rule-laidOut (capacity l) 0 none tt)
 
-  pub cleared-merged : (text : List ℕ) → mergedFrom (roomOf cleared) (pairsOf cleared) (parts text) ≡ rangesOf (roomOf l) text
+  pub cleared-merged : (text : List ℕ) → mergedFrom (capacity cleared) (pairsOf cleared) (parts text) ≡ rangesOf (capacity l) text
   unfolding rangesOf size
   cleared-merged text =
-      let p : pairsOf cleared ≡ none = ap pairsOf cleared-lent ∙ pairsOf-lent (roomOf l) 0 none tt (omega arith) in
+      let p : pairsOf cleared ≡ none = ap pairsOf cleared-lent ∙ pairsOf-laidOut (capacity l) 0 none tt (omega arith) in
       rw (p, cleared-length)
 
-pub obeyed-lent : (l m : List ℕ) → length m ≡ length l → obeys m ≡ true → m ≡ lent (roomOf l) (pairsOf m)
+pub obeyed-lent : (l m : List ℕ) → length m ≡ length l → obeys m ≡ true → m ≡ laidOut (capacity l) (pairsOf m)
 unfolding obeys
-obeyed-lent l m e o = lent-pairsOf (roomOf l) 0 m o (omega (arith, obeys-even m o))
+obeyed-lent l m e o = laidOut-pairsOf (capacity l) 0 m o (omega (arith, obeys-even m o))

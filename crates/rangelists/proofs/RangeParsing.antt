@@ -10,7 +10,7 @@ use lib.ListN.{length, getD, take, drop, List·getD-eq-default}
 use Rattle.octets.specs.Decimal.{numberOf, readOf}
 use Rattle.octets.specs.Text.{isDigit, all, leading}
 use Rattle.octets.specs.declared.decimal.Number.the-variants.{Value, Nothing}
-use Rattle.octets.proofs.Readings.{digits-at, at-digits}
+use Rattle.octets.proofs.Reading.{digits-at, at-digits}
 use Rattle.rangelists.specs.RangeText.{endLimit, digitLimit, isPosition, positionOf, rangeOf}
 use Rattle.rangelists.specs.OneRange.{Position}
 use Rattle.rangelists.specs.declared.ranges.Range.the-variants.{Places, Malformed}

@@ -11,8 +11,8 @@ use lib.Seq.{append-snoc}
 use Rattle.answers.specs.declared.loaded.Loaded.the-variants.{Done, Refused}
 use Rattle.answers.specs.Loaded.{loadedNumber}
 use Rattle.ledger.specs.Pairs.{Pairs, size, none, join}
-use Rattle.ledger.specs.Ledger.{lengthWrong, lent, roomOf}
-use Rattle.ledger.proofs.Sizes.{length-right, length-wrong}
+use Rattle.ledger.specs.Ledger.{lengthWrong, laidOut, capacity}
+use Rattle.ledger.proofs.LedgerSizes.{length-right, length-wrong}
 use Rattle.rangelists.specs.RangeText.{merged, trouble, loaded, entriesAfter, readRanges, readRangesAfter, rangesOf, parts, rangeOf, Merged, mergeRange, mergedFrom}
 use Rattle.rangelists.specs.RangeReading.{Merges, no-range, one-more, Trouble, by-51, by-52, Reads, Refuses, RangeReading}
 use Rattle.rangelists.specs.declared.ranges.Range.{Range}
@@ -26,12 +26,12 @@ module _ (text ledger : List ℕ) where
   reads-53 w = (rw w, rw w)
 
   module _ (w : lengthWrong ledger ≡ false) where
-    pub reads-trouble : (k : ℕ) → rangesOf (roomOf ledger) text ≡ trouble k
+    pub reads-trouble : (k : ℕ) → rangesOf (capacity ledger) text ≡ trouble k
         → (Refused k ≡ readRanges text ledger) × (replicate (length ledger) 0 ≡ readRangesAfter text ledger)
     unfolding readRanges readRangesAfter loaded entriesAfter
     reads-trouble k e = (rw (w, e), rw (w, e))
 
-    pub reads-merged : (ps : Pairs) → rangesOf (roomOf ledger) text ≡ merged ps → (Done ≡ readRanges text ledger) × (lent (roomOf ledger) ps ≡ readRangesAfter text ledger)
+    pub reads-merged : (ps : Pairs) → rangesOf (capacity ledger) text ≡ merged ps → (Done ≡ readRanges text ledger) × (laidOut (capacity ledger) ps ≡ readRangesAfter text ledger)
     unfolding readRanges readRangesAfter loaded entriesAfter
     reads-merged ps e = (rw (w, e), rw (w, e))
 
@@ -85,27 +85,27 @@ row-from r before (t ∷ ts) ps m = go (rangeOf t) refl (λ qs n. row-from r (be
 -- ---- the reader
 
 module _ (text ledger : List ℕ) (w : lengthWrong ledger ≡ false) where
-  row-is : Row (roomOf ledger) (parts text) (rangesOf (roomOf ledger) text)
+  row-is : Row (capacity ledger) (parts text) (rangesOf (capacity ledger) text)
   unfolding rangesOf
-  row-is = row-from (roomOf ledger) [] (parts text) none (no-range none)
+  row-is = row-from (capacity ledger) [] (parts text) none (no-range none)
 
-  answer-is : readRanges text ledger ≡ loaded (rangesOf (roomOf ledger) text)
+  answer-is : readRanges text ledger ≡ loaded (rangesOf (capacity ledger) text)
   unfolding readRanges
   answer-is = rw w
 
-  trouble-only : 0 < loadedNumber (readRanges text ledger) → Trouble (roomOf ledger) (parts text) (loadedNumber (readRanges text ledger))
+  trouble-only : 0 < loadedNumber (readRanges text ledger) → Trouble (capacity ledger) (parts text) (loadedNumber (readRanges text ledger))
   unfolding loaded loadedNumber
-  trouble-only = rw answer-is (go (rangesOf (roomOf ledger) text) row-is)
+  trouble-only = rw answer-is (go (rangesOf (capacity ledger) text) row-is)
     where
-      go : (m : Merged) → Row (roomOf ledger) (parts text) m → 0 < loadedNumber (loaded m) → Trouble (roomOf ledger) (parts text) (loadedNumber (loaded m))
+      go : (m : Merged) → Row (capacity ledger) (parts text) m → 0 < loadedNumber (loaded m) → Trouble (capacity ledger) (parts text) (loadedNumber (loaded m))
       go (merged ps) (merges _ m) h = absurd (omega arith)
       go (trouble k) (stops _ t) h = t
 
-  merged-only : loadedNumber (readRanges text ledger) ≡ 0 → (ps : Pairs) × Merges (roomOf ledger) none (parts text) ps
+  merged-only : loadedNumber (readRanges text ledger) ≡ 0 → (ps : Pairs) × Merges (capacity ledger) none (parts text) ps
   unfolding loaded loadedNumber
-  merged-only = rw answer-is (go (rangesOf (roomOf ledger) text) row-is)
+  merged-only = rw answer-is (go (rangesOf (capacity ledger) text) row-is)
     where
-      go : (m : Merged) → Row (roomOf ledger) (parts text) m → loadedNumber (loaded m) ≡ 0 → (ps : Pairs) × Merges (roomOf ledger) none (parts text) ps
+      go : (m : Merged) → Row (capacity ledger) (parts text) m → loadedNumber (loaded m) ≡ 0 → (ps : Pairs) × Merges (capacity ledger) none (parts text) ps
       go (merged ps) (merges _ m) h = (ps, m)
       go (trouble k) (stops _ (by-51 before after t ps e m x)) h = absurd (omega arith)
       go (trouble k) (stops _ (by-52 before after t ps s e q m x l)) h = absurd (omega arith)
@@ -115,7 +115,7 @@ module _ (text ledger : List ℕ) where
   unfolding loadedNumber
   refuses k after r = record { number = sym (ap loadedNumber (r .0)); after-is = sym (r .1) }
 
-  pub reads : lengthWrong ledger ≡ false → (ps : Pairs) → rangesOf (roomOf ledger) text ≡ merged ps → Reads text ledger ps
+  pub reads : lengthWrong ledger ≡ false → (ps : Pairs) → rangesOf (capacity ledger) text ≡ merged ps → Reads text ledger ps
   unfolding loadedNumber
   reads w ps m =
       let r = reads-merged text ledger w ps m in
@@ -126,8 +126,8 @@ module _ (text ledger : List ℕ) where
   range-reading =
       record {
         wrong-length = λ o. refuses 53 ledger (reads-53 text ledger (length-wrong ledger o));
-        trouble-is = λ e l k t. refuses k _ (reads-trouble text ledger (length-right ledger e l) k (trouble-stops (roomOf ledger) k (parts text) t));
+        trouble-is = λ e l k t. refuses k _ (reads-trouble text ledger (length-right ledger e l) k (trouble-stops (capacity ledger) k (parts text) t));
         trouble-only = λ e l. trouble-only text ledger (length-right ledger e l);
-        merged-is = λ e l ps m. reads (length-right ledger e l) ps (merges-all (roomOf ledger) ps (parts text) m);
+        merged-is = λ e l ps m. reads (length-right ledger e l) ps (merges-all (capacity ledger) ps (parts text) m);
         merged-only = λ e l. merged-only text ledger (length-right ledger e l);
       }

@@ -12,13 +12,13 @@ use Rattle.octets.specs.Cases.{AllHold}
 use Rattle.octets.specs.Decimal.{width, decimal}
 use Rattle.octets.specs.Text.{isDigit, all}
 use Rattle.octets.proofs.Decimals.{width-some, all-inDigits, decimal-reads-back, length-decimal, width-20}
-use Rattle.octets.proofs.Readings.{at-digits}
+use Rattle.octets.proofs.Reading.{at-digits}
 use Rattle.answers.specs.declared.loaded.Loaded.the-variants.{Done}
 use Rattle.answers.specs.declared.written.Written.the-variants.{Bytes}
-use Rattle.ledger.specs.Pairs.{Pairs, none, pair, size, Ruled, join, endsBy}
-use Rattle.ledger.specs.Ledger.{largest, lengthWrong, obeys, pairsOf, roomOf}
-use Rattle.ledger.proofs.Lents.{rule-ruled, lent-pairsOf, size-pairsOf}
-use Rattle.ledger.proofs.Sizes.{length-right, length-fits}
+use Rattle.ledger.specs.Pairs.{Pairs, none, pair, size, Ruled, join, endsAtMost}
+use Rattle.ledger.specs.Ledger.{largest, lengthWrong, obeys, pairsOf, capacity}
+use Rattle.ledger.proofs.LedgerLayout.{rule-ruled, laidOut-pairsOf, size-pairsOf}
+use Rattle.ledger.proofs.LedgerSizes.{length-right, length-fits}
 use Rattle.rangelists.specs.RangeText.{rangeOf, parts, merged, mergeRange, mergedFrom, rangesOf, readRanges, readRangesAfter, rangeText, rangesText, writeRanges, writeRangesAfter}
 use Rattle.rangelists.specs.OneRange.{Position}
 use Rattle.rangelists.specs.Parts.{withCommas, NoComma}
@@ -127,12 +127,12 @@ join-last lo a b (pair x y qs) ps c =
     let i = chain-above (suc y) a b qs ps (c .2) in
     rw (le-ltb b x (omega (arith, c .1, i .0, i .1)), lt-ltb y a (i .0), join-last (suc y) a b qs ps (c .2))
 
-merged-chain : (r : ℕ) (qs ps : Pairs) → Ruled 0 (chain qs ps) → size (chain qs ps) ≤ r → endsBy largest ps ≡ true
+merged-chain : (r : ℕ) (qs ps : Pairs) → Ruled 0 (chain qs ps) → size (chain qs ps) ≤ r → endsAtMost largest ps ≡ true
     → mergedFrom r qs (textsOf ps) ≡ merged (chain qs ps)
-unfolding mergedFrom textsOf mergeRange endsBy size
+unfolding mergedFrom textsOf mergeRange endsAtMost size
 merged-chain r qs none c n f = rw (chain-none qs)
 merged-chain r qs (pair a b ps) c n f =
-    let q = and-eq-true-iff (leb b largest) (endsBy largest ps) .0 f in
+    let q = and-eq-true-iff (leb b largest) (endsAtMost largest ps) .0 f in
     let i = chain-above 0 a b qs ps c in
     let j = join-last 0 a b qs ps c in
     let e = chain-chain qs ps a b in
@@ -142,13 +142,13 @@ merged-chain r qs (pair a b ps) c n f =
 
 -- ---- the text that the writer left
 
-text-back : (ps : Pairs) (m : List ℕ) → 0 < size ps → Ruled 0 ps → endsBy largest ps ≡ true → lengthWrong m ≡ false → size ps ≤ roomOf m
+text-back : (ps : Pairs) (m : List ℕ) → 0 < size ps → Ruled 0 ps → endsAtMost largest ps ≡ true → lengthWrong m ≡ false → size ps ≤ capacity m
     → Reads (rangesText ps) m ps
 unfolding rangesOf chain
 text-back ps m some ruled ends lengths room =
-    reads (rangesText ps) m lengths ps (rw (parts-texts ps some) (merged-chain (roomOf m) none ps ruled room ends))
+    reads (rangesText ps) m lengths ps (rw (parts-texts ps some) (merged-chain (capacity m) none ps ruled room ends))
 
-pub reads-back : (l out m : List ℕ) (n : ℕ) → writeRanges l out ≡ Bytes n → endsBy largest (pairsOf l) ≡ true → lengthWrong m ≡ false → size (pairsOf l) ≤ roomOf m
+pub reads-back : (l out m : List ℕ) (n : ℕ) → writeRanges l out ≡ Bytes n → endsAtMost largest (pairsOf l) ≡ true → lengthWrong m ≡ false → size (pairsOf l) ≤ capacity m
     → Reads (take n (writeRangesAfter l out)) m (pairsOf l)
 unfolding obeys
 reads-back l out m n e ends lengths room =
@@ -156,7 +156,7 @@ reads-back l out m n e ends lengths room =
     let text = rangesText (pairsOf l) in
     rw (w .after, take-at text (drop (length text) out) n (w .bytes)) (text-back (pairsOf l) m (w .some) (rule-ruled 0 l (w .ruled)) ends lengths room)
 
-pub reads-same : (l out m : List ℕ) (n : ℕ) → writeRanges l out ≡ Bytes n → endsBy largest (pairsOf l) ≡ true → length m ≡ length l
+pub reads-same : (l out m : List ℕ) (n : ℕ) → writeRanges l out ≡ Bytes n → endsAtMost largest (pairsOf l) ≡ true → length m ≡ length l
     → (readRanges (take n (writeRangesAfter l out)) m ≡ Done) × (readRangesAfter (take n (writeRangesAfter l out)) m ≡ l)
 unfolding obeys
 reads-same l out m n e ends same =
@@ -164,4 +164,4 @@ reads-same l out m n e ends same =
     let f = length-fits l (w .lengths) in
     let lengths : lengthWrong m ≡ false = length-right m (omega (arith, f .0)) (omega (arith, f .1)) in
     let r = reads-back l out m n e ends lengths (omega (arith, size-pairsOf l)) in
-    (r .accepted, r .after ∙ sym (lent-pairsOf (roomOf m) 0 l (w .ruled) (omega (arith, f .0))))
+    (r .accepted, r .after ∙ sym (laidOut-pairsOf (capacity m) 0 l (w .ruled) (omega (arith, f .0))))

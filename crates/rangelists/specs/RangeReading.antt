@@ -7,7 +7,7 @@ use lib.ListN.{length, replicate}
 use Rattle.answers.specs.Loaded.{loadedNumber}
 use Rattle.answers.specs.declared.loaded.Loaded.the-variants.{Done}
 use Rattle.ledger.specs.Pairs.{Pairs, none, size, join}
-use Rattle.ledger.specs.Ledger.{lent, roomOf}
+use Rattle.ledger.specs.Ledger.{laidOut, capacity}
 use Rattle.rangelists.specs.RangeText.{parts, rangeOf, readRanges, readRangesAfter}
 use Rattle.rangelists.specs.declared.ranges.Range.the-variants.{Places, Malformed}
 
@@ -30,7 +30,7 @@ pub data Trouble (r : ℕ) (texts : List (List ℕ)) : ℕ → Type 0 where
 pub record Reads (text ledger : List ℕ) (ps : Pairs) : Type 0 where
   pub accepted : readRanges text ledger ≡ Done
   pub number : loadedNumber (readRanges text ledger) ≡ 0
-  pub after : readRangesAfter text ledger ≡ lent (roomOf ledger) ps
+  pub after : readRangesAfter text ledger ≡ laidOut (capacity ledger) ps
 
 -- the text is refused with this number, and the ledger becomes this one
 pub record Refuses (text ledger : List ℕ) (k : ℕ) (after : List ℕ) : Type 0 where
@@ -41,12 +41,12 @@ pub record RangeReading (text ledger : List ℕ) : Type 0 where
   -- 53: a ledger whose length is odd or above 8,192 stays as it is
   pub wrong-length : (length ledger % 2 ≡ 1) ⊎ (8192 < length ledger) → Refuses text ledger 53 ledger
   -- 51 or 52: the first trouble, which leaves the ledger all zero; no other text has a number above 0
-  pub trouble-is : length ledger % 2 ≡ 0 → length ledger ≤ 8192 → (k : ℕ) → Trouble (roomOf ledger) (parts text) k
+  pub trouble-is : length ledger % 2 ≡ 0 → length ledger ≤ 8192 → (k : ℕ) → Trouble (capacity ledger) (parts text) k
       → Refuses text ledger k (replicate (length ledger) 0)
   pub trouble-only : length ledger % 2 ≡ 0 → length ledger ≤ 8192 → 0 < loadedNumber (readRanges text ledger)
-      → Trouble (roomOf ledger) (parts text) (loadedNumber (readRanges text ledger))
+      → Trouble (capacity ledger) (parts text) (loadedNumber (readRanges text ledger))
   -- 0: the merged pairs, and zeros after them; no other text has the number 0
-  pub merged-is : length ledger % 2 ≡ 0 → length ledger ≤ 8192 → (ps : Pairs) → Merges (roomOf ledger) none (parts text) ps
+  pub merged-is : length ledger % 2 ≡ 0 → length ledger ≤ 8192 → (ps : Pairs) → Merges (capacity ledger) none (parts text) ps
       → Reads text ledger ps
   pub merged-only : length ledger % 2 ≡ 0 → length ledger ≤ 8192 → loadedNumber (readRanges text ledger) ≡ 0
-      → (ps : Pairs) × Merges (roomOf ledger) none (parts text) ps
+      → (ps : Pairs) × Merges (capacity ledger) none (parts text) ps

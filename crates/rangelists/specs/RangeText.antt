@@ -13,8 +13,8 @@ use Rattle.answers.specs.declared.loaded.Loaded.{Loaded}
 use Rattle.answers.specs.declared.loaded.Loaded.the-variants.{Done, Refused}
 use Rattle.answers.specs.declared.written.Written.{Written}
 use Rattle.answers.specs.Written.{firstNumber, roomNumber, writtenBy, writtenAfter}
-use Rattle.ledger.specs.Pairs.{Pairs, none, pair, size, hit, join}
-use Rattle.ledger.specs.Ledger.{lengthWrong, obeys, ledgerRefusal, pairsOf, lent, roomOf}
+use Rattle.ledger.specs.Pairs.{Pairs, none, pair, size, inRange, join}
+use Rattle.ledger.specs.Ledger.{lengthWrong, obeys, ledgerRefusal, pairsOf, laidOut, capacity}
 use Rattle.rangelists.specs.declared.ranges.Range.{Range}
 use Rattle.rangelists.specs.declared.ranges.Range.the-variants.{Places, Malformed}
 
@@ -81,7 +81,7 @@ rangesOf r text = mergedFrom r none (parts text)
 -- 1 where one of the texts is a range that holds the place p, and 0 where none is
 unfoldable pub heldBy : ℕ → Range → ℕ
 heldBy p Malformed = 0
-heldBy p (Places s e) = hit s e p
+heldBy p (Places s e) = inRange s e p
 
 unfoldable pub namedBy : ℕ → List (List ℕ) → ℕ
 namedBy p [] = 0
@@ -94,14 +94,14 @@ loaded (merged ps) = Done
 loaded (trouble k) = Refused k
 
 unfoldable pub entriesAfter : ℕ → ℕ → Merged → List ℕ
-entriesAfter n r (merged ps) = lent r ps
+entriesAfter n r (merged ps) = laidOut r ps
 entriesAfter n r (trouble k) = replicate n 0
 
 unfoldable pub readRanges : List ℕ → List ℕ → Loaded
-readRanges text ledger = cond (lengthWrong ledger) (Refused 53) (loaded (rangesOf (roomOf ledger) text))
+readRanges text ledger = cond (lengthWrong ledger) (Refused 53) (loaded (rangesOf (capacity ledger) text))
 
 unfoldable pub readRangesAfter : List ℕ → List ℕ → List ℕ
-readRangesAfter text ledger = cond (lengthWrong ledger) ledger (entriesAfter (length ledger) (roomOf ledger) (rangesOf (roomOf ledger) text))
+readRangesAfter text ledger = cond (lengthWrong ledger) ledger (entriesAfter (length ledger) (capacity ledger) (rangesOf (capacity ledger) text))
 
 -- ---- the writer: ascending pairs without leading zeros
 

@@ -13,7 +13,7 @@ ghost use mathlib.Core.Bool.{true};
 ghost use Prim.Native.Nat.{_+_, _≤_, _<_};
 ghost use lib.ListN.{length};
 ghost use lib.Seq.{sets};
-ghost use Rattle.ledger.specs.Ledger.{entryLimit, largest, obeys, pairsOf, roomOf};
+ghost use Rattle.ledger.specs.Ledger.{entryLimit, largest, obeys, pairsOf, capacity};
 ghost use Rattle.rangelists.specs.RangeText.{positionOf, rangeOf, mergeRange, mergedFrom, Represents, merged, parts, readRanges, readRangesAfter, comma, rangeText, rangesText, writeRanges, writeRangesAfter};
 ghost use Rattle.answers.specs.WritesAt.{WritesAt};
 
@@ -173,7 +173,7 @@ fn read_range(text: &[u8]) -> Range
 // Joins the range that a text says to the ledger: 0, or the number of the trouble.
 fn join_text(text: &[u8], ledger: &mut [u64]) -> u8
     requires { ⌜ obeys (now ledger) ≡ true ⌝ }
-    ensures { λ r. ⌜ Represents (mergeRange (roomOf (now (ledger .entry))) (pairsOf (now (ledger .entry))) (rangeOf (now (text .entry))) merged) r (now (ledger .exit)) ⌝ }
+    ensures { λ r. ⌜ Represents (mergeRange (capacity (now (ledger .entry))) (pairsOf (now (ledger .entry))) (rangeOf (now (text .entry))) merged) r (now (ledger .exit)) ⌝ }
 {
     let Range::Places { start, end } = read_range(text) else {
         return 51;
@@ -187,7 +187,7 @@ fn join_text(text: &[u8], ledger: &mut [u64]) -> u8
 // Joins the ranges of a list to the ledger, in reading order: 0, or the number of the first trouble.
 fn join_list(text: &[u8], ledger: &mut [u64]) -> u8
     requires { ⌜ obeys (now ledger) ≡ true ⌝ }
-    ensures { λ r. ⌜ Represents (mergedFrom (roomOf (now (ledger .entry))) (pairsOf (now (ledger .entry))) (parts (now (text .entry)))) r (now (ledger .exit)) ⌝ }
+    ensures { λ r. ⌜ Represents (mergedFrom (capacity (now (ledger .entry))) (pairsOf (now (ledger .entry))) (parts (now (text .entry)))) r (now (ledger .exit)) ⌝ }
 {
     let mut at = 0;
     loop {

@@ -8,28 +8,28 @@ use native.Mathlib.Decide.{decLt}
 use borrow.Author.Tests.{lt-ltb, le-leb, lt-leb}
 use lib.Dec.{ltb, eqb}
 use lib.ListN.{length}
-use Rattle.channelchecks.specs.Survey.{surveyWhere}
-use Rattle.channelchecks.proofs.SurveyFields.{fits-where, used-where, ended-where}
-use Rattle.checks.specs.FitSurvey.{surveyIn}
-use Rattle.checks.proofs.FitSurvey.{survey-in}
+use Rattle.channelchecks.specs.FitReport.{reportWhere}
+use Rattle.channelchecks.proofs.FitReportFields.{fits-where, used-where, ended-where}
+use Rattle.checks.specs.ReportOf.{reportIn}
+use Rattle.checks.proofs.ReportOf.{report-in}
 use Rattle.transfer.specs.declared.state.Transfer.{Transfer}
 use Rattle.transfer.specs.Channel.{channelCount, channelAt}
 use Rattle.transfer.specs.Transfer.{usedOf, endedOf, World, world, guess, result, broken, isFinal, verdictOf}
-use Rattle.transfer.specs.Receive.{refused, isGuess, isSome, refusalOf, receiveOf}
+use Rattle.transfer.specs.Receive.{refused, isGuess, isNonEmpty, refusalOf, receiveOf}
 use Rattle.transfer.specs.Fit.{fits}
-use Rattle.runs.specs.Runs.{bytesOn}
+use Rattle.runs.specs.Runs.{takeBytesOn}
 use Rattle.runs.proofs.StateNumbers.{is-ended, not-ended}
 
 -- ---- what the pass over the channels found
 
 module _ (t : Transfer) (f ledger : List ℕ) where
-  whole-is : surveyIn (length f) t ledger ≡ surveyWhere (fits (world t f ledger)) t
-  whole-is = survey-in (length f) t ledger ∙ (unfold fits in refl)
+  whole-is : reportIn (length f) t ledger ≡ reportWhere (fits (world t f ledger)) t
+  whole-is = report-in (length f) t ledger ∙ (unfold fits in refl)
 
-  pub found-fits : surveyIn (length f) t ledger .fits ≡ fits (world t f ledger)
+  pub found-fits : reportIn (length f) t ledger .fits ≡ fits (world t f ledger)
   found-fits = ap (λ s. s .fits) whole-is ∙ fits-where (fits (world t f ledger)) t
 
-  pub found-counts : fits (world t f ledger) ≡ true → (surveyIn (length f) t ledger .used ≡ usedOf t) × (surveyIn (length f) t ledger .ended ≡ endedOf t)
+  pub found-counts : fits (world t f ledger) ≡ true → (reportIn (length f) t ledger .used ≡ usedOf t) × (reportIn (length f) t ledger .ended ≡ endedOf t)
   found-counts e = (ap (λ s. s .used) whole-is ∙ used-where (fits (world t f ledger)) t e, ap (λ s. s .ended) whole-is ∙ ended-where (fits (world t f ledger)) t e)
 
 -- the verdict by the numbers that the code has
@@ -57,15 +57,15 @@ module _ (w : World) (c : ℕ) (piece : List ℕ) where
     refused-3 g = rw (f, lt-leb channelCount c h, g)
 
     module _ (g : isGuess (verdictOf w) ≡ true) where
-      pub empty-taken : isSome piece ≡ false → refusalOf w c piece ≡ 0
+      pub empty-taken : isNonEmpty piece ≡ false → refusalOf w c piece ≡ 0
       unfolding refusalOf
       empty-taken s = rw (f, lt-leb channelCount c h, g, s)
 
-      pub refused-4 : isSome piece ≡ true → 4 ≤ channelAt (w .t) c .state → refusalOf w c piece ≡ 4
+      pub refused-4 : isNonEmpty piece ≡ true → 4 ≤ channelAt (w .t) c .state → refusalOf w c piece ≡ 4
       unfolding refusalOf
       refused-4 s q = rw (f, lt-leb channelCount c h, g, s, is-ended (w .t) c q)
 
-      pub bytes-taken : isSome piece ≡ true → channelAt (w .t) c .state < 4 → refusalOf w c piece ≡ 0
+      pub bytes-taken : isNonEmpty piece ≡ true → channelAt (w .t) c .state < 4 → refusalOf w c piece ≡ 0
       unfolding refusalOf
       bytes-taken s q = rw (f, lt-leb channelCount c h, g, s, not-ended (w .t) c q)
 
@@ -75,7 +75,7 @@ module _ (w : World) (c : ℕ) (piece : List ℕ) where
   unfolding receiveOf
   is-refused n e h = rw (← e, lt-ltb 0 n h)
 
-  pub is-taken : refusalOf w c piece ≡ 0 → bytesOn c w piece 0 ≡ receiveOf w c piece
+  pub is-taken : refusalOf w c piece ≡ 0 → takeBytesOn c w piece 0 ≡ receiveOf w c piece
   unfolding receiveOf
   is-taken e = rw e
 
@@ -88,6 +88,6 @@ module _ (w : World) (c : ℕ) (piece : List ℕ) where
       go true f (no d) = absurd (omega (arith, e, refused-2 f (omega arith)))
       go true f (yes d) = (f, d)
 
-pub some-is : (piece : List ℕ) → isSome piece ≡ ltb 0 (length piece)
+pub some-is : (piece : List ℕ) → isNonEmpty piece ≡ ltb 0 (length piece)
 some-is [] = refl
 some-is (b ∷ bs) = sym (lt-ltb 0 (suc (length bs)) (omega arith))

@@ -1,6 +1,6 @@
 // The receiver as a host holds it, by value, and what a call of it answers.
 use crate::transfer_channel;
-use channelchecks::survey::Survey;
+use channelchecks::report::FitReport;
 use channels::other_channels;
 use checks::fit;
 use counts::count;
@@ -13,14 +13,14 @@ ghost use mathlib.Core.Bool.{true};
 ghost use mathlib.Core.List.{List};
 ghost use Prim.Native.Nat.{ℕ, _<_};
 ghost use lib.ListN.{length};
-ghost use Rattle.checks.specs.FitSurvey.{surveyIn};
+ghost use Rattle.checks.specs.ReportOf.{reportIn};
 ghost use Rattle.transfer.specs.declared.state.Transfer.{Transfer};
 ghost use Rattle.transfer.specs.Channel.{channelAt};
 ghost use Rattle.transfer.specs.Transfer.{usedOf, endedOf, world, verdictOf};
-ghost use Rattle.transfer.specs.Receive.{isSome, refusalOf, receiveOf};
+ghost use Rattle.transfer.specs.Receive.{isNonEmpty, refusalOf, receiveOf};
 ghost use Rattle.transfer.specs.Fit.{fits};
 ghost use Rattle.verdicts.specs.Verdict.{verdictIs};
-ghost use Rattle.runs.specs.Runs.{bytesOn};
+ghost use Rattle.runs.specs.Runs.{takeBytesOn};
 ghost use Rattle.receiver.specs.declared.receive.Answer.the-variants.{Refused};
 ghost use Rattle.receiver.specs.Answers.{answerOf};
 
@@ -44,8 +44,8 @@ pub struct Received {
 
 // The number by which a call is refused, 0 where it is not: for what FIT found, the transfer's fault and count, the state of the channel,
 // where there is one, and a piece that has bytes or not.
-fn refusal(found: Survey, fault: u64, count: u64, state: u8, channel: u64, some: bool) -> u8
-    ensures { λ r. ⌜ ((t : Transfer) (file ledger piece : List ℕ) → found ≡ surveyIn (length file) t ledger → fault ≡ t .fault → count ≡ t .count → (channel < 64 → state ≡ channelAt t channel .state) → isSome piece ≡ some → r ≡ refusalOf (world t file ledger) channel piece) ⌝ }
+fn refusal(found: FitReport, fault: u64, count: u64, state: u8, channel: u64, some: bool) -> u8
+    ensures { λ r. ⌜ ((t : Transfer) (file ledger piece : List ℕ) → found ≡ reportIn (length file) t ledger → fault ≡ t .fault → count ≡ t .count → (channel < 64 → state ≡ channelAt t channel .state) → isNonEmpty piece ≡ some → r ≡ refusalOf (world t file ledger) channel piece) ⌝ }
 {
     if !found.fits {
         return 1;
@@ -91,13 +91,13 @@ fn refused(t: Transfer, n: u8) -> Received
 fn taken(
     t: Transfer,
     c: usize,
-    found: Survey,
+    found: FitReport,
     piece: &[u8],
     file: &mut [u8],
     ledger: &mut [u64],
 ) -> Received
     requires { ⌜ (c < 64) × (fits (world t (now file) (now ledger)) ≡ true) × (found .used ≡ usedOf t) × (found .ended ≡ endedOf t) ⌝ }
-    ensures { λ r. ⌜ ((answerOf (r .answer), world (r .receiver .transfer) (now (file .exit)) (now (ledger .exit))) ≡ bytesOn c (world t (now (file .entry)) (now (ledger .entry))) (now (piece .entry)) 0) × (verdictIs (r .verdict) ≡ verdictOf (world (r .receiver .transfer) (now (file .exit)) (now (ledger .exit)))) ⌝ }
+    ensures { λ r. ⌜ ((answerOf (r .answer), world (r .receiver .transfer) (now (file .exit)) (now (ledger .exit))) ≡ takeBytesOn c (world t (now (file .entry)) (now (ledger .entry))) (now (piece .entry)) 0) × (verdictIs (r .verdict) ≡ verdictOf (world (r .receiver .transfer) (now (file .exit)) (now (ledger .exit)))) ⌝ }
 {
     let k = t.channels[c];
     let o = other_channels::counts_without(t.len, found, k.state);

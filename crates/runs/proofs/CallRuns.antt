@@ -11,15 +11,15 @@ use lib.Seq.{drop-drop}
 use Rattle.transfer.specs.declared.state.Transfer.{Transfer}
 use Rattle.transfer.specs.Channel.{channelCount, channelAt, putFault}
 use Rattle.transfer.specs.Transfer.{usedOf, World, world}
-use Rattle.transfer.specs.Receive.{leaves, took, byteOn, byteOf}
+use Rattle.transfer.specs.Receive.{notTaken, took, takeByteIn, takeByte}
 use Rattle.transfer.specs.Fit.{fitsLedger, fits}
-use Rattle.transfer.proofs.Pieces.{bytes-none, bytes-leaves}
-use Rattle.transfer.proofs.Rowed.{rows}
-use Rattle.transfer.proofs.Together.{Together}
+use Rattle.transfer.proofs.ReceivePieces.{bytes-none, bytes-leaves}
+use Rattle.transfer.proofs.Rows.{rows}
+use Rattle.transfer.proofs.FitByChannel.{Together}
 use Rattle.transfer.proofs.FitTests.{fits-together, together-fits}
-use Rattle.transfer.proofs.Fitted.{piece-keeps}
+use Rattle.transfer.proofs.Fitting.{piece-keeps}
 use Rattle.verdicts.specs.Verdict.{countReached}
-use Rattle.runs.specs.Runs.{bytesOn, RunOf}
+use Rattle.runs.specs.Runs.{takeBytesOn, RunOf}
 use Rattle.runs.proofs.StateNumbers.{is-unused, is-ended}
 
 pub fits-parts : (t : Transfer) (file ledger : List ℕ) → fits (world t file ledger) ≡ true → (length file ≡ t .len) × (fitsLedger t ledger ≡ true)
@@ -28,11 +28,11 @@ fits-parts t file ledger e = let a = and-eq-true-iff (eqb (length file) (t .len)
 
 -- ---- runs that take nothing
 
-nothing-taken : (c : ℕ) (w v : World) (b : ℕ) (bs : List ℕ) → byteOf w c b ≡ leaves v → RunOf c w (b ∷ bs) v 0 false
+nothing-taken : (c : ℕ) (w v : World) (b : ℕ) (bs : List ℕ) → takeByte w c b ≡ notTaken v → RunOf c w (b ∷ bs) v 0 false
 nothing-taken c w v b bs e =
     record {
       if-continues = λ o. absurd (true≢false (sym o));
-      if-stops = λ o k. let z : k ≡ k + 0 = omega arith in bytes-leaves (λ u x. byteOf u c x) w v b bs k e ∙ ap (λ n. (took n, v)) z;
+      if-stops = λ o k. let z : k ≡ k + 0 = omega arith in bytes-leaves (λ u x. takeByte u c x) w v b bs k e ∙ ap (λ n. (took n, v)) z;
     }
 
 -- 19
@@ -48,22 +48,22 @@ pub ended-run-of : (t : Transfer) (file ledger : List ℕ) (c : ℕ) (piece : Li
 ended-run-of t file ledger c [] h s = absurd (omega arith)
 ended-run-of t file ledger c (b ∷ bs) h s = nothing-taken c (world t file ledger) (world t file ledger) b bs left
   where
-    left : byteOf (world t file ledger) c b ≡ leaves (world t file ledger)
-    left = unfold byteOf in rw (is-ended t c s) (unfold byteOn in refl)
+    left : takeByte (world t file ledger) c b ≡ notTaken (world t file ledger)
+    left = unfold takeByte in rw (is-ended t c s) (unfold takeByteIn in refl)
 
 -- ---- one run after the others: i bytes were taken before it
 
 module _ (c : ℕ) (h : c < channelCount) (w v : World) (piece : List ℕ) (i n : ℕ) (continues : Bool) (r : RunOf c w (drop i piece) v n continues) where
-  pub further : continues ≡ true → bytesOn c w (drop i piece) i ≡ bytesOn c v (drop (i + n) piece) (i + n)
+  pub further : continues ≡ true → takeBytesOn c w (drop i piece) i ≡ takeBytesOn c v (drop (i + n) piece) (i + n)
   further o =
       let e : n + i ≡ i + n = omega arith in
-      ap (λ x. bytesOn c w x i) (sym (take-append-drop n (drop i piece))) ∙ r .if-continues o (drop n (drop i piece)) i ∙ ap (λ x. bytesOn c v x (i + n)) (drop-drop n i piece)
+      ap (λ x. takeBytesOn c w x i) (sym (take-append-drop n (drop i piece))) ∙ r .if-continues o (drop n (drop i piece)) i ∙ ap (λ x. takeBytesOn c v x (i + n)) (drop-drop n i piece)
 
-  pub stopped : continues ≡ false → bytesOn c w (drop i piece) i ≡ (took (i + n), v)
+  pub stopped : continues ≡ false → takeBytesOn c w (drop i piece) i ≡ (took (i + n), v)
   stopped o = r .if-stops o i
 
   pub still-fits : continues ≡ true → fits w ≡ true → fits v ≡ true
   still-fits o f =
       together-fits v
-      (subst Together (ap (λ x. x .1) (r .if-continues o [] 0 ∙ bytes-none (λ u x. byteOf u c x) v (0 + n)))
+      (subst Together (ap (λ x. x .1) (r .if-continues o [] 0 ∙ bytes-none (λ u x. takeByte u c x) v (0 + n)))
       (piece-keeps c h (take n (drop i piece) ++ []) w 0 (fits-together w f)))

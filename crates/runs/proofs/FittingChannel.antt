@@ -9,8 +9,8 @@ use lib.Seq.{length-take-le, take-take, drop-drop, drop-append-add, drop-append-
 use Rattle.transfer.specs.declared.state.Channel.{Channel}
 use Rattle.transfer.specs.Channel.{channelCount, heldLimit, header, stateNumber, heldNumber, nextNumber, leftNumber, heldBytes, numbersOf, readState, blank, channelAt, stateAt, putState}
 use Rattle.transfer.specs.Transfer.{World}
-use Rattle.transfer.proofs.Stages.{Stage, resting, collecting, storing, held-within}
-use Rattle.transfer.proofs.Together.{Together}
+use Rattle.transfer.proofs.FitChannelKinds.{Stage, resting, collecting, storing, held-within}
+use Rattle.transfer.proofs.FitByChannel.{Together}
 use Rattle.channels.specs.HeldBytes.{withHeldBytesAt}
 
 all-zero : (l : List ℕ) → ((i : ℕ) → i < length l → getD l i 0 ≡ 0) → l ≡ replicate (length l) 0

@@ -10,14 +10,14 @@ use lib.Seq.{sets, take-suc, take-all, length-take-le}
 use Rattle.transfer.specs.declared.state.Transfer.{Transfer}
 use Rattle.transfer.specs.Channel.{channelCount, State, header, payload, ended, stateNumber, numbersOf, blank, stateAt, putState, putFault}
 use Rattle.transfer.specs.Transfer.{oneIfEnded, endedOf, World, world, isFinal}
-use Rattle.transfer.specs.Receive.{Took, goes, stops, leaves, took, faults, ends, opens, stores, byteOn, byteOf}
-use Rattle.transfer.proofs.Lens.{Has, get-put, put-put}
+use Rattle.transfer.specs.Receive.{Outcome, continues, stops, notTaken, took, stopWithFault, endChannel, beginPayload, storePayloadByte, takeByteIn, takeByte}
+use Rattle.transfer.proofs.ChannelReadBack.{Has, get-put, put-put}
 use Rattle.transfer.proofs.Sums.{sum-set}
-use Rattle.transfer.proofs.Placed.{sets-snoc}
-use Rattle.transfer.proofs.Pieces.{at, payload-run, bytes-goes, bytes-stops}
-use Rattle.transfer.proofs.Together.{Together}
+use Rattle.transfer.proofs.BlockPayloads.{sets-snoc}
+use Rattle.transfer.proofs.ReceivePieces.{at, payload-run, bytes-goes, bytes-stops}
+use Rattle.transfer.proofs.FitByChannel.{Together}
 use Rattle.channels.specs.NextState.{continuesOrStops}
-use Rattle.runs.specs.Runs.{bytesOn}
+use Rattle.runs.specs.Runs.{takeBytesOn}
 use Rattle.runs.proofs.FittingChannel.{put-back}
 
 -- ---- the end of a payload does not ask how much of it was left
@@ -55,17 +55,17 @@ module _ (t : Transfer) (file claimed : List ℕ) (c : ℕ) (a : Has t c) (p n p
   again : (x : State) → putState (putState t c now) c x ≡ putState (putState t c was) c x
   again x = put-put t c a now x tt ∙ sym (put-put t c a was x tt)
 
-  same-faults : (k : ℕ) → faults (at t file claimed c now) c k ≡ faults (at t file claimed c was) c k
-  unfolding faults
+  same-faults : (k : ℕ) → stopWithFault (at t file claimed c now) c k ≡ stopWithFault (at t file claimed c was) c k
+  unfolding stopWithFault
   same-faults k = ap (λ u. stops (world (putFault u k c) file claimed)) (again (header []))
 
-  pub same-opens : (q : ℕ) (l : Bool) → opens (at t file claimed c now) c q 0 l ≡ opens (at t file claimed c was) c q 0 l
-  unfolding opens ends
-  same-opens q true = rw same-final (ap (λ (v : Took World × Took World). cond (isFinal (putState t c was)) (v .0) (v .1)) pairs)
+  pub same-opens : (q : ℕ) (l : Bool) → beginPayload (at t file claimed c now) c q 0 l ≡ beginPayload (at t file claimed c was) c q 0 l
+  unfolding beginPayload endChannel
+  same-opens q true = rw same-final (ap (λ (v : Outcome World × Outcome World). cond (isFinal (putState t c was)) (v .0) (v .1)) pairs)
     where
-      pairs : _≡_ {A = Took World × Took World} (faults (at t file claimed c now) c 20, stops (world (putState (putState t c now) c ended) file claimed)) (faults (at t file claimed c was) c 20, stops (world (putState (putState t c was) c ended) file claimed))
+      pairs : _≡_ {A = Outcome World × Outcome World} (stopWithFault (at t file claimed c now) c 20, stops (world (putState (putState t c now) c ended) file claimed)) (stopWithFault (at t file claimed c was) c 20, stops (world (putState (putState t c was) c ended) file claimed))
       pairs = rw (same-faults 20, again ended)
-  same-opens q false = ap (λ u. goes (world u file claimed)) (again (header []))
+  same-opens q false = ap (λ u. continues (world u file claimed)) (again (header []))
 
 -- ---- from a world that fits, on a channel in a payload
 
@@ -77,43 +77,43 @@ module _ (w : World) (f : Together w) (c : ℕ) (g : c < channelCount) (p m : �
   in-payload = ap (λ x. world x (w .lent .file) (w .lent .claimed)) (sym (put-back w f c g) ∙ ap (putState (w .t) c) s)
 
   -- the last byte of the payload
-  last-byte : (file : List ℕ) (q b : ℕ) → byteOf (at (w .t) file (w .lent .claimed) c (payload q 1 e)) c b ≡ opens (at (w .t) (set file q b) (w .lent .claimed) c (payload q 1 e)) c (suc q) 0 e
-  unfolding byteOf byteOn stores
+  last-byte : (file : List ℕ) (q b : ℕ) → takeByte (at (w .t) file (w .lent .claimed) c (payload q 1 e)) c b ≡ beginPayload (at (w .t) (set file q b) (w .lent .claimed) c (payload q 1 e)) c (suc q) 0 e
+  unfolding takeByte takeByteIn storePayloadByte
   last-byte file q b = rw (get-put (w .t) c has (payload q 1 e))
 
   -- bytes short of the payload's end
-  part-run : (ps : List ℕ) → length ps < m → (v : World) (continues : Bool) → continuesOrStops continues v ≡ opens (world (w .t) (sets (w .lent .file) p ps) (w .lent .claimed)) c (p + length ps) (m - length ps) e
-      → (rest : List ℕ) (k : ℕ) → bytesOn c w (ps ++ rest) k ≡ cond continues (bytesOn c v rest (k + length ps)) (took (k + length ps), v)
-  part-run ps l v continues o rest k =
-      ap (λ u. bytesOn c u (ps ++ rest) k) in-payload
+  part-run : (ps : List ℕ) → length ps < m → (v : World) (more : Bool) → continuesOrStops more v ≡ beginPayload (world (w .t) (sets (w .lent .file) p ps) (w .lent .claimed)) c (p + length ps) (m - length ps) e
+      → (rest : List ℕ) (k : ℕ) → takeBytesOn c w (ps ++ rest) k ≡ cond more (takeBytesOn c v rest (k + length ps)) (took (k + length ps), v)
+  part-run ps l v more o rest k =
+      ap (λ u. takeBytesOn c u (ps ++ rest) k) in-payload
       ∙ payload-run ps rest (w .t) (w .lent .file) (w .lent .claimed) c p m k e has l
-      ∙ go (m - length ps) (omega arith) continues o
+      ∙ go (m - length ps) (omega arith) more o
     where
-      go : (r : ℕ) → 0 < r → (continues : Bool) → continuesOrStops continues v ≡ opens (world (w .t) (sets (w .lent .file) p ps) (w .lent .claimed)) c (p + length ps) r e
-          → bytesOn c (at (w .t) (sets (w .lent .file) p ps) (w .lent .claimed) c (payload (p + length ps) r e)) rest (k + length ps) ≡ cond continues (bytesOn c v rest (k + length ps)) (took (k + length ps), v)
-      go zero z continues o = absurd (omega arith)
-      go (suc r) z true o = ap (λ u. bytesOn c u rest (k + length ps)) (sym (same v (at (w .t) (sets (w .lent .file) p ps) (w .lent .claimed) c (payload (p + length ps) (suc r) e)) (o ∙ (unfold opens in refl))))
+      go : (r : ℕ) → 0 < r → (more : Bool) → continuesOrStops more v ≡ beginPayload (world (w .t) (sets (w .lent .file) p ps) (w .lent .claimed)) c (p + length ps) r e
+          → takeBytesOn c (at (w .t) (sets (w .lent .file) p ps) (w .lent .claimed) c (payload (p + length ps) r e)) rest (k + length ps) ≡ cond more (takeBytesOn c v rest (k + length ps)) (took (k + length ps), v)
+      go zero z more o = absurd (omega arith)
+      go (suc r) z true o = ap (λ u. takeBytesOn c u rest (k + length ps)) (sym (same v (at (w .t) (sets (w .lent .file) p ps) (w .lent .claimed) c (payload (p + length ps) (suc r) e)) (o ∙ (unfold beginPayload in refl))))
         where
-          same : (x y : World) → goes x ≡ goes y → x ≡ y
+          same : (x y : World) → continues x ≡ continues y → x ≡ y
           same x y q = cc
-      go (suc r) z false o = absurd (differ v (at (w .t) (sets (w .lent .file) p ps) (w .lent .claimed) c (payload (p + length ps) (suc r) e)) (o ∙ (unfold opens in refl)))
+      go (suc r) z false o = absurd (differ v (at (w .t) (sets (w .lent .file) p ps) (w .lent .claimed) c (payload (p + length ps) (suc r) e)) (o ∙ (unfold beginPayload in refl)))
         where
-          code : Took World → ℕ
-          code (goes x) = 0
+          code : Outcome World → ℕ
+          code (continues x) = 0
           code (stops x) = 1
-          code (leaves x) = 2
+          code (notTaken x) = 2
 
-          differ : (x y : World) → stops x ≡ goes y → ⊥
+          differ : (x y : World) → stops x ≡ continues y → ⊥
           differ x y q = let d : _≡_ {A = ℕ} 1 0 = ap code q in omega (arith, d)
 
   -- all of them
-  whole-run : (j : ℕ) → m ≡ suc j → (ps : List ℕ) → length ps ≡ m → (v : World) (continues : Bool) → continuesOrStops continues v ≡ opens (world (w .t) (sets (w .lent .file) p ps) (w .lent .claimed)) c (p + m) 0 e
-      → (rest : List ℕ) (k : ℕ) → bytesOn c w (ps ++ rest) k ≡ cond continues (bytesOn c v rest (k + m)) (took (k + m), v)
-  whole-run j d ps l v continues o rest k =
-      ap (λ x. bytesOn c w x k) (ap (λ x. x ++ rest) ends-with ∙ append-assoc front (b ∷ []) rest)
-      ∙ ap (λ u. bytesOn c u (front ++ (b ∷ rest)) k) in-payload
+  whole-run : (j : ℕ) → m ≡ suc j → (ps : List ℕ) → length ps ≡ m → (v : World) (more : Bool) → continuesOrStops more v ≡ beginPayload (world (w .t) (sets (w .lent .file) p ps) (w .lent .claimed)) c (p + m) 0 e
+      → (rest : List ℕ) (k : ℕ) → takeBytesOn c w (ps ++ rest) k ≡ cond more (takeBytesOn c v rest (k + m)) (took (k + m), v)
+  whole-run j d ps l v more o rest k =
+      ap (λ x. takeBytesOn c w x k) (ap (λ x. x ++ rest) ends-with ∙ append-assoc front (b ∷ []) rest)
+      ∙ ap (λ u. takeBytesOn c u (front ++ (b ∷ rest)) k) in-payload
       ∙ payload-run front (b ∷ rest) (w .t) (w .lent .file) (w .lent .claimed) c p m k e has (omega (arith, short))
-      ∙ rw (short, one-left) (go continues o)
+      ∙ rw (short, one-left) (go more o)
     where
       front : List ℕ
       front = take j ps
@@ -136,34 +136,34 @@ module _ (w : World) (f : Together w) (c : ℕ) (g : c < channelCount) (p m : �
       stored : set (sets (w .lent .file) p (take j ps)) (p + j) (getD ps j 0) ≡ sets (w .lent .file) p ps
       stored = ap (λ q. set (sets (w .lent .file) p (take j ps)) (p + q) (getD ps j 0)) (sym short) ∙ sym (sets-snoc (w .lent .file) p (take j ps) (getD ps j 0)) ∙ ap (sets (w .lent .file) p) (sym ends-with)
 
-      last : byteOf (at (w .t) (sets (w .lent .file) p (take j ps)) (w .lent .claimed) c (payload (p + j) 1 e)) c (getD ps j 0) ≡ opens (world (w .t) (sets (w .lent .file) p ps) (w .lent .claimed)) c (p + m) 0 e
+      last : takeByte (at (w .t) (sets (w .lent .file) p (take j ps)) (w .lent .claimed) c (payload (p + j) 1 e)) c (getD ps j 0) ≡ beginPayload (world (w .t) (sets (w .lent .file) p ps) (w .lent .claimed)) c (p + m) 0 e
       last =
           last-byte (sets (w .lent .file) p (take j ps)) (p + j) (getD ps j 0)
-          ∙ ap (λ x. opens (at (w .t) x (w .lent .claimed) c (payload (p + j) 1 e)) c (suc (p + j)) 0 e) stored
-          ∙ ap (λ q. opens (at (w .t) (sets (w .lent .file) p ps) (w .lent .claimed) c (payload (p + j) 1 e)) c q 0 e) next
+          ∙ ap (λ x. beginPayload (at (w .t) x (w .lent .claimed) c (payload (p + j) 1 e)) c (suc (p + j)) 0 e) stored
+          ∙ ap (λ q. beginPayload (at (w .t) (sets (w .lent .file) p ps) (w .lent .claimed) c (payload (p + j) 1 e)) c q 0 e) next
           ∙ same-opens (w .t) (sets (w .lent .file) p ps) (w .lent .claimed) c has (p + j) 1 p m e (p + m) e
-          ∙ ap (λ x. opens (world x (sets (w .lent .file) p ps) (w .lent .claimed)) c (p + m) 0 e) (ap (putState (w .t) c) (sym s) ∙ put-back w f c g)
+          ∙ ap (λ x. beginPayload (world x (sets (w .lent .file) p ps) (w .lent .claimed)) c (p + m) 0 e) (ap (putState (w .t) c) (sym s) ∙ put-back w f c g)
 
       count : suc (k + j) ≡ k + m
       count = omega (arith, d)
 
-      go : (continues : Bool) → continuesOrStops continues v ≡ opens (world (w .t) (sets (w .lent .file) p ps) (w .lent .claimed)) c (p + m) 0 e
-          → bytesOn c (at (w .t) (sets (w .lent .file) p (take j ps)) (w .lent .claimed) c (payload (p + j) 1 e)) (getD ps j 0 ∷ rest) (k + j) ≡ cond continues (bytesOn c v rest (k + m)) (took (k + m), v)
+      go : (more : Bool) → continuesOrStops more v ≡ beginPayload (world (w .t) (sets (w .lent .file) p ps) (w .lent .claimed)) c (p + m) 0 e
+          → takeBytesOn c (at (w .t) (sets (w .lent .file) p (take j ps)) (w .lent .claimed) c (payload (p + j) 1 e)) (getD ps j 0 ∷ rest) (k + j) ≡ cond more (takeBytesOn c v rest (k + m)) (took (k + m), v)
       go true o =
-          bytes-goes (λ u x. byteOf u c x) (at (w .t) (sets (w .lent .file) p (take j ps)) (w .lent .claimed) c (payload (p + j) 1 e)) v (getD ps j 0) rest (k + j) (last ∙ sym o)
-          ∙ ap (λ n. bytesOn c v rest n) count
+          bytes-goes (λ u x. takeByte u c x) (at (w .t) (sets (w .lent .file) p (take j ps)) (w .lent .claimed) c (payload (p + j) 1 e)) v (getD ps j 0) rest (k + j) (last ∙ sym o)
+          ∙ ap (λ n. takeBytesOn c v rest n) count
       go false o =
-          bytes-stops (λ u x. byteOf u c x) (at (w .t) (sets (w .lent .file) p (take j ps)) (w .lent .claimed) c (payload (p + j) 1 e)) v (getD ps j 0) rest (k + j) (last ∙ sym o)
+          bytes-stops (λ u x. takeByte u c x) (at (w .t) (sets (w .lent .file) p (take j ps)) (w .lent .claimed) c (payload (p + j) 1 e)) v (getD ps j 0) rest (k + j) (last ∙ sym o)
           ∙ ap (λ n. (took n, v)) count
 
-  pub stored-run : (ps : List ℕ) → 0 < length ps → length ps ≤ m → (v : World) (continues : Bool)
-      → continuesOrStops continues v ≡ opens (world (w .t) (sets (w .lent .file) p ps) (w .lent .claimed)) c (p + length ps) (m - length ps) e
-      → (rest : List ℕ) (k : ℕ) → bytesOn c w (ps ++ rest) k ≡ cond continues (bytesOn c v rest (k + length ps)) (took (k + length ps), v)
-  stored-run ps h l v continues o rest k = go (decLt (length ps) m)
+  pub stored-run : (ps : List ℕ) → 0 < length ps → length ps ≤ m → (v : World) (more : Bool)
+      → continuesOrStops more v ≡ beginPayload (world (w .t) (sets (w .lent .file) p ps) (w .lent .claimed)) c (p + length ps) (m - length ps) e
+      → (rest : List ℕ) (k : ℕ) → takeBytesOn c w (ps ++ rest) k ≡ cond more (takeBytesOn c v rest (k + length ps)) (took (k + length ps), v)
+  stored-run ps h l v more o rest k = go (decLt (length ps) m)
     where
-      go : Dec (length ps < m) → bytesOn c w (ps ++ rest) k ≡ cond continues (bytesOn c v rest (k + length ps)) (took (k + length ps), v)
-      go (yes q) = part-run ps q v continues o rest k
+      go : Dec (length ps < m) → takeBytesOn c w (ps ++ rest) k ≡ cond more (takeBytesOn c v rest (k + length ps)) (took (k + length ps), v)
+      go (yes q) = part-run ps q v more o rest k
       go (no q) =
           let z : m - length ps ≡ 0 = omega arith in
           let n : length ps ≡ m = omega arith in
-          rw n (whole-run (m - 1) (omega arith) ps n v continues (o ∙ rw (z, n)) rest k)
+          rw n (whole-run (m - 1) (omega arith) ps n v more (o ∙ rw (z, n)) rest k)

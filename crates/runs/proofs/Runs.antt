@@ -15,11 +15,11 @@ use Rattle.transfer.specs.declared.state.Channel.{Channel}
 use Rattle.transfer.specs.declared.state.Transfer.{Transfer}
 use Rattle.transfer.specs.Channel.{channelCount, heldLimit, header, payload, heldBytes, channelAt, stateAt, putState}
 use Rattle.transfer.specs.Transfer.{usedOf, World, world}
-use Rattle.transfer.specs.Receive.{took, opens, judges}
+use Rattle.transfer.specs.Receive.{took, beginPayload, judgeHeader}
 use Rattle.transfer.specs.Fit.{fitsLedger, fits}
-use Rattle.transfer.proofs.Lens.{Has}
-use Rattle.transfer.proofs.Stages.{Stage, resting, collecting, storing, held-within, some-left}
-use Rattle.transfer.proofs.Together.{Together, together-fit}
+use Rattle.transfer.proofs.ChannelReadBack.{Has}
+use Rattle.transfer.proofs.FitChannelKinds.{Stage, resting, collecting, storing, held-within, some-left}
+use Rattle.transfer.proofs.FitByChannel.{Together, together-fit}
 use Rattle.transfer.proofs.FitTests.{fits-together}
 use Rattle.channels.specs.HeldBytes.{withHeldBytesAt, heldBytesAt}
 use Rattle.channels.specs.NextState.{continuesOrStops}
@@ -29,7 +29,7 @@ use Rattle.channels.specs.declared.other_channels.OtherChannels.{OtherChannels}
 use Rattle.channels.specs.ChannelState.{numbers, writeBack}
 use Rattle.channels.specs.OtherChannels.{CountsOthers}
 use Rattle.channels.proofs.WriteBack.{write-back-at, write-back-count-reached}
-use Rattle.runs.specs.Runs.{TakesHeader, bytesOn, RunOf}
+use Rattle.runs.specs.Runs.{TakesHeader, takeBytesOn, RunOf}
 use Rattle.runs.proofs.StateNumbers.{in-payload, is-payload}
 use Rattle.runs.proofs.FittingChannel.{heldNow, held-length, filled-is}
 use Rattle.runs.proofs.HeaderRuns.{held-run, whole-run}
@@ -100,9 +100,9 @@ held-run-of t ledger c [] h e s z l u q file n = absurd (omega arith)
 held-run-of t ledger c (b ∷ bs) h e s z l u q file n =
     record {
       if-continues = λ o rest k.
-          ap (λ x. bytesOn c (world t file ledger) (x ++ rest) k) (take-length (b ∷ bs))
+          ap (λ x. takeBytesOn c (world t file ledger) (x ++ rest) k) (take-length (b ∷ bs))
           ∙ held-run (world t file ledger) (fits-with t file ledger n e) c h s b bs rest k l
-          ∙ ap (λ x. bytesOn c (world x file ledger) rest (k + suc (length bs))) (sym q);
+          ∙ ap (λ x. takeBytesOn c (world x file ledger) rest (k + suc (length bs))) (sym q);
       if-stops = λ o. absurd (true≢false o);
     }
 
@@ -117,12 +117,12 @@ held16-put t c x a l =
 -- 16 bytes are held, and the next makes it whole
 pub judged-run-of : (t : Transfer) (ledger ledger′ : List ℕ) (c : ℕ) (piece : List ℕ) (n : ℕ) → c < channelCount → fitsLedger t ledger ≡ true → TakesHeader (channelAt t c .state) (t .count) (usedOf t)
     → channelAt t c .held + n ≡ heldLimit → n < length piece → (u : Transfer) → u ≡ withHeldBytesAt t c (take n piece) → (whole : List ℕ) → whole ≡ heldBytesAt u c ++ getD piece n 0 ∷ []
-    → (v : Transfer) (continues : Bool) → ((file : List ℕ) → continuesOrStops continues (world v file ledger′) ≡ judges (world u file ledger) c whole)
+    → (v : Transfer) (continues : Bool) → ((file : List ℕ) → continuesOrStops continues (world v file ledger′) ≡ judgeHeader (world u file ledger) c whole)
     → (file : List ℕ) → length file ≡ t .len → RunOf c (world t file ledger) piece (world v file ledger′) (n + 1) continues
 judged-run-of t ledger ledger′ c piece n h e s l m u q whole r v continues j file i =
     record {
-      if-continues = λ o rest k. ap (λ x. bytesOn c w x k) (taken-and rest) ∙ all rest k ∙ rw (o, next k);
-      if-stops = λ o k. ap (λ x. bytesOn c w x k) (split-at piece n 0 m) ∙ all (drop (suc n) piece) k ∙ rw (o, next k);
+      if-continues = λ o rest k. ap (λ x. takeBytesOn c w x k) (taken-and rest) ∙ all rest k ∙ rw (o, next k);
+      if-stops = λ o k. ap (λ x. takeBytesOn c w x k) (split-at piece n 0 m) ∙ all (drop (suc n) piece) k ∙ rw (o, next k);
     }
   where
     w : World
@@ -150,11 +150,11 @@ judged-run-of t ledger ledger′ c piece n h e s l m u q whole r v continues j f
         ∙ held16-put t c (heldNow (world t file ledger) f c h ++ take n piece) (record { row = omega (arith, f .channels); bytes = omega (arith, f .heads) })
         (omega (arith, short, held-length (world t file ledger) f c h, length-append (heldNow (world t file ledger) f c h) (take n piece))))
 
-    judged : continuesOrStops continues (world v file ledger′) ≡ judges (world (withHeldBytesAt t c (take n piece)) file ledger) c ((heldNow (world t file ledger) f c h ++ take n piece) ++ getD piece n 0 ∷ [])
-    judged = j file ∙ ap (λ x. judges (world x file ledger) c whole) q ∙ ap (λ x. judges (world (withHeldBytesAt t c (take n piece)) file ledger) c x) head-is
+    judged : continuesOrStops continues (world v file ledger′) ≡ judgeHeader (world (withHeldBytesAt t c (take n piece)) file ledger) c ((heldNow (world t file ledger) f c h ++ take n piece) ++ getD piece n 0 ∷ [])
+    judged = j file ∙ ap (λ x. judgeHeader (world x file ledger) c whole) q ∙ ap (λ x. judgeHeader (world (withHeldBytesAt t c (take n piece)) file ledger) c x) head-is
 
-    all : (rest : List ℕ) (k : ℕ) → bytesOn c w (take n piece ++ (getD piece n 0 ∷ rest)) k
-        ≡ cond continues (bytesOn c (world v file ledger′) rest (k + suc (length (take n piece)))) (took (k + suc (length (take n piece))), world v file ledger′)
+    all : (rest : List ℕ) (k : ℕ) → takeBytesOn c w (take n piece ++ (getD piece n 0 ∷ rest)) k
+        ≡ cond continues (takeBytesOn c (world v file ledger′) rest (k + suc (length (take n piece)))) (took (k + suc (length (take n piece))), world v file ledger′)
     all = whole-run (world t file ledger) f c h s (take n piece) (getD piece n 0) (world v file ledger′) continues (omega (arith, short)) judged
 
 -- ---- a payload's bytes
@@ -163,12 +163,12 @@ pub stored-run-of : (t : Transfer) (file file′ : List ℕ) (c : ℕ) (k : Chan
     → k .next + k .left ≤ length file → n ≡ min (k .left) (length piece)
     → file′ ≡ take (k .next) file ++ (take n piece ++ drop (k .next + n) file)
     → (v : Transfer) (continues : Bool)
-    → ((f l : List ℕ) → continuesOrStops continues (world v f l) ≡ opens (world t f l) c (k .next + n) (k .left - n) (eqb (k .state) 3))
+    → ((f l : List ℕ) → continuesOrStops continues (world v f l) ≡ beginPayload (world t f l) c (k .next + n) (k .left - n) (eqb (k .state) 3))
     → (ledger : List ℕ) → fits (world t file ledger) ≡ true → RunOf c (world t file ledger) piece (world v file′ ledger) n continues
 stored-run-of t file file′ c k i piece n h z a b m q d v continues o ledger e =
     record {
       if-continues = λ x rest j. all rest j ∙ rw (x, short);
-      if-stops = λ x j. ap (λ y. bytesOn c (world t file ledger) y j) (sym (take-append-drop n piece)) ∙ all (drop n piece) j ∙ rw (x, short);
+      if-stops = λ x j. ap (λ y. takeBytesOn c (world t file ledger) y j) (sym (take-append-drop n piece)) ∙ all (drop n piece) j ∙ rw (x, short);
     }
   where
     f : Together (world t file ledger)
@@ -188,11 +188,11 @@ stored-run-of t file file′ c k i piece n h z a b m q d v continues o ledger e 
     stored : file′ ≡ sets file (k .next) (take n piece)
     stored = d ∙ sym (sets-eq (take n piece) file (k .next) (omega (arith, short, q, m)) ∙ rw short (append-assoc (take (k .next) file) (take n piece) (drop (k .next + n) file)))
 
-    opened : continuesOrStops continues (world v file′ ledger) ≡ opens (world t (sets file (k .next) (take n piece)) ledger) c (k .next + length (take n piece)) (k .left - length (take n piece)) (eqb (k .state) 3)
-    opened = rw short (o file′ ledger ∙ ap (λ x. opens (world t x ledger) c (k .next + n) (k .left - n) (eqb (k .state) 3)) stored)
+    opened : continuesOrStops continues (world v file′ ledger) ≡ beginPayload (world t (sets file (k .next) (take n piece)) ledger) c (k .next + length (take n piece)) (k .left - length (take n piece)) (eqb (k .state) 3)
+    opened = rw short (o file′ ledger ∙ ap (λ x. beginPayload (world t x ledger) c (k .next + n) (k .left - n) (eqb (k .state) 3)) stored)
 
-    all : (rest : List ℕ) (j : ℕ) → bytesOn c (world t file ledger) (take n piece ++ rest) j
-        ≡ cond continues (bytesOn c (world v file′ ledger) rest (j + length (take n piece))) (took (j + length (take n piece)), world v file′ ledger)
+    all : (rest : List ℕ) (j : ℕ) → takeBytesOn c (world t file ledger) (take n piece ++ rest) j
+        ≡ cond continues (takeBytesOn c (world v file′ ledger) rest (j + length (take n piece))) (took (j + length (take n piece)), world v file′ ledger)
     all =
         stored-run (world t file ledger) f c h (k .next) (k .left) (eqb (k .state) 3) state (take n piece) (omega (arith, short, q, left, z)) (omega (arith, short, q))
         (world v file′ ledger) continues opened

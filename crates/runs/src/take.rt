@@ -10,7 +10,7 @@ ghost use Rattle.transfer.specs.Receive.{took};
 ghost use Rattle.transfer.specs.Fit.{fits};
 ghost use Rattle.channels.specs.ChannelState.{writeBack};
 ghost use Rattle.channels.specs.OtherChannels.{CountsOthers};
-ghost use Rattle.runs.specs.Runs.{bytesOn};
+ghost use Rattle.runs.specs.Runs.{takeBytesOn};
 
 // A channel after a piece, and how many of its bytes were taken.
 pub struct CallResult {
@@ -27,7 +27,7 @@ pub fn take(
     file: &mut [u8],
     ledger: &mut [u64],
 ) -> CallResult
-    ensures { λ r. ⌜ ((t : Transfer) → CountsOthers t c o → fits (world (writeBack t c x) (now (file .entry)) (now (ledger .entry))) ≡ true → (took (r .taken), world (writeBack t c (r .channel)) (now (file .exit)) (now (ledger .exit))) ≡ bytesOn c (world (writeBack t c x) (now (file .entry)) (now (ledger .entry))) (now (piece .entry)) 0) ⌝ }
+    ensures { λ r. ⌜ ((t : Transfer) → CountsOthers t c o → fits (world (writeBack t c x) (now (file .entry)) (now (ledger .entry))) ≡ true → (took (r .taken), world (writeBack t c (r .channel)) (now (file .exit)) (now (ledger .exit))) ≡ takeBytesOn c (world (writeBack t c x) (now (file .entry)) (now (ledger .entry))) (now (piece .entry)) 0) ⌝ }
 {
     let mut y = x;
     let mut i = 0;

@@ -10,10 +10,10 @@ use lib.ListN.{length, take, drop, length-append, length-drop, take-append-drop}
 use lib.Seq.{drop-drop, take-at, drop-at, length-take-le}
 use Rattle.octets.specs.Digits.{Below, fromLittle, toLittle}
 use Rattle.octets.proofs.Digits.{length-toLittle, below-take, below-drop, little-reads-back, little-writes-back}
-use Rattle.ledger.specs.Pairs.{Pairs, none, pair, size, Ruled, endsBy, isRuled}
-use Rattle.ledger.specs.Ledger.{largest, follows, pairsOf}
-use Rattle.ledger.proofs.Opened.{lowest, lowest-follows}
-use Rattle.ledger.proofs.Flats.{flat}
+use Rattle.ledger.specs.Pairs.{Pairs, none, pair, size, Ruled, endsAtMost, isRuled}
+use Rattle.ledger.specs.Ledger.{largest, mayFollow, pairsOf}
+use Rattle.ledger.proofs.LedgerPairAt.{lowest, lowest-follows}
+use Rattle.ledger.proofs.PairsAsNumbers.{flat}
 use Rattle.savedledgers.specs.Numbers.{numbersIn, numberBytes}
 use Rattle.savedledgers.specs.Saved.{pairsIn, pairBytes}
 
@@ -23,7 +23,7 @@ use Rattle.savedledgers.specs.Saved.{pairsIn, pairBytes}
 pub isRuled-turn : (body : List ℕ) (n k end a b : ℕ) → k < n
     → a ≡ fromLittle 256 (take 8 (drop (16 * k) body)) → b ≡ fromLittle 256 (take 8 (drop (16 * k + 8) body))
     → isRuled (lowest end) (pairsIn (n - k) (drop (16 * k) body))
-    ≡ follows end a b && isRuled (suc b) (pairsIn (n - (k + 1)) (drop (16 * (k + 1)) body))
+    ≡ mayFollow end a b && isRuled (suc b) (pairsIn (n - (k + 1)) (drop (16 * (k + 1)) body))
 unfolding isRuled pairsIn
 isRuled-turn body n k end a b h e g =
     let m : n - k ≡ suc (n - (k + 1)) = omega arith in
@@ -81,11 +81,11 @@ flat-used (a ∷ b ∷ rest) = go (eqb b 0) (flat-used rest)
 eight-back : (n : ℕ) (t : List ℕ) → n < 2 ^ 64 → fromLittle 256 (take 8 (toLittle 256 8 n ++ t)) ≡ n
 eight-back n t h = rw (take-at (toLittle 256 8 n) t 8 (length-toLittle 256 8 n)) (little-reads-back 256 8 n (omega arith) h)
 
-pub pairsIn-pairBytes : (lo : ℕ) (ps : Pairs) → Ruled lo ps → endsBy largest ps ≡ true → pairsIn (size ps) (pairBytes ps) ≡ ps
-unfolding pairsIn pairBytes size endsBy
+pub pairsIn-pairBytes : (lo : ℕ) (ps : Pairs) → Ruled lo ps → endsAtMost largest ps ≡ true → pairsIn (size ps) (pairBytes ps) ≡ ps
+unfolding pairsIn pairBytes size endsAtMost
 pairsIn-pairBytes lo none c h = refl
 pairsIn-pairBytes lo (pair a b ps) c h =
-    let q = and-eq-true-iff (leb b largest) (endsBy largest ps) .0 h in
+    let q = and-eq-true-iff (leb b largest) (endsAtMost largest ps) .0 h in
     let l = leb-true b largest (q .0) in
     let n = length-toLittle 256 8 a in
     let t = toLittle 256 8 b ++ pairBytes ps in

@@ -16,10 +16,10 @@ use Rattle.octets.specs.Digits.{fromLittle}
 use Rattle.answers.specs.declared.loaded.Loaded.the-variants.{Done, Refused}
 use Rattle.answers.specs.Loaded.{loadedNumber}
 use Rattle.answers.specs.Written.{firstNumber}
-use Rattle.ledger.specs.Ledger.{lengthWrong, roomOf, lent}
-use Rattle.ledger.proofs.Flats.{lent-flat}
+use Rattle.ledger.specs.Ledger.{lengthWrong, capacity, laidOut}
+use Rattle.ledger.proofs.PairsAsNumbers.{laidOut-flat}
 use Rattle.ledger.specs.Pairs.{Ruled, isRuled}
-use Rattle.ledger.proofs.Sizes.{length-right, length-wrong}
+use Rattle.ledger.proofs.LedgerSizes.{length-right, length-wrong}
 use Rattle.ledger.proofs.IsRuled.{ruled-isRuled, isRuled-ruled}
 use Rattle.savedledgers.specs.Numbers.{numbersIn}
 use Rattle.savedledgers.specs.Saved.{pairsIn, kindOne, pairLength, frameNumber, bodyOf, savedPairs, bodyWrong, readSavedNumber, readSaved, readSavedAfter, kindOf}
@@ -34,7 +34,7 @@ module _ (bytes ledger : List ℕ) where
   reads-refused k e h = (rw (e, lt-ltb 0 k h), rw (e, lt-ltb 0 k h))
 
   pub reads-done : readSavedNumber bytes ledger ≡ 0
-      → (readSaved bytes ledger ≡ Done) × (readSavedAfter bytes ledger ≡ lent (roomOf ledger) (savedPairs bytes))
+      → (readSaved bytes ledger ≡ Done) × (readSavedAfter bytes ledger ≡ laidOut (capacity ledger) (savedPairs bytes))
   unfolding readSaved readSavedAfter
   reads-done e = (rw e, rw e)
 
@@ -60,7 +60,7 @@ module _ (bytes ledger : List ℕ) where
         number-order e = rw (lengths, frame, eq-eqb (length (bodyOf bytes) % pairLength) 0 parts, e)
 
         module _ (order : isRuled 0 (savedPairs bytes) ≡ true) where
-          only-room : readSavedNumber bytes ledger ≡ cond (ltb (roomOf ledger) (length (bodyOf bytes) / pairLength)) 64 0
+          only-room : readSavedNumber bytes ledger ≡ cond (ltb (capacity ledger) (length (bodyOf bytes) / pairLength)) 64 0
           unfolding readSavedNumber firstNumber bodyWrong
           only-room =
               rw (
@@ -71,11 +71,11 @@ module _ (bytes ledger : List ℕ) where
                 size-pairsIn (length (bodyOf bytes) / pairLength) (bodyOf bytes),
               )
 
-          pub number-room : roomOf ledger < length (bodyOf bytes) / pairLength → readSavedNumber bytes ledger ≡ 64
-          number-room h = only-room ∙ rw (lt-ltb (roomOf ledger) (length (bodyOf bytes) / pairLength) h)
+          pub number-room : capacity ledger < length (bodyOf bytes) / pairLength → readSavedNumber bytes ledger ≡ 64
+          number-room h = only-room ∙ rw (lt-ltb (capacity ledger) (length (bodyOf bytes) / pairLength) h)
 
-          pub number-none : length (bodyOf bytes) / pairLength ≤ roomOf ledger → readSavedNumber bytes ledger ≡ 0
-          number-none h = only-room ∙ rw (le-ltb (roomOf ledger) (length (bodyOf bytes) / pairLength) h)
+          pub number-none : length (bodyOf bytes) / pairLength ≤ capacity ledger → readSavedNumber bytes ledger ≡ 0
+          number-none h = only-room ∙ rw (le-ltb (capacity ledger) (length (bodyOf bytes) / pairLength) h)
 
 -- what a reader that refuses nothing has tested
 pub record Sound (bytes ledger : List ℕ) : Type 0 where
@@ -83,19 +83,19 @@ pub record Sound (bytes ledger : List ℕ) : Type 0 where
   pub frame : frameNumber kindOne bytes ≡ 0
   pub parts : length (bodyOf bytes) % pairLength ≡ 0
   pub order : isRuled 0 (savedPairs bytes) ≡ true
-  pub room : length (bodyOf bytes) / pairLength ≤ roomOf ledger
+  pub room : length (bodyOf bytes) / pairLength ≤ capacity ledger
 
 pub number-sound : (bytes ledger : List ℕ) → readSavedNumber bytes ledger ≡ 0 → Sound bytes ledger
 number-sound bytes ledger z = go (lengthWrong ledger) refl
   where
     go₄ : lengthWrong ledger ≡ false → frameNumber kindOne bytes ≡ 0 → length (bodyOf bytes) % pairLength ≡ 0 → isRuled 0 (savedPairs bytes) ≡ true
-        → Dec (length (bodyOf bytes) / pairLength ≤ roomOf ledger) → Sound bytes ledger
+        → Dec (length (bodyOf bytes) / pairLength ≤ capacity ledger) → Sound bytes ledger
     go₄ e f p o (yes r) = record { lengths = e; frame = f; parts = p; order = o; room = r }
     go₄ e f p o (no r) = absurd (omega (arith, number-room bytes ledger e f p o (omega arith)))
 
     go₃ : lengthWrong ledger ≡ false → frameNumber kindOne bytes ≡ 0 → length (bodyOf bytes) % pairLength ≡ 0
         → (t : Bool) → isRuled 0 (savedPairs bytes) ≡ t → Sound bytes ledger
-    go₃ e f p true o = go₄ e f p o (decLe (length (bodyOf bytes) / pairLength) (roomOf ledger))
+    go₃ e f p true o = go₄ e f p o (decLe (length (bodyOf bytes) / pairLength) (capacity ledger))
     go₃ e f p false o = absurd (omega (arith, number-order bytes ledger e f p o))
 
     go₂ : lengthWrong ledger ≡ false → frameNumber kindOne bytes ≡ 0 → Dec (length (bodyOf bytes) % pairLength ≡ 0) → Sound bytes ledger
@@ -113,9 +113,9 @@ number-sound bytes ledger z = go (lengthWrong ledger) refl
 -- ---- the entries
 
 -- ys and zs are the two parts of the ledger, the numbers and the zeros
-pub load-placed : (ledger body ys zs : List ℕ) (n : ℕ) → length ledger % 2 ≡ 0 → n ≤ roomOf ledger → ys ≡ numbersIn (length (midOf 0 (2 * n - 0) ledger)) body
+pub load-placed : (ledger body ys zs : List ℕ) (n : ℕ) → length ledger % 2 ≡ 0 → n ≤ capacity ledger → ys ≡ numbersIn (length (midOf 0 (2 * n - 0) ledger)) body
     → let o = putMid 0 (2 * n - 0) ledger ys in zs ≡ replicate (length (midOf (2 * n) (length o - 2 * n) o)) 0
-    → putMid (2 * n) (length o - 2 * n) o zs ≡ lent (roomOf ledger) (pairsIn n body)
+    → putMid (2 * n) (length o - 2 * n) o zs ≡ laidOut (capacity ledger) (pairsIn n body)
 load-placed ledger body ys zs n h g y w =
     let o = putMid 0 (2 * n - 0) ledger ys in
     let s : 2 * n - 0 ≡ 2 * n = sub-zero (2 * n) in
@@ -124,10 +124,10 @@ load-placed ledger body ys zs n h g y w =
     let e : ys ≡ numbersIn (2 * n) body = y ∙ ap (λ (k : ℕ). numbersIn k body) (mid-len 0 (2 * n) ledger (omega arith) ∙ s) in
     let n₁ : length ys ≡ 2 * n = ap length e ∙ length-numbersIn (2 * n) body in
     let n₂ : length t ≡ length ledger - 2 * n = length-drop (2 * n) ledger in
-    let n₃ : length o - 2 * n ≡ 2 * (roomOf ledger - n) = rw (o-is, length-append ys t) (omega arith) in
+    let n₃ : length o - 2 * n ≡ 2 * (capacity ledger - n) = rw (o-is, length-append ys t) (omega arith) in
     let z : zs ≡ replicate (length o - 2 * n) 0 = w ∙ ap (λ (k : ℕ). replicate k 0) (mid-len (2 * n) (length o) o (omega arith)) in
-    let b : length t ≤ 2 * (roomOf ledger - n) = omega arith in
-    let f = lent-flat (roomOf ledger) (pairsIn n body) (omega (arith, size-pairsIn n body)) in
+    let b : length t ≤ 2 * (capacity ledger - n) = omega arith in
+    let f = laidOut-flat (capacity ledger) (pairsIn n body) (omega (arith, size-pairsIn n body)) in
     rw (n₃, o-is, take-at ys t (2 * n) n₁, drop-at ys t (2 * n) n₁, drop-of-length-le t b, append-nil zs, z, n₃, e)
     (sym (rw (size-pairsIn n body, flat-pairsIn n body) at f))
 

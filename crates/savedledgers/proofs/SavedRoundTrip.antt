@@ -10,10 +10,10 @@ use Rattle.octets.specs.Digits.{Below, toLittle}
 use Rattle.octets.proofs.Digits.{below-drop}
 use Rattle.answers.specs.declared.loaded.Loaded.the-variants.{Done}
 use Rattle.answers.specs.declared.written.Written.the-variants.{Bytes}
-use Rattle.ledger.specs.Pairs.{Pairs, size, Ruled, endsBy, isRuled}
-use Rattle.ledger.specs.Ledger.{largest, lengthWrong, roomOf, obeys, pairsOf, lent}
-use Rattle.ledger.proofs.Lents.{length-lent, pairsOf-lent, rule-lent, rule-ruled, lent-pairsOf, size-pairsOf}
-use Rattle.ledger.proofs.Sizes.{length-right, length-fits}
+use Rattle.ledger.specs.Pairs.{Pairs, size, Ruled, endsAtMost, isRuled}
+use Rattle.ledger.specs.Ledger.{largest, lengthWrong, capacity, obeys, pairsOf, laidOut}
+use Rattle.ledger.proofs.LedgerLayout.{length-laidOut, pairsOf-laidOut, rule-laidOut, rule-ruled, laidOut-pairsOf, size-pairsOf}
+use Rattle.ledger.proofs.LedgerSizes.{length-right, length-fits}
 use Rattle.ledger.proofs.IsRuled.{ruled-isRuled, isRuled-ruled}
 use Rattle.ledger.proofs.LedgerRefusal.{refusal-none}
 use Rattle.savedledgers.specs.Saved.{kindOne, pairBytes, framed, bodyOf, frameNumber, savedPairs, readSavedNumber, readSaved, readSavedAfter, savedOf, writeSaved, writeSavedAfter}
@@ -26,14 +26,14 @@ use Rattle.savedledgers.proofs.SavedWriting.{number-0, length-savedOf, 
 
 -- ---- saved and read
 
-module _ (ps : Pairs) (ruled : Ruled 0 ps) (ends : endsBy largest ps ≡ true) where
+module _ (ps : Pairs) (ruled : Ruled 0 ps) (ends : endsAtMost largest ps ≡ true) where
   saved-pairs : savedPairs (savedOf ps) ≡ ps
   unfolding savedOf
   saved-pairs =
       let n : length (pairBytes ps) / 16 ≡ size ps = omega (arith, length-pairBytes ps) in
       rw (body-back kindOne (pairBytes ps), n) (pairsIn-pairBytes 0 ps ruled ends)
 
-  pairs-back : (m : List ℕ) → lengthWrong m ≡ false → size ps ≤ 4096 → size ps ≤ roomOf m → Reads (savedOf ps) m ps
+  pairs-back : (m : List ℕ) → lengthWrong m ≡ false → size ps ≤ 4096 → size ps ≤ capacity m → Reads (savedOf ps) m ps
   unfolding savedOf
   pairs-back m lengths few room =
       let h = savedOf ps in
@@ -43,8 +43,8 @@ module _ (ps : Pairs) (ruled : Ruled 0 ps) (ends : endsBy largest ps ≡ true) w
       let order : isRuled 0 (savedPairs h) ≡ true = rw saved-pairs (ruled-isRuled 0 ps ruled) in
       rw saved-pairs at (reads h m (number-none h m lengths frame (omega arith) order (omega arith)))
 
-module _ (l out m : List ℕ) (n : ℕ) (e : writeSaved l out ≡ Bytes n) (ends : endsBy largest (pairsOf l) ≡ true) where
-  reads-saved : lengthWrong m ≡ false → size (pairsOf l) ≤ roomOf m → Reads (take n (writeSavedAfter l out)) m (pairsOf l)
+module _ (l out m : List ℕ) (n : ℕ) (e : writeSaved l out ≡ Bytes n) (ends : endsAtMost largest (pairsOf l) ≡ true) where
+  reads-saved : lengthWrong m ≡ false → size (pairsOf l) ≤ capacity m → Reads (take n (writeSavedAfter l out)) m (pairsOf l)
   unfolding obeys
   reads-saved lengths room =
       let w = accepted l out n e in
@@ -59,7 +59,7 @@ module _ (l out m : List ℕ) (n : ℕ) (e : writeSaved l out ≡ Bytes n) (ends
       let f = length-fits l (w .lengths) in
       let lengths : lengthWrong m ≡ false = length-right m (omega (arith, f .0)) (omega (arith, f .1)) in
       let r = reads-saved lengths (omega (arith, size-pairsOf l)) in
-      (r .accepted, r .after ∙ sym (lent-pairsOf (roomOf m) 0 l (w .ruled) (omega (arith, f .0))))
+      (r .accepted, r .after ∙ sym (laidOut-pairsOf (capacity m) 0 l (w .ruled) (omega (arith, f .0))))
 
 -- ---- read and saved
 
@@ -67,9 +67,9 @@ module _ (h m : List ℕ) (bytes : Below 256 h) (sound : Sound h m) where
   read-ruled : Ruled 0 (savedPairs h)
   read-ruled = isRuled-ruled 0 (savedPairs h) (sound .order)
 
-  pairs-same : pairsOf (lent (roomOf m) (savedPairs h)) ≡ savedPairs h
+  pairs-same : pairsOf (laidOut (capacity m) (savedPairs h)) ≡ savedPairs h
   pairs-same =
-      pairsOf-lent (roomOf m) 0 (savedPairs h) read-ruled (omega (arith, sound .room, size-pairsIn (length (bodyOf h) / 16) (bodyOf h)))
+      pairsOf-laidOut (capacity m) 0 (savedPairs h) read-ruled (omega (arith, sound .room, size-pairsIn (length (bodyOf h) / 16) (bodyOf h)))
 
   bytes-same : savedOf (savedPairs h) ≡ h
   unfolding savedOf
@@ -77,13 +77,13 @@ module _ (h m : List ℕ) (bytes : Below 256 h) (sound : Sound h m) where
       let n : length (bodyOf h) ≡ 16 * (length (bodyOf h) / 16) = omega (arith, sound .parts) in
       rw (pairBytes-pairsIn (length (bodyOf h) / 16) (bodyOf h) (below-drop 256 6 h bytes) n) (framed-same kindOne h bytes (sound .frame))
 
-  rewrites : Rewrites h (lent (roomOf m) (savedPairs h))
+  rewrites : Rewrites h (laidOut (capacity m) (savedPairs h))
   unfolding obeys
   rewrites =
-      let l = lent (roomOf m) (savedPairs h) in
-      let ruled : obeys l ≡ true = rule-lent (roomOf m) 0 (savedPairs h) read-ruled in
+      let l = laidOut (capacity m) (savedPairs h) in
+      let ruled : obeys l ≡ true = rule-laidOut (capacity m) 0 (savedPairs h) read-ruled in
       let same : savedOf (pairsOf l) ≡ h = rw pairs-same bytes-same in
-      let n = length-lent (roomOf m) (savedPairs h) in
+      let n = length-laidOut (capacity m) (savedPairs h) in
       let lengths : lengthWrong l ≡ false = length-right l (omega (arith, n)) (omega (arith, n, length-fits m (sound .lengths))) in
       let size-is = sym (length-savedOf (pairsOf l)) ∙ ap length same in
       record {

@@ -13,7 +13,7 @@ use Rattle.answers.specs.declared.loaded.Loaded.{Loaded}
 use Rattle.answers.specs.declared.loaded.Loaded.the-variants.{Done, Refused}
 use Rattle.answers.specs.declared.written.Written.{Written}
 use Rattle.ledger.specs.Pairs.{Pairs, none, pair, size, isRuled}
-use Rattle.ledger.specs.Ledger.{lengthWrong, ledgerRefusal, pairsOf, lent, roomOf}
+use Rattle.ledger.specs.Ledger.{lengthWrong, ledgerRefusal, pairsOf, laidOut, capacity}
 
 -- ---- the frame, which every kind of record shares
 
@@ -73,13 +73,13 @@ readSavedNumber bytes ledger =
     cond (lengthWrong ledger) 53
     (firstNumber (frameNumber kindOne bytes)
     (cond (bodyWrong bytes) 63
-    (cond (ltb (roomOf ledger) (size (savedPairs bytes))) 64 0)))
+    (cond (ltb (capacity ledger) (size (savedPairs bytes))) 64 0)))
 
 unfoldable pub readSaved : List ℕ → List ℕ → Loaded
 readSaved bytes ledger = cond (ltb 0 (readSavedNumber bytes ledger)) (Refused (readSavedNumber bytes ledger)) Done
 
 unfoldable pub readSavedAfter : List ℕ → List ℕ → List ℕ
-readSavedAfter bytes ledger = cond (ltb 0 (readSavedNumber bytes ledger)) ledger (lent (roomOf ledger) (savedPairs bytes))
+readSavedAfter bytes ledger = cond (ltb 0 (readSavedNumber bytes ledger)) ledger (laidOut (capacity ledger) (savedPairs bytes))
 
 -- ---- the writer: 53, 1, 55; 0 where it writes
 

@@ -9,7 +9,7 @@ use Rattle.octets.specs.Digits.{fromLittle}
 use Rattle.answers.specs.Loaded.{loadedNumber}
 use Rattle.answers.specs.declared.loaded.Loaded.the-variants.{Done}
 use Rattle.ledger.specs.Pairs.{Pairs, none, pair, Ruled, isRuled}
-use Rattle.ledger.specs.Ledger.{lent, roomOf}
+use Rattle.ledger.specs.Ledger.{laidOut, capacity}
 use Rattle.savedledgers.specs.Saved.{pairsIn, savedPairs, readSaved, readSavedAfter}
 
 -- the bytes are refused with this number, and the ledger stays as it is
@@ -21,7 +21,7 @@ pub record Refuses (bytes ledger : List ℕ) (k : ℕ) : Type 0 where
 pub record Reads (bytes ledger : List ℕ) (ps : Pairs) : Type 0 where
   pub accepted : readSaved bytes ledger ≡ Done
   pub number : loadedNumber (readSaved bytes ledger) ≡ 0
-  pub after : readSavedAfter bytes ledger ≡ lent (roomOf ledger) ps
+  pub after : readSavedAfter bytes ledger ≡ laidOut (capacity ledger) ps
 
 -- the length of a ledger that is not refused
 pub record RightLength (ledger : List ℕ) : Type 0 where
@@ -53,10 +53,10 @@ pub record SavedReading (bytes ledger : List ℕ) : Type 0 where
   pub wrong-body : RightLength ledger → RightFrame bytes → IsKindOne bytes → (length (drop 6 bytes) % 16 ≡ 0 → ⊥) ⊎ (Ruled 0 (savedPairs bytes) → ⊥)
       → Refuses bytes ledger 63
   -- 64: more pairs than the ledger has
-  pub too-many-pairs : RightLength ledger → RightFrame bytes → IsKindOne bytes → RightBody bytes → roomOf ledger < length (drop 6 bytes) / 16
+  pub too-many-pairs : RightLength ledger → RightFrame bytes → IsKindOne bytes → RightBody bytes → capacity ledger < length (drop 6 bytes) / 16
       → Refuses bytes ledger 64
   -- 0
-  pub read : RightLength ledger → RightFrame bytes → IsKindOne bytes → RightBody bytes → length (drop 6 bytes) / 16 ≤ roomOf ledger
+  pub read : RightLength ledger → RightFrame bytes → IsKindOne bytes → RightBody bytes → length (drop 6 bytes) / 16 ≤ capacity ledger
       → Reads bytes ledger (savedPairs bytes)
 
 -- the pairs that bytes say: from the seventh on, each as two numbers of eight bytes, least significant first

@@ -7,8 +7,8 @@ use lib.ListN.{length, take, drop}
 use Rattle.octets.specs.Digits.{Below}
 use Rattle.answers.specs.declared.loaded.Loaded.the-variants.{Done}
 use Rattle.answers.specs.declared.written.Written.the-variants.{Bytes}
-use Rattle.ledger.specs.Pairs.{none, pair, size, endsBy}
-use Rattle.ledger.specs.Ledger.{lengthWrong, roomOf, obeys, pairsOf}
+use Rattle.ledger.specs.Pairs.{none, pair, size, endsAtMost}
+use Rattle.ledger.specs.Ledger.{lengthWrong, capacity, obeys, pairsOf}
 use Rattle.savedledgers.specs.Saved.{readSavedNumber, readSaved, readSavedAfter, savedOf, writeSaved, writeSavedAfter}
 use Rattle.savedledgers.specs.SavedReading.{Reads}
 
@@ -20,10 +20,10 @@ pub record Rewrites (h l : List ℕ) : Type 0 where
 
 pub record SavedRoundTrip : Type 0 where
   -- the n bytes that the writer says it wrote are read into any ledger m that has room for the pairs of l, whatever m holds
-  pub reads-what-was-saved : (l out m : List ℕ) (n : ℕ) → writeSaved l out ≡ Bytes n → endsBy 18446744073709551615 (pairsOf l) ≡ true
-      → lengthWrong m ≡ false → size (pairsOf l) ≤ roomOf m → Reads (take n (writeSavedAfter l out)) m (pairsOf l)
+  pub reads-what-was-saved : (l out m : List ℕ) (n : ℕ) → writeSaved l out ≡ Bytes n → endsAtMost 18446744073709551615 (pairsOf l) ≡ true
+      → lengthWrong m ≡ false → size (pairsOf l) ≤ capacity m → Reads (take n (writeSavedAfter l out)) m (pairsOf l)
   -- and into one of its own length as l again
-  pub reads-the-same : (l out m : List ℕ) (n : ℕ) → writeSaved l out ≡ Bytes n → endsBy 18446744073709551615 (pairsOf l) ≡ true
+  pub reads-the-same : (l out m : List ℕ) (n : ℕ) → writeSaved l out ≡ Bytes n → endsAtMost 18446744073709551615 (pairsOf l) ≡ true
       → length m ≡ length l → (readSaved (take n (writeSavedAfter l out)) m ≡ Done) × (readSavedAfter (take n (writeSavedAfter l out)) m ≡ l)
   -- whatever bytes are read, the ledger read from them obeys its rule and is written as these bytes again
   pub writes-what-was-read : (h m : List ℕ) → Below 256 h → readSavedNumber h m ≡ 0 → Rewrites h (readSavedAfter h m)

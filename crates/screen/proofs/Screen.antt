@@ -13,12 +13,12 @@ use Rattle.octets.specs.Decimal.{decimal}
 use Rattle.octets.proofs.Decimals.{length-decimal, width-20}
 use Rattle.answers.specs.Written.{roomNumber}
 use Rattle.answers.proofs.WritesAt.{sets-append}
-use Rattle.ledger.specs.Pairs.{Pairs, none, pair, total, Ruled, endsBy}
+use Rattle.ledger.specs.Pairs.{Pairs, none, pair, total, Ruled, endsAtMost}
 use Rattle.ledger.specs.Ledger.{largest, pairsOf}
 use Rattle.transfer.specs.declared.state.Transfer.{Transfer}
 use Rattle.transfer.specs.Transfer.{endedOf, world, verdictOf, storedOf}
 use Rattle.transfer.specs.Fit.{fitsLedger}
-use Rattle.transfer.proofs.Together.{ruled}
+use Rattle.transfer.proofs.FitByChannel.{ruled}
 use Rattle.verdicts.specs.declared.verdict.Verdict.{Verdict as Shown}
 use Rattle.verdicts.specs.declared.verdict.Verdict.the-variants.{Guess, Result, Broken}
 use Rattle.verdicts.specs.Verdict.{verdictIs}
@@ -118,11 +118,11 @@ said v n t ledger e k c d m b = rw (e, k, c, d, m, b)
 -- ---- stored bytes
 
 -- pairs by the rule with no end above f hold no more than f places
-total-le : (f lo : ℕ) (ps : Pairs) → Ruled lo ps → endsBy f ps ≡ true → total ps ≤ f - lo
-unfolding total endsBy
+total-le : (f lo : ℕ) (ps : Pairs) → Ruled lo ps → endsAtMost f ps ≡ true → total ps ≤ f - lo
+unfolding total endsAtMost
 total-le f lo none c h = omega arith
 total-le f lo (pair a b ps) c h =
-    let q = and-eq-true-iff (leb b f) (endsBy f ps) .0 h in
+    let q = and-eq-true-iff (leb b f) (endsAtMost f ps) .0 h in
     omega (arith, total-le f (suc b) ps (c .2) (q .1), leb-true b f (q .0), c .0, c .1)
 
 pub stored-whole : (t : Transfer) (file ledger : List ℕ) → t .len ≤ largest → fitsLedger t ledger ≡ true → storedCut t ledger ≡ storedOf (world t file ledger)

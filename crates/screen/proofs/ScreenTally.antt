@@ -13,9 +13,9 @@ use Rattle.transfer.specs.Fit.{fitsLedger}
 use Rattle.transfer.specs.Calls.{Call, after}
 use Rattle.transfer.specs.Tally.{verdict}
 use Rattle.transfer.specs.AfterList.{Begun, tallyOf, AfterList}
-use Rattle.transfer.proofs.Runs.{verdict-is}
-use Rattle.transfer.proofs.Along.{along, world-along}
-use Rattle.transfer.proofs.AfterLists.{every-list}
+use Rattle.transfer.proofs.TallyCalls.{verdict-is}
+use Rattle.transfer.proofs.TallyFromStart.{along, world-along}
+use Rattle.transfer.proofs.AfterList.{every-list}
 use Rattle.receiver.specs.Stored.{storedCut}
 use Rattle.runs.proofs.CallRuns.{fits-parts}
 use Rattle.screen.specs.Screen.{lineOf, lineFor, screenNumber, screenOf, screenAfter}

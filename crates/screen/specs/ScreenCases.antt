@@ -5,7 +5,7 @@ use mathlib.Core.List.{List, [], _∷_, _++_}
 use lib.ListN.{length, replicate}
 use Rattle.octets.specs.Cases.{AllHold}
 use Rattle.answers.specs.declared.written.Written.the-variants.{Bytes, Refused}
-use Rattle.eblock.specs.Header.{bytesOf}
+use Rattle.eblock.specs.Header.{headerBytes}
 use Rattle.transfer.specs.Calls.{Call, receive, begun, after}
 use Rattle.transfer.specs.Example.{first, second, third}
 use Rattle.screen.specs.Screen.{lineOf, screenOf, screenAfter}
@@ -55,9 +55,9 @@ cases =
     ∷ record { calls = first ∷ second ∷ []; line = secondLine }
     ∷ record { calls = first ∷ second ∷ third ∷ []; line = thirdLine }
     -- bytes 3 and 4 asked for on channel 1, of which 3 is claimed
-    ∷ record { calls = first ∷ receive 1 (bytesOf 0 2 3) ∷ []; line = brokenLine }
+    ∷ record { calls = first ∷ receive 1 (headerBytes 0 2 3) ∷ []; line = brokenLine }
     -- a count known, and two bytes of a payload of four
-    ∷ record { calls = receive 0 (bytesOf 64 0 2) ∷ receive 1 (bytesOf 0 4 0 ++ (112 ∷ 108 ∷ [])) ∷ []; line = underWayLine }
+    ∷ record { calls = receive 0 (headerBytes 64 0 2) ∷ receive 1 (headerBytes 0 4 0 ++ (112 ∷ 108 ∷ [])) ∷ []; line = underWayLine }
     ∷ []
 
 abbrev pub ScreenCases : Type 0

@@ -9,28 +9,28 @@ use borrow.Author.Tests.{ne-eqb}
 use lib.Dec.{ltb}
 use lib.ListN.{getD, set}
 use Rattle.ledger.specs.Pairs.{Pairs, Ruled}
-use Rattle.ledger.specs.Ledger.{pairsOf, lent}
+use Rattle.ledger.specs.Ledger.{pairsOf, laidOut}
 use Rattle.eblock.specs.Header.{secondOf}
 use Rattle.transfer.specs.declared.state.Channel.{Channel}
 use Rattle.transfer.specs.declared.state.Transfer.{Transfer}
 use Rattle.transfer.specs.Channel.{blank, unused, header, payload, ended, channelAt, readState, stateAt, putState, putFault, putCount}
-use Rattle.transfer.specs.Transfer.{sum, oneIfAlive, endedOf, usedOf, World, world, withTransfer}
-use Rattle.transfer.specs.Header.{isCount, endsChannel, payloadLength, Asks, counts, claims, nothing, faulty, claimFault}
-use Rattle.transfer.specs.Judgement.{Asked, for-count, for-claim, Union, Claim}
-use Rattle.transfer.specs.Receive.{goes, stops, leaves, faults, ends, opens, claimsRange, heeds, stores, byteOf}
+use Rattle.transfer.specs.Transfer.{sum, oneIfActive, endedOf, usedOf, World, world, withTransfer}
+use Rattle.transfer.specs.Header.{isCount, endsChannel, payloadLength, HeaderRequest, counts, claims, nothing, faulty, claimFault}
+use Rattle.transfer.specs.Judgement.{HeaderAsks, for-count, for-claim, Union, ClaimJudged}
+use Rattle.transfer.specs.Receive.{continues, stops, notTaken, stopWithFault, endChannel, beginPayload, claimRange, applyHeader, storePayloadByte, takeByte}
 use Rattle.transfer.specs.ByteRows.{Seventeenth, ByteRows}
-use Rattle.transfer.proofs.Asked.{asked-only}
-use Rattle.transfer.proofs.Judged.{union-is, claim-only}
-use Rattle.transfer.proofs.Bytes.{byte-unused, byte-held, byte-judged, byte-payload, byte-ended, claim-faulty, claim-opens, ends-channel, ends-20}
+use Rattle.transfer.proofs.JudgementByTransfer.{asked-only}
+use Rattle.transfer.proofs.Judgement.{union-is, claim-only}
+use Rattle.transfer.proofs.ReceiveBytes.{byte-unused, byte-held, byte-judged, byte-payload, byte-ended, claim-faulty, claim-opens, ends-channel, ends-20}
 
 first-held : (w : World) (c b : ℕ) → stateAt (w .t) c ≡ unused → (w .t .count ≡ 0) ⊎ (usedOf (w .t) ≢ w .t .count)
-    → byteOf w c b ≡ goes (withTransfer w (putState (w .t) c (header (b ∷ []))))
+    → takeByte w c b ≡ continues (withTransfer w (putState (w .t) c (header (b ∷ []))))
 first-held w c b s (inl z) = byte-unused w c b s ∙ rw z
 first-held w c b s (inr n) = byte-unused w c b s ∙ rw (ne-eqb (usedOf (w .t)) (w .t .count) n, and-false (ltb 0 (w .t .count)))
 
 -- ---- a channel in a header is used and has not ended
 
-alive-at : (ks : List Channel) (c : ℕ) → getD ks c blank .state ≡ 1 → 0 < sum oneIfAlive ks
+alive-at : (ks : List Channel) (c : ℕ) → getD ks c blank .state ≡ 1 → 0 < sum oneIfActive ks
 unfolding sum
 alive-at [] c e = absurd (omega arith)
 alive-at (k ∷ ks) zero e = rw e (omega arith)
@@ -49,54 +49,54 @@ header-alive t c h s = omega (arith, alive-at (t .channels) c (go (channelAt t c
 
 -- ---- a 17th byte
 
-range-asked : (F known used : ℕ) (h : List ℕ) (s e : ℕ) → Asked F known used h (claims s e) → (isCount h ≡ false) × (0 < secondOf h) × (s < e)
+range-asked : (F known used : ℕ) (h : List ℕ) (s e : ℕ) → HeaderAsks F known used h (claims s e) → (isCount h ≡ false) × (0 < secondOf h) × (s < e)
 range-asked F known used h _ _ (for-claim d q l f) = (q, l, omega arith)
 
 module _ (w : World) (c b : ℕ) (h : List ℕ) where
   abbrev whole : List ℕ
   whole = h ++ (b ∷ [])
 
-  heeded : (a : Asks) → Seventeenth w c b h a → byteOf w c b ≡ heeds w c whole a
-  heeded a s = byte-judged w c b h (s .in-header) (omega (arith, s .sixteen)) ∙ ap (heeds w c whole) (sym (asked-only (w .t .len) (w .t .count) (usedOf (w .t)) whole a (s .asks)))
+  heeded : (a : HeaderRequest) → Seventeenth w c b h a → takeByte w c b ≡ applyHeader w c whole a
+  heeded a s = byte-judged w c b h (s .in-header) (omega (arith, s .sixteen)) ∙ ap (applyHeader w c whole) (sym (asked-only (w .t .len) (w .t .count) (usedOf (w .t)) whole a (s .asks)))
 
-  header-fault : (k : ℕ) → Seventeenth w c b h (faulty k) → byteOf w c b ≡ stops (withTransfer w (putFault (putState (w .t) c (header [])) k c))
-  unfolding heeds faults
+  header-fault : (k : ℕ) → Seventeenth w c b h (faulty k) → takeByte w c b ≡ stops (withTransfer w (putFault (putState (w .t) c (header [])) k c))
+  unfolding applyHeader stopWithFault
   header-fault k s = heeded (faulty k) s
 
-  count-goes : (n : ℕ) → Seventeenth w c b h (counts n) → endsChannel whole ≡ false → byteOf w c b ≡ goes (withTransfer w (putState (putCount (w .t) n) c (header [])))
-  unfolding heeds opens
+  count-goes : (n : ℕ) → Seventeenth w c b h (counts n) → endsChannel whole ≡ false → takeByte w c b ≡ continues (withTransfer w (putState (putCount (w .t) n) c (header [])))
+  unfolding applyHeader beginPayload
   count-goes n s z = heeded (counts n) s ∙ rw z
 
   -- n is no less than the channels used, so fewer than n have ended
-  count-ends : (n : ℕ) → Seventeenth w c b h (counts n) → endsChannel whole ≡ true → byteOf w c b ≡ stops (withTransfer w (putState (putCount (w .t) n) c ended))
-  unfolding heeds opens
+  count-ends : (n : ℕ) → Seventeenth w c b h (counts n) → endsChannel whole ≡ true → takeByte w c b ≡ stops (withTransfer w (putState (putCount (w .t) n) c ended))
+  unfolding applyHeader beginPayload
   count-ends n s z =
       heeded (counts n) s ∙ rw z (ends-channel (withTransfer w (putCount (w .t) n)) c (inr (unfold putCount endedOf in λ e. omega (arith, e, few n (s .asks), header-alive (w .t) c h (s .in-header)))))
     where
-      few : (n : ℕ) → Asked (w .t .len) (w .t .count) (usedOf (w .t)) whole (counts n) → usedOf (w .t) ≤ n
+      few : (n : ℕ) → HeaderAsks (w .t .len) (w .t .count) (usedOf (w .t)) whole (counts n) → usedOf (w .t) ≤ n
       few _ (for-count d q k n₀ n₁ n₂) = n₂
 
-  empty-goes : Seventeenth w c b h nothing → endsChannel whole ≡ false → byteOf w c b ≡ goes (withTransfer w (putState (w .t) c (header [])))
-  unfolding heeds opens
+  empty-goes : Seventeenth w c b h nothing → endsChannel whole ≡ false → takeByte w c b ≡ continues (withTransfer w (putState (w .t) c (header [])))
+  unfolding applyHeader beginPayload
   empty-goes s z = heeded nothing s ∙ rw z
 
-  empty-last : Seventeenth w c b h nothing → endsChannel whole ≡ true → byteOf w c b ≡ ends w c
-  unfolding heeds opens
+  empty-last : Seventeenth w c b h nothing → endsChannel whole ≡ true → takeByte w c b ≡ endChannel w c
+  unfolding applyHeader beginPayload
   empty-last s z = heeded nothing s ∙ rw z
 
   module _ (s e : ℕ) (r : Ruled 0 (pairsOf (w .lent .claimed))) where
-    judged : Seventeenth w c b h (claims s e) → (k : ℕ) → Claim (w .t .pairs) (pairsOf (w .lent .claimed)) s e k → claimFault (w .t .pairs) (pairsOf (w .lent .claimed)) s e ≡ k
+    judged : Seventeenth w c b h (claims s e) → (k : ℕ) → ClaimJudged (w .t .pairs) (pairsOf (w .lent .claimed)) s e k → claimFault (w .t .pairs) (pairsOf (w .lent .claimed)) s e ≡ k
     judged x k j = sym (claim-only (w .t .pairs) (pairsOf (w .lent .claimed)) s e (range-asked (w .t .len) (w .t .count) (usedOf (w .t)) whole s e (x .asks) .2) r k j)
 
-    claim-fault : (k : ℕ) → Seventeenth w c b h (claims s e) → Claim (w .t .pairs) (pairsOf (w .lent .claimed)) s e k → 0 < k
-        → byteOf w c b ≡ stops (withTransfer w (putFault (putState (w .t) c (header [])) k c))
-    unfolding faults
+    claim-fault : (k : ℕ) → Seventeenth w c b h (claims s e) → ClaimJudged (w .t .pairs) (pairsOf (w .lent .claimed)) s e k → 0 < k
+        → takeByte w c b ≡ stops (withTransfer w (putFault (putState (w .t) c (header [])) k c))
+    unfolding stopWithFault
     claim-fault zero x j p = absurd (omega arith)
     claim-fault (suc k) x j p = heeded (claims s e) x ∙ claim-faulty w c whole s e k (judged x (suc k) j)
 
-    claimed : (m : Pairs) → Seventeenth w c b h (claims s e) → Claim (w .t .pairs) (pairsOf (w .lent .claimed)) s e 0 → Union s e (pairsOf (w .lent .claimed)) m
-        → byteOf w c b ≡ goes (world (putState (w .t) c (payload s (secondOf whole) (endsChannel whole))) (w .lent .file) (lent (w .t .pairs) m))
-    unfolding opens claimsRange payloadLength
+    claimed : (m : Pairs) → Seventeenth w c b h (claims s e) → ClaimJudged (w .t .pairs) (pairsOf (w .lent .claimed)) s e 0 → Union s e (pairsOf (w .lent .claimed)) m
+        → takeByte w c b ≡ continues (world (putState (w .t) c (payload s (secondOf whole) (endsChannel whole))) (w .lent .file) (laidOut (w .t .pairs) m))
+    unfolding beginPayload claimRange payloadLength
     claimed m x j u =
         heeded (claims s e) x ∙ claim-opens w c whole s e (judged x 0 j) ∙ begins (secondOf whole) refl
       where
@@ -104,8 +104,8 @@ module _ (w : World) (c b : ℕ) (h : List ℕ) where
         a = range-asked (w .t .len) (w .t .count) (usedOf (w .t)) whole s e (x .asks)
 
         begins : (n : ℕ) → secondOf whole ≡ n
-            → opens (claimsRange w s e) c s (payloadLength whole) (endsChannel whole)
-            ≡ goes (world (putState (w .t) c (payload s n (endsChannel whole))) (w .lent .file) (lent (w .t .pairs) m))
+            → beginPayload (claimRange w s e) c s (payloadLength whole) (endsChannel whole)
+            ≡ continues (world (putState (w .t) c (payload s n (endsChannel whole))) (w .lent .file) (laidOut (w .t .pairs) m))
         begins zero y = absurd (omega (arith, a .1))
         begins (suc n) y = rw (a .0, y, union-is (w .t .pairs) (pairsOf (w .lent .claimed)) s e (a .2) r m u)
 
@@ -115,20 +115,20 @@ module _ (w : World) (c b p : ℕ) where
   abbrev pub with-byte : World
   with-byte = world (w .t) (set (w .lent .file) p b) (w .lent .claimed)
 
-  stored : (n : ℕ) (e : Bool) → stateAt (w .t) c ≡ payload p (suc (suc n)) e → byteOf w c b ≡ goes (withTransfer with-byte (putState (w .t) c (payload (suc p) (suc n) e)))
-  unfolding stores opens
+  stored : (n : ℕ) (e : Bool) → stateAt (w .t) c ≡ payload p (suc (suc n)) e → takeByte w c b ≡ continues (withTransfer with-byte (putState (w .t) c (payload (suc p) (suc n) e)))
+  unfolding storePayloadByte beginPayload
   stored n e s = byte-payload w c b p (suc (suc n)) e s
 
-  none-left : (e : Bool) → stateAt (w .t) c ≡ payload p 0 e → byteOf w c b ≡ leaves w
-  unfolding stores
+  none-left : (e : Bool) → stateAt (w .t) c ≡ payload p 0 e → takeByte w c b ≡ notTaken w
+  unfolding storePayloadByte
   none-left e s = byte-payload w c b p 0 e s
 
-  last-stored : stateAt (w .t) c ≡ payload p 1 false → byteOf w c b ≡ goes (withTransfer with-byte (putState (w .t) c (header [])))
-  unfolding stores opens
+  last-stored : stateAt (w .t) c ≡ payload p 1 false → takeByte w c b ≡ continues (withTransfer with-byte (putState (w .t) c (header [])))
+  unfolding storePayloadByte beginPayload
   last-stored s = byte-payload w c b p 1 false s
 
-  pub last-byte : stateAt (w .t) c ≡ payload p 1 true → byteOf w c b ≡ ends with-byte c
-  unfolding stores opens
+  pub last-byte : stateAt (w .t) c ≡ payload p 1 true → takeByte w c b ≡ endChannel with-byte c
+  unfolding storePayloadByte beginPayload
   last-byte s = byte-payload w c b p 1 true s
 
 pub byte-rows : ByteRows

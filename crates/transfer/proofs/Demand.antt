@@ -5,18 +5,18 @@ use Rattle.transfer.specs.Calls.{begun}
 use Rattle.transfer.specs.Demand.{Demand3}
 use Rattle.ledger.specs.Pairs.{none}
 use lib.ListN.{replicate}
-use Rattle.transfer.proofs.Starts.{start}
-use Rattle.transfer.proofs.Judged.{judgement}
+use Rattle.transfer.proofs.Start.{start}
+use Rattle.transfer.proofs.Judgement.{judgement}
 use Rattle.transfer.proofs.Cutting.{cutting}
-use Rattle.transfer.proofs.Fitted.{fitting}
-use Rattle.transfer.proofs.Rowed.{rows}
+use Rattle.transfer.proofs.Fitting.{fitting}
+use Rattle.transfer.proofs.Rows.{rows}
 use Rattle.transfer.proofs.ByteRows.{byte-rows}
-use Rattle.transfer.proofs.EachCalls.{each-call}
-use Rattle.transfer.proofs.AfterLists.{every-list}
-use Rattle.transfer.proofs.Offered.{has-arrival}
-use Rattle.transfer.proofs.Arriving.{arrives}
-use Rattle.transfer.proofs.NoneLeftOut.{only-well-formed}
-use Rattle.transfer.proofs.Examples.{well-formed, arrival, begins}
+use Rattle.transfer.proofs.EachCall.{each-call}
+use Rattle.transfer.proofs.AfterList.{every-list}
+use Rattle.transfer.proofs.SendingPieces.{has-arrival}
+use Rattle.transfer.proofs.ArrivalWhole.{arrives}
+use Rattle.transfer.proofs.ArrivalOnlyWellFormed.{only-well-formed}
+use Rattle.transfer.proofs.Example.{well-formed, arrival, begins}
 
 pub every-arrival : EveryArrival
 every-arrival = record { arrives = arrives; has-arrival = has-arrival; only-well-formed = only-well-formed }

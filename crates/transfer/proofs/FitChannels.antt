@@ -12,12 +12,12 @@ use lib.ListN.{length, getD, take, drop, length-take, List·getD-eq-default}
 use lib.Seq.{getD-take, getD-drop, drop-drop}
 use Rattle.ledger.specs.Pairs.{Pairs, inside}
 use Rattle.ledger.specs.Ledger.{zeros}
-use Rattle.ledger.proofs.Rules.{zeros-at, at-zeros}
+use Rattle.ledger.proofs.LedgerRule.{zeros-at, at-zeros}
 use Rattle.transfer.specs.declared.state.Channel.{Channel}
 use Rattle.transfer.specs.Channel.{heldLimit, blank}
 use Rattle.transfer.specs.Fit.{idle, heldFits, restFits, channelFits, channelsFit}
 use Rattle.transfer.specs.Fitting.{InPayload}
-use Rattle.transfer.proofs.Stages.{Stage, some-left, resting, collecting, storing}
+use Rattle.transfer.proofs.FitChannelKinds.{Stage, some-left, resting, collecting, storing}
 
 pub both : (a b : Bool) → (a && b) ≡ true → (a ≡ true) × (b ≡ true)
 both a b h = and-eq-true-iff a b .0 h

@@ -9,25 +9,25 @@ use native.Mathlib.Decide.{decLt}
 use borrow.Author.Tests.{ltb-true, ltb-false, eqb-false, ne-eqb}
 use lib.Dec.{ltb, eqb}
 use lib.ListN.{length, set, take, drop, length-take, length-append}
-use Rattle.ledger.specs.Pairs.{hit, holds}
+use Rattle.ledger.specs.Pairs.{inRange, contains}
 use Rattle.ledger.specs.Ledger.{pairsOf}
-use Rattle.ledger.proofs.Places.{hit-part}
-use Rattle.ledger.proofs.Shared.{shares-none}
+use Rattle.ledger.proofs.PairsPlaces.{inRange-part}
+use Rattle.ledger.proofs.PairsOverlap.{shares-none}
 use Rattle.eblock.specs.Header.{secondOf, thirdOf}
 use Rattle.transfer.specs.declared.state.Channel.{Channel}
 use Rattle.transfer.specs.Channel.{channelCount, heldLimit, State, unused, header, payload, ended, nextNumber, leftNumber, readState, stateAt, channelAt, putState, putFault, putCount}
 use Rattle.transfer.specs.Transfer.{sum, usedOf, World, world, withTransfer, isFinal}
-use Rattle.transfer.specs.Header.{endsChannel, payloadLength, Asks, counts, claims, nothing, faulty, askedOf, claimFault}
-use Rattle.transfer.specs.Judgement.{Asked, for-count, for-nothing, for-claim}
-use Rattle.transfer.specs.Receive.{goes, stops, leaves, leftBy, faults, ends, opens, claimsRange, heeds, stores, byteOf}
-use Rattle.transfer.proofs.Shapes.{hit-nothing}
-use Rattle.transfer.proofs.Asked.{Numbered, asked, in-range}
-use Rattle.transfer.proofs.Judged.{claim-numbered, claim-accepted}
-use Rattle.transfer.proofs.Bytes.{byte-unused, byte-held, byte-judged, byte-payload, byte-ended, claim-faulty, claim-opens}
-use Rattle.transfer.proofs.Stages.{waits, held-within}
-use Rattle.transfer.proofs.Together.{CountSays, Together, ruled}
+use Rattle.transfer.specs.Header.{endsChannel, payloadLength, HeaderRequest, counts, claims, nothing, faulty, requestOf, claimFault}
+use Rattle.transfer.specs.Judgement.{HeaderAsks, for-count, for-nothing, for-claim}
+use Rattle.transfer.specs.Receive.{continues, stops, notTaken, afterByte, stopWithFault, endChannel, beginPayload, claimRange, applyHeader, storePayloadByte, takeByte}
+use Rattle.transfer.proofs.ChannelBytes.{inRange-nothing}
+use Rattle.transfer.proofs.JudgementByTransfer.{Numbered, asked, in-range}
+use Rattle.transfer.proofs.Judgement.{claim-numbered, claim-accepted}
+use Rattle.transfer.proofs.ReceiveBytes.{byte-unused, byte-held, byte-judged, byte-payload, byte-ended, claim-faulty, claim-opens}
+use Rattle.transfer.proofs.FitChannelKinds.{waits, held-within}
+use Rattle.transfer.proofs.FitByChannel.{CountSays, Together, ruled}
 use Rattle.transfer.proofs.FitUsed.{oneIfUsed}
-use Rattle.transfer.proofs.Steady.{Steady}
+use Rattle.transfer.proofs.FitStates.{Steady}
 use Rattle.transfer.proofs.FitPuts.{Room, put-keeps, fault-keeps, count-keeps, store-keeps, claimed-holds, claim-keeps}
 
 module _ (c : ℕ) (h : c < channelCount) where
@@ -45,42 +45,42 @@ module _ (c : ℕ) (h : c < channelCount) where
 
   -- a state without a payload
   clear-keeps : (w : World) → Together w → (x : State) → Steady x → leftNumber x ≡ 0 → Room w c → Together (withTransfer w (putState (w .t) c x))
-  clear-keeps w f x s e r = put-keeps w f c h x s r (λ p. omega (arith, f .rests p, hit-nothing (nextNumber x) (nextNumber x + leftNumber x) p (omega arith)))
+  clear-keeps w f x s e r = put-keeps w f c h x s r (λ p. omega (arith, f .rests p, inRange-nothing (nextNumber x) (nextNumber x + leftNumber x) p (omega arith)))
 
-  faults-keep : (w : World) → Together w → InUse w → (k : ℕ) → 11 ≤ k → k ≤ 20 → Together (leftBy (faults w c k))
-  unfolding faults
+  faults-keep : (w : World) → Together w → InUse w → (k : ℕ) → 11 ≤ k → k ≤ 20 → Together (afterByte (stopWithFault w c k))
+  unfolding stopWithFault
   faults-keep w f u k a b = fault-keeps (withTransfer w (putState (w .t) c (header []))) (clear-keeps w f (header []) (omega arith) (unfold leftNumber in refl) (in-use-room w f u)) c h k a b
 
-  ends-keep : (w : World) → Together w → InUse w → Together (leftBy (ends w c))
-  unfolding ends
+  ends-keep : (w : World) → Together w → InUse w → Together (afterByte (endChannel w c))
+  unfolding endChannel
   ends-keep w f u = go (isFinal (w .t))
     where
-      go : (b : Bool) → Together (leftBy (cond b (faults w c 20) (stops (withTransfer w (putState (w .t) c ended)))))
+      go : (b : Bool) → Together (afterByte (cond b (stopWithFault w c 20) (stops (withTransfer w (putState (w .t) c ended)))))
       go true = faults-keep w f u 20 (omega arith) (omega arith)
       go false = clear-keeps w f ended tt (unfold leftNumber in refl) (in-use-room w f u)
 
   opens-keep : (w : World) → Together w → InUse w → (p n : ℕ) (e : Bool)
-      → ((q : ℕ) → sum (waits q) (w .t .channels) + hit p (p + n) q ≤ holds q (pairsOf (w .lent .claimed)) + waits q (channelAt (w .t) c)) → Together (leftBy (opens w c p n e))
-  unfolding opens
+      → ((q : ℕ) → sum (waits q) (w .t .channels) + inRange p (p + n) q ≤ contains q (pairsOf (w .lent .claimed)) + waits q (channelAt (w .t) c)) → Together (afterByte (beginPayload w c p n e))
+  unfolding beginPayload
   opens-keep w f u p zero true r = ends-keep w f u
   opens-keep w f u p zero false r = clear-keeps w f (header []) (omega arith) (unfold leftNumber in refl) (in-use-room w f u)
   opens-keep w f u p (suc n) e r = put-keeps w f c h (payload p (suc n) e) (omega arith) (in-use-room w f u) (unfold nextNumber leftNumber in r)
 
-  opens-empty-keeps : (w : World) → Together w → InUse w → (e : Bool) → Together (leftBy (opens w c 0 0 e))
-  opens-empty-keeps w f u e = opens-keep w f u 0 0 e (λ q. omega (arith, f .rests q, hit-nothing 0 (0 + 0) q (omega arith)))
+  opens-empty-keeps : (w : World) → Together w → InUse w → (e : Bool) → Together (afterByte (beginPayload w c 0 0 e))
+  opens-empty-keeps w f u e = opens-keep w f u 0 0 e (λ q. omega (arith, f .rests q, inRange-nothing 0 (0 + 0) q (omega arith)))
 
   -- ---- a header's 17th byte
 
   claimed-keeps : (w : World) → Together w → InUse w → (s n : ℕ) (e : Bool) → 0 < n → s + n ≤ w .t .len → claimFault (w .t .pairs) (pairsOf (w .lent .claimed)) s (s + n) ≡ 0
-      → Together (leftBy (opens (claimsRange w s (s + n)) c s n e))
-  unfolding claimsRange
+      → Together (afterByte (beginPayload (claimRange w s (s + n)) c s n e))
+  unfolding claimRange
   claimed-keeps w f u s n e g l z =
       let ok = claim-accepted (w .t .pairs) (pairsOf (w .lent .claimed)) s (s + n) (omega arith) (ruled w (f .rule)) z in
-      opens-keep (claimsRange w s (s + n)) (claim-keeps w f s (s + n) (omega arith) (ok .1) l) u s n e
+      opens-keep (claimRange w s (s + n)) (claim-keeps w f s (s + n) (omega arith) (ok .1) l) u s n e
       (λ p. omega (arith, f .rests p, claimed-holds w f s (s + n) (omega arith) (ok .1) p, shares-none s (s + n) p (pairsOf (w .lent .claimed)) (ok .0)))
 
-  heeds-keep : (w : World) → Together w → InUse w → (r : List ℕ) (a : Asks) → Asked (w .t .len) (w .t .count) (usedOf (w .t)) r a → Together (leftBy (heeds w c r a))
-  unfolding heeds
+  heeds-keep : (w : World) → Together w → InUse w → (r : List ℕ) (a : HeaderRequest) → HeaderAsks (w .t .len) (w .t .count) (usedOf (w .t)) r a → Together (afterByte (applyHeader w c r a))
+  unfolding applyHeader
   heeds-keep w f u r (faulty k) a = let n = in-range (w .t .len) (w .t .count) (usedOf (w .t)) r (faulty k) a in faults-keep w f u k (n .0) (omega (arith, n .1))
   heeds-keep w f u r (counts n) (for-count _ q k₀ n₀ n₁ n₂) =
       opens-empty-keeps (withTransfer w (putCount (w .t) (thirdOf r))) (count-keeps w f (thirdOf r) n₀ n₁ n₂) (unfold putCount in u) (endsChannel r)
@@ -91,12 +91,12 @@ module _ (c : ℕ) (h : c < channelCount) where
       size-is = unfold payloadLength in rw q
 
       go : (k : ℕ) → claimFault (w .t .pairs) (pairsOf (w .lent .claimed)) (thirdOf r) (thirdOf r + secondOf r) ≡ k
-          → Together (leftBy (heeds w c r (claims (thirdOf r) (thirdOf r + secondOf r))))
+          → Together (afterByte (applyHeader w c r (claims (thirdOf r) (thirdOf r + secondOf r))))
       go (suc k) z =
           rw (claim-faulty w c r (thirdOf r) (thirdOf r + secondOf r) k z)
           (judged (claim-numbered (w .t .pairs) (pairsOf (w .lent .claimed)) (thirdOf r) (thirdOf r + secondOf r) (omega arith) (ruled w (f .rule))))
         where
-          judged : Numbered (claimFault (w .t .pairs) (pairsOf (w .lent .claimed)) (thirdOf r) (thirdOf r + secondOf r)) → Together (leftBy (faults w c (suc k)))
+          judged : Numbered (claimFault (w .t .pairs) (pairsOf (w .lent .claimed)) (thirdOf r) (thirdOf r + secondOf r)) → Together (afterByte (stopWithFault w c (suc k)))
           judged (inl y) = absurd (omega arith)
           judged (inr y) = faults-keep w f u (suc k) (omega (arith, y .0)) (omega (arith, y .1))
       go zero z = rw (claim-opens w c r (thirdOf r) (thirdOf r + secondOf r) z, size-is) (claimed-keeps w f u (thirdOf r) (secondOf r) (endsChannel r) q₀ q₁ z)
@@ -104,23 +104,23 @@ module _ (c : ℕ) (h : c < channelCount) where
   -- ---- a byte
 
   -- of a header, of which r is held
-  held-keeps : (w : World) → Together w → InUse w → (r : List ℕ) (b : ℕ) → stateAt (w .t) c ≡ header r → length r ≤ heldLimit → Together (leftBy (byteOf w c b))
+  held-keeps : (w : World) → Together w → InUse w → (r : List ℕ) (b : ℕ) → stateAt (w .t) c ≡ header r → length r ≤ heldLimit → Together (afterByte (takeByte w c b))
   held-keeps w f u r b s l = go (decLt (length r) heldLimit)
     where
-      go : Dec (length r < heldLimit) → Together (leftBy (byteOf w c b))
+      go : Dec (length r < heldLimit) → Together (afterByte (takeByte w c b))
       go (yes y) = rw (byte-held w c b r s y) (clear-keeps w f (header (r ++ (b ∷ []))) (omega (arith, length-append r (b ∷ []))) (unfold leftNumber in refl) (in-use-room w f u))
       go (no y) =
           rw (byte-judged w c b r s (omega arith))
-          (heeds-keep w f u (r ++ (b ∷ [])) (askedOf (w .t .len) (w .t .count) (usedOf (w .t)) (r ++ (b ∷ []))) (asked (w .t .len) (w .t .count) (usedOf (w .t)) (r ++ (b ∷ []))))
+          (heeds-keep w f u (r ++ (b ∷ [])) (requestOf (w .t .len) (w .t .count) (usedOf (w .t)) (r ++ (b ∷ []))) (asked (w .t .len) (w .t .count) (usedOf (w .t)) (r ++ (b ∷ []))))
 
-  first-keeps : (w : World) (b : ℕ) → Together w → stateAt (w .t) c ≡ unused → Together (leftBy (byteOf w c b))
+  first-keeps : (w : World) (b : ℕ) → Together w → stateAt (w .t) c ≡ unused → Together (afterByte (takeByte w c b))
   first-keeps w b f s = rw (byte-unused w c b s) (go (ltb 0 (w .t .count)) (eqb (usedOf (w .t)) (w .t .count)) refl refl)
     where
       held : Room w c → Together (withTransfer w (putState (w .t) c (header (b ∷ []))))
       held room = clear-keeps w f (header (b ∷ [])) (omega arith) (unfold leftNumber in refl) room
 
       go : (x y : Bool) → ltb 0 (w .t .count) ≡ x → eqb (usedOf (w .t)) (w .t .count) ≡ y
-          → Together (leftBy (cond (x && y) (leaves (withTransfer w (putFault (w .t) 19 c))) (goes (withTransfer w (putState (w .t) c (header (b ∷ [])))))))
+          → Together (afterByte (cond (x && y) (notTaken (withTransfer w (putFault (w .t) 19 c))) (continues (withTransfer w (putState (w .t) c (header (b ∷ [])))))))
       go true true p q = fault-keeps w f c h 19 (omega arith) (omega arith)
       go true false p q = held (λ n. room (f .count))
         where
@@ -129,15 +129,15 @@ module _ (c : ℕ) (h : c < channelCount) where
           room (inr z) = let n : usedOf (w .t) ≢ w .t .count = eqb-false (usedOf (w .t)) (w .t .count) q in omega (arith, z .2)
       go false y p q = held (λ n. absurd (omega (arith, ltb-false 0 (w .t .count) p)))
 
-  stores-keep : (w : World) (n b : ℕ) (e : Bool) → Together w → InUse w → channelAt (w .t) c .left ≡ n → Together (leftBy (stores w c (channelAt (w .t) c .next) n e b))
-  unfolding stores
+  stores-keep : (w : World) (n b : ℕ) (e : Bool) → Together w → InUse w → channelAt (w .t) c .left ≡ n → Together (afterByte (storePayloadByte w c (channelAt (w .t) c .next) n e b))
+  unfolding storePayloadByte
   stores-keep w zero b e f u l = f
   stores-keep w (suc n) b e f u l =
       let p = channelAt (w .t) c .next in
       opens-keep (world (w .t) (set (w .lent .file) p b) (w .lent .claimed)) (store-keeps w f p b) u (suc p) n e
-      (λ q. omega (arith, f .rests q, hit-part (suc p) (suc p + n) p (p + channelAt (w .t) c .left) q (omega arith) (omega arith)))
+      (λ q. omega (arith, f .rests q, inRange-part (suc p) (suc p + n) p (p + channelAt (w .t) c .left) q (omega arith) (omega arith)))
 
-  pub byte-keeps : (w : World) (b : ℕ) → Together w → Together (leftBy (byteOf w c b))
+  pub byte-keeps : (w : World) (b : ℕ) → Together w → Together (afterByte (takeByte w c b))
   byte-keeps w b f = go (channelAt (w .t) c .state) refl
     where
       k : Channel
@@ -149,10 +149,10 @@ module _ (c : ℕ) (h : c < channelCount) where
       state : (n : ℕ) → k .state ≡ n → stateAt (w .t) c ≡ readState n r (k .next) (k .left)
       state n e = unfold stateAt in ap (λ m. readState m r (k .next) (k .left)) e
 
-      rest-keeps : (e : Bool) → InUse w → stateAt (w .t) c ≡ payload (k .next) (k .left) e → Together (leftBy (byteOf w c b))
+      rest-keeps : (e : Bool) → InUse w → stateAt (w .t) c ≡ payload (k .next) (k .left) e → Together (afterByte (takeByte w c b))
       rest-keeps e u s = rw (byte-payload w c b (k .next) (k .left) e s) (stores-keep w (k .left) b e f u refl)
 
-      go : (n : ℕ) → k .state ≡ n → Together (leftBy (byteOf w c b))
+      go : (n : ℕ) → k .state ≡ n → Together (afterByte (takeByte w c b))
       go zero e = first-keeps w b f (unfold readState in state 0 e)
       go (suc zero) e =
           held-keeps w f (omega arith) r b (unfold readState in state 1 e)

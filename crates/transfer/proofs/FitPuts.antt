@@ -9,20 +9,20 @@ use native.Mathlib.Decide.{ℕ-discrete, decLt}
 use lib.Dec.{eqb}
 use lib.ListN.{length, getD, set, take, drop, length-append, length-drop, length-set, List·getD-append}
 use lib.Seq.{length-take-le, getD-append-add, getD-set-same, getD-set-other, getD-take, getD-drop}
-use Rattle.ledger.specs.Pairs.{Pairs, size, hit, holds, Ruled, join, endsBy}
-use Rattle.ledger.specs.Ledger.{obeys, pairsOf, lent}
-use Rattle.ledger.proofs.Joined.{join-holds, join-ruled, join-ends}
-use Rattle.ledger.proofs.Lents.{length-lent, pairsOf-lent, rule-lent}
+use Rattle.ledger.specs.Pairs.{Pairs, size, inRange, contains, Ruled, join, endsAtMost}
+use Rattle.ledger.specs.Ledger.{obeys, pairsOf, laidOut}
+use Rattle.ledger.proofs.PairsJoin.{join-holds, join-ruled, join-ends}
+use Rattle.ledger.proofs.LedgerLayout.{length-laidOut, pairsOf-laidOut, rule-laidOut}
 use Rattle.eblock.specs.Header.{countLimit}
 use Rattle.transfer.specs.Channel.{channelCount, heldLimit, blank, State, nextNumber, leftNumber, heldBytes, numbersOf, channelAt, putState, putFault, putCount}
-use Rattle.transfer.specs.Transfer.{sum, oneIfEnded, oneIfAlive, endedOf, usedOf, World, world, withTransfer}
-use Rattle.transfer.specs.Receive.{claimsRange}
-use Rattle.transfer.proofs.Lens.{length-heldBytes}
+use Rattle.transfer.specs.Transfer.{sum, oneIfEnded, oneIfActive, endedOf, usedOf, World, world, withTransfer}
+use Rattle.transfer.specs.Receive.{claimRange}
+use Rattle.transfer.proofs.ChannelReadBack.{length-heldBytes}
 use Rattle.transfer.proofs.Sums.{sum-set}
-use Rattle.transfer.proofs.Stages.{Stage, waits, state-known}
-use Rattle.transfer.proofs.Together.{CountSays, Together, ruled}
+use Rattle.transfer.proofs.FitChannelKinds.{Stage, waits, state-known}
+use Rattle.transfer.proofs.FitByChannel.{CountSays, Together, ruled}
 use Rattle.transfer.proofs.FitUsed.{oneIfUsed, used-one}
-use Rattle.transfer.proofs.Steady.{Steady, steady-stands, steady-stage, steady-zero}
+use Rattle.transfer.proofs.FitStates.{Steady, steady-stands, steady-stage, steady-zero}
 
 -- ---- a part of a list written over
 
@@ -61,7 +61,7 @@ Room w c = 0 < w .t .count → usedOf (w .t) < w .t .count + oneIfUsed (channelA
 
 module _ (w : World) (f : Together w) (c : ℕ) (h : c < channelCount) where
   pub put-keeps : (x : State) → Steady x → Room w c
-      → ((p : ℕ) → sum (waits p) (w .t .channels) + hit (nextNumber x) (nextNumber x + leftNumber x) p ≤ holds p (pairsOf (w .lent .claimed)) + waits p (channelAt (w .t) c))
+      → ((p : ℕ) → sum (waits p) (w .t .channels) + inRange (nextNumber x) (nextNumber x + leftNumber x) p ≤ contains p (pairsOf (w .lent .claimed)) + waits p (channelAt (w .t) c))
       → Together (withTransfer w (putState (w .t) c x))
   unfolding putState
   put-keeps x s room r =
@@ -89,7 +89,7 @@ module _ (w : World) (f : Together w) (c : ℕ) (h : c < channelCount) where
       fit : heldLimit * c + heldLimit ≤ length (w .t .heads)
       fit = omega (arith, f .heads)
 
-      same-rest : (p : ℕ) → waits p (numbersOf x) ≡ hit (nextNumber x) (nextNumber x + leftNumber x) p
+      same-rest : (p : ℕ) → waits p (numbersOf x) ≡ inRange (nextNumber x) (nextNumber x + leftNumber x) p
       same-rest p = unfold numbersOf in refl
 
       here : getD (set (w .t .channels) c (numbersOf x)) c blank ≡ numbersOf x
@@ -126,7 +126,7 @@ module _ (w : World) (f : Together w) (c : ℕ) (h : c < channelCount) where
                   arith,
                   room (q .0),
                   sum-set oneIfEnded blank (w .t .channels) c (numbersOf x) row,
-                  sum-set oneIfAlive blank (w .t .channels) c (numbersOf x) row,
+                  sum-set oneIfActive blank (w .t .channels) c (numbersOf x) row,
                   used-one (channelAt (w .t) c) (state-known (channelAt (w .t) c) (f .stages c h)),
                   used-one (numbersOf x) (state-known (numbersOf x) (steady-stage x s)),
                   at-most-one (eqb (numbersOf x .state) 0),
@@ -172,8 +172,8 @@ module _ (w : World) (f : Together w) where
 
   -- ---- file or ledger changed
 
-  lent-keeps : (file claimed : List ℕ) → length file ≡ length (w .lent .file) → length claimed ≡ 2 * w .t .pairs → obeys claimed ≡ true → endsBy (w .t .len) (pairsOf claimed) ≡ true
-      → ((p : ℕ) → holds p (pairsOf (w .lent .claimed)) ≤ holds p (pairsOf claimed)) → Together (world (w .t) file claimed)
+  lent-keeps : (file claimed : List ℕ) → length file ≡ length (w .lent .file) → length claimed ≡ 2 * w .t .pairs → obeys claimed ≡ true → endsAtMost (w .t .len) (pairsOf claimed) ≡ true
+      → ((p : ℕ) → contains p (pairsOf (w .lent .claimed)) ≤ contains p (pairsOf claimed)) → Together (world (w .t) file claimed)
   lent-keeps file claimed l n o e m =
       record {
         file = l ∙ f .file;
@@ -200,14 +200,14 @@ module _ (w : World) (f : Together w) where
     joined-ruled : Ruled 0 joined
     joined-ruled = join-ruled s e 0 (pairsOf (w .lent .claimed)) g (omega arith) (ruled w (f .rule))
 
-    claimed-pairs : pairsOf (lent (w .t .pairs) joined) ≡ joined
-    claimed-pairs = pairsOf-lent (w .t .pairs) 0 joined joined-ruled k
+    claimed-pairs : pairsOf (laidOut (w .t .pairs) joined) ≡ joined
+    claimed-pairs = pairsOf-laidOut (w .t .pairs) 0 joined joined-ruled k
 
-    pub claimed-holds : (p : ℕ) → holds p (pairsOf (lent (w .t .pairs) joined)) ≡ max (hit s e p) (holds p (pairsOf (w .lent .claimed)))
-    claimed-holds p = ap (holds p) claimed-pairs ∙ join-holds s e 0 p (pairsOf (w .lent .claimed)) g (ruled w (f .rule))
+    pub claimed-holds : (p : ℕ) → contains p (pairsOf (laidOut (w .t .pairs) joined)) ≡ max (inRange s e p) (contains p (pairsOf (w .lent .claimed)))
+    claimed-holds p = ap (contains p) claimed-pairs ∙ join-holds s e 0 p (pairsOf (w .lent .claimed)) g (ruled w (f .rule))
 
-    pub claim-keeps : e ≤ w .t .len → Together (claimsRange w s e)
-    unfolding claimsRange obeys
+    pub claim-keeps : e ≤ w .t .len → Together (claimRange w s e)
+    unfolding claimRange obeys
     claim-keeps q =
-        lent-keeps (w .lent .file) (lent (w .t .pairs) joined) refl (length-lent (w .t .pairs) joined) (rule-lent (w .t .pairs) 0 joined joined-ruled)
+        lent-keeps (w .lent .file) (laidOut (w .t .pairs) joined) refl (length-laidOut (w .t .pairs) joined) (rule-laidOut (w .t .pairs) 0 joined joined-ruled)
         (rw claimed-pairs (join-ends s e (w .t .len) (pairsOf (w .lent .claimed)) q (f .ends))) (λ p. omega (arith, claimed-holds p))

@@ -9,14 +9,14 @@ use native.Mathlib.Decide.{decLe, ℕ-discrete}
 use borrow.Author.Tests.{le-leb, lt-leb, eq-eqb, ne-eqb, leb-true, eqb-true}
 use lib.Dec.{leb, eqb}
 use lib.ListN.{length, getD}
-use Rattle.ledger.proofs.Places.{hit-in, hit-le}
-use Rattle.ledger.proofs.Shared.{apart as ranges-apart}
+use Rattle.ledger.proofs.PairsPlaces.{inRange-in, inRange-le}
+use Rattle.ledger.proofs.PairsOverlap.{apart as ranges-apart}
 use Rattle.transfer.specs.declared.state.Channel.{Channel}
 use Rattle.transfer.specs.Channel.{blank}
 use Rattle.transfer.specs.Transfer.{sum}
 use Rattle.transfer.specs.Fit.{apart, apartFrom, restsApart}
-use Rattle.transfer.proofs.Shapes.{hit-nothing}
-use Rattle.transfer.proofs.Stages.{waits}
+use Rattle.transfer.proofs.ChannelBytes.{inRange-nothing}
+use Rattle.transfer.proofs.FitChannelKinds.{waits}
 use Rattle.transfer.proofs.FitChannels.{both}
 
 pub apart-says : (j k : Channel) → apart j k ≡ true → (p : ℕ) → waits p j + waits p k ≤ 1
@@ -25,8 +25,8 @@ apart-says j k h p = go (eqb (j .left) 0) (eqb (k .left) 0) (leb (j .next + j .l
   where
     go : (a b l m : Bool) → eqb (j .left) 0 ≡ a → eqb (k .left) 0 ≡ b → leb (j .next + j .left) (k .next) ≡ l → leb (k .next + k .left) (j .next) ≡ m
         → ((a || b) || (l || m)) ≡ true → waits p j + waits p k ≤ 1
-    go true b l m q r s t z = omega (arith, hit-nothing (j .next) (j .next + j .left) p (omega (arith, eqb-true (j .left) 0 q)), hit-le (k .next) (k .next + k .left) p)
-    go false true l m q r s t z = omega (arith, hit-nothing (k .next) (k .next + k .left) p (omega (arith, eqb-true (k .left) 0 r)), hit-le (j .next) (j .next + j .left) p)
+    go true b l m q r s t z = omega (arith, inRange-nothing (j .next) (j .next + j .left) p (omega (arith, eqb-true (j .left) 0 q)), inRange-le (k .next) (k .next + k .left) p)
+    go false true l m q r s t z = omega (arith, inRange-nothing (k .next) (k .next + k .left) p (omega (arith, eqb-true (k .left) 0 r)), inRange-le (j .next) (j .next + j .left) p)
     go false false true m q r s t z = ranges-apart (j .next) (j .next + j .left) (k .next) (k .next + k .left) p (inl (leb-true (j .next + j .left) (k .next) s))
     go false false false true q r s t z = ranges-apart (j .next) (j .next + j .left) (k .next) (k .next + k .left) p (inr (leb-true (k .next + k .left) (j .next) t))
     go false false false false q r s t z = absurd (false≢true z)
@@ -57,7 +57,7 @@ apart-is j k d = go (ℕ-discrete (j .left) 0) (ℕ-discrete (k .left) 0) (decLe
         rw (ne-eqb (j .left) 0 x, ne-eqb (k .left) 0 y, lt-leb (j .next + j .left) (k .next) (omega arith), le-leb (k .next + k .left) (j .next) b)
     go (no x) (no y) (no a) (no b) =
         let m = max (j .next) (k .next) in
-        absurd (omega (arith, d m, hit-in (j .next) (j .next + j .left) m (omega arith) (omega arith), hit-in (k .next) (k .next + k .left) m (omega arith) (omega arith)))
+        absurd (omega (arith, d m, inRange-in (j .next) (j .next + j .left) m (omega arith) (omega arith), inRange-in (k .next) (k .next + k .left) m (omega arith) (omega arith)))
 
 from-apart : (j : Channel) (ks : List Channel) → ((p : ℕ) → waits p j + sum (waits p) ks ≤ 1) → apartFrom j ks ≡ true
 unfolding apartFrom sum

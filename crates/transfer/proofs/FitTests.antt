@@ -7,15 +7,15 @@ use native.Mathlib.Omega.{arith}
 use borrow.Author.Tests.{lt-ltb, le-leb, eq-eqb, ne-eqb, ltb-true, leb-true, eqb-true, eqb-false}
 use lib.Dec.{leb, ltb, eqb}
 use lib.ListN.{length}
-use Rattle.ledger.specs.Pairs.{endsBy}
+use Rattle.ledger.specs.Pairs.{endsAtMost}
 use Rattle.ledger.specs.Ledger.{obeys, pairsOf}
-use Rattle.ledger.proofs.Places.{holds-le}
+use Rattle.ledger.proofs.PairsPlaces.{holds-le}
 use Rattle.eblock.specs.Header.{countLimit}
 use Rattle.transfer.specs.declared.state.Transfer.{Transfer}
 use Rattle.transfer.specs.Channel.{channelCount, heldLimit, channelAt}
 use Rattle.transfer.specs.Transfer.{usedOf, World}
 use Rattle.transfer.specs.Fit.{pairLimit, channelsFit, restsApart, countFits, faultFits, fitsLedger, fits}
-use Rattle.transfer.proofs.Together.{CountSays, FaultSays, Together, rests-of, rest-inside}
+use Rattle.transfer.proofs.FitByChannel.{CountSays, FaultSays, Together, rests-of, rest-inside}
 use Rattle.transfer.proofs.FitChannels.{both, ChannelSays, bytesAt, channel-says, channel-fits, zeros-byte, byte-zeros, channels-at, at-channels}
 use Rattle.transfer.proofs.FitRests.{apart-says, rests-say, rests-apart}
 
@@ -63,7 +63,7 @@ ledger-together w h f =
     let a₁ = both (leb (t .pairs) pairLimit) _ h in
     let a₂ = both (eqb (length l) (2 * t .pairs)) _ (a₁ .1) in
     let a₃ = both (obeys l) _ (a₂ .1) in
-    let a₄ = both (endsBy (t .len) (pairsOf l)) _ (a₃ .1) in
+    let a₄ = both (endsAtMost (t .len) (pairsOf l)) _ (a₃ .1) in
     let a₅ = both (eqb (length (t .channels)) channelCount) _ (a₄ .1) in
     let a₆ = both (eqb (length (t .heads)) (heldLimit * channelCount)) _ (a₅ .1) in
     let a₇ = both (channelsFit (pairsOf l) (t .channels) (t .heads)) _ (a₆ .1) in

@@ -8,12 +8,12 @@ use lib.Dec.{ltb, eqb}
 use lib.ListN.{length, getD}
 use Rattle.transfer.specs.declared.state.Channel.{Channel}
 use Rattle.transfer.specs.Channel.{blank}
-use Rattle.transfer.specs.Transfer.{sum, oneIfEnded, oneIfAlive}
+use Rattle.transfer.specs.Transfer.{sum, oneIfEnded, oneIfActive}
 
 abbrev pub oneIfUsed : Channel → ℕ
 oneIfUsed k = cond (eqb (k .state) 0) 0 1
 
-pub used-one : (k : Channel) → k .state ≤ 4 → oneIfEnded k + oneIfAlive k ≡ oneIfUsed k
+pub used-one : (k : Channel) → k .state ≤ 4 → oneIfEnded k + oneIfActive k ≡ oneIfUsed k
 used-one k h = go (k .state) h
   where
     go : (n : ℕ) → n ≤ 4 → cond (eqb n 4) 1 0 + cond (ltb 0 n && ltb n 4) 1 0 ≡ cond (eqb n 0) 0 1
@@ -24,7 +24,7 @@ used-one k h = go (k .state) h
     go (suc (suc (suc (suc zero)))) g = refl
     go (suc (suc (suc (suc (suc n))))) g = absurd (omega arith)
 
-pub used-sum : (ks : List Channel) → ((c : ℕ) → c < length ks → getD ks c blank .state ≤ 4) → sum oneIfEnded ks + sum oneIfAlive ks ≡ sum oneIfUsed ks
+pub used-sum : (ks : List Channel) → ((c : ℕ) → c < length ks → getD ks c blank .state ≤ 4) → sum oneIfEnded ks + sum oneIfActive ks ≡ sum oneIfUsed ks
 unfolding sum
 used-sum [] h = refl
 used-sum (k ∷ ks) h = omega (arith, used-one k (h 0 (omega arith)), used-sum ks (λ c g. h (suc c) (omega arith)))

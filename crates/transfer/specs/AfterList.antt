@@ -5,20 +5,20 @@ use mathlib.Core.Logic.{_↔_, _⊎_}
 use mathlib.Core.Bool.{true}
 use mathlib.Core.List.{List, [], _∷_, _++_}
 use lib.ListN.{length, getD, take, drop}
-use Rattle.ledger.specs.Pairs.{Pairs, none, total, holds}
-use Rattle.ledger.specs.Ledger.{roomOf, obeys, lent, Holds}
+use Rattle.ledger.specs.Pairs.{Pairs, none, total, contains}
+use Rattle.ledger.specs.Ledger.{capacity, obeys, laidOut, Contains}
 use Rattle.transfer.specs.Channel.{stateAt}
 use Rattle.transfer.specs.Transfer.{endedOf, World, guess, result, broken, verdictOf, storedOf, startNumber}
 use Rattle.transfer.specs.Receive.{Answer}
 use Rattle.transfer.specs.Fit.{fits}
 use Rattle.transfer.specs.Calls.{Call, runBy, begun, answersOf, after}
-use Rattle.transfer.specs.Block.{Block, placeOf, sizeOf, claimsOf, placed, bytesIn}
+use Rattle.transfer.specs.Block.{Block, placeOf, sizeOf, claimsIn, withPayloads, bytesIn}
 use Rattle.transfer.specs.Tally.{Tally, blocksOf, countsOf, known, endedIn, empty, streamAt, callOf}
-use Rattle.transfer.specs.View.{view}
+use Rattle.transfer.specs.StateFrom.{stateFrom}
 
 -- the world w is what an accepted start leaves, with a file and a ledger of R pairs that holds these ranges: none, until a transfer can be resumed
 pub data Begun : World → List ℕ → ℕ → Pairs → Type 0 where
-  fresh-start : (file ledger : List ℕ) → startNumber ledger ≡ 0 → Begun (begun file ledger) file (roomOf ledger) none
+  fresh-start : (file ledger : List ℕ) → startNumber ledger ≡ 0 → Begun (begun file ledger) file (capacity ledger) none
 
 -- the tally of the same list, and its answers
 abbrev pub tallyOf : ℕ → ℕ → Pairs → List Call → Tally
@@ -32,28 +32,28 @@ abbrev pub Complete : Tally → Type 0
 Complete t = (n : ℕ) × (countsOf (t .streams) ≡ n ∷ []) × (endedIn (t .streams) ≡ n)
 
 -- one of the blocks has the payload byte v for the place p
-abbrev pub Has : ℕ → ℕ → List Block → Type 0
-Has p v [] = ⊥
-Has p v (x ∷ xs) = ((i : ℕ) × (i < length (x .body)) × (p ≡ placeOf x + i) × (v ≡ getD (x .body) i 0)) ⊎ Has p v xs
+abbrev pub HasByte : ℕ → ℕ → List Block → Type 0
+HasByte p v [] = ⊥
+HasByte p v (x ∷ xs) = ((i : ℕ) × (i < length (x .body)) × (p ≡ placeOf x + i) × (v ≡ getD (x .body) i 0)) ⊎ HasByte p v xs
 
 -- each of the blocks is whole, and its payload is that part of the file
-abbrev pub Stand : List ℕ → List Block → Type 0
-Stand file [] = Unit
-Stand file (x ∷ xs) = (length (x .body) ≡ sizeOf x) × (take (sizeOf x) (drop (placeOf x) file) ≡ x .body) × Stand file xs
+abbrev pub PayloadsInFile : List ℕ → List Block → Type 0
+PayloadsInFile file [] = Unit
+PayloadsInFile file (x ∷ xs) = (length (x .body) ≡ sizeOf x) × (take (sizeOf x) (drop (placeOf x) file) ≡ x .body) × PayloadsInFile file xs
 
 -- one of the blocks claims the place p, arrived or not
-abbrev pub Claims : ℕ → List Block → Type 0
-Claims p [] = ⊥
-Claims p (x ∷ xs) = ((placeOf x ≤ p) × (p < placeOf x + sizeOf x)) ⊎ Claims p xs
+abbrev pub ClaimsPlace : ℕ → List Block → Type 0
+ClaimsPlace p [] = ⊥
+ClaimsPlace p (x ∷ xs) = ((placeOf x ≤ p) × (p < placeOf x + sizeOf x)) ⊎ ClaimsPlace p xs
 
 -- the ledger of R pairs with what these blocks claim and what was claimed before
 pub record LedgerIs (R : ℕ) (before : Pairs) (ledger : List ℕ) (xs : List Block) : Type 0 where
-  pub is : ledger ≡ lent R (claimsOf xs before)
+  pub is : ledger ≡ laidOut R (claimsIn xs before)
   -- it has 2R entries, obeys the rule and holds exactly the claimed places; no other does
   pub entries : length ledger ≡ 2 * R
   pub rule : obeys ledger ≡ true
-  pub places : (p : ℕ) → Holds p ledger ↔ (Claims p xs ⊎ (holds p before ≡ 1))
-  pub only : (m : List ℕ) → length m ≡ 2 * R → obeys m ≡ true → ((p : ℕ) → Holds p m ↔ (Claims p xs ⊎ (holds p before ≡ 1))) → m ≡ ledger
+  pub places : (p : ℕ) → Contains p ledger ↔ (ClaimsPlace p xs ⊎ (contains p before ≡ 1))
+  pub only : (m : List ℕ) → length m ≡ 2 * R → obeys m ≡ true → ((p : ℕ) → Contains p m ↔ (ClaimsPlace p xs ⊎ (contains p before ≡ 1))) → m ≡ ledger
 
 -- w is the world after the list, t its tally
 pub record AfterList (R : ℕ) (before : Pairs) (file : List ℕ) (w : World) (t : Tally) : Type 0 where
@@ -65,10 +65,10 @@ pub record AfterList (R : ℕ) (before : Pairs) (file : List ℕ) (w : World) (t
   pub guess-is : (verdictOf w ≡ guess) ↔ ((t .fault ≡ 0) × (Complete t → ⊥))
   -- the file is the starting file with every payload byte taken at its place: each place that one names lies in the file and has it, any other has
   -- its starting byte, and the length stays
-  pub file-taken : (p v : ℕ) → Has p v (blocksOf (t .streams)) → (p < length file) × (getD (w .lent .file) p 0 ≡ v)
-  pub file-rest : (p : ℕ) → ((v : ℕ) → Has p v (blocksOf (t .streams)) → ⊥) → getD (w .lent .file) p 0 ≡ getD file p 0
+  pub file-taken : (p v : ℕ) → HasByte p v (blocksOf (t .streams)) → (p < length file) × (getD (w .lent .file) p 0 ≡ v)
+  pub file-rest : (p : ℕ) → ((v : ℕ) → HasByte p v (blocksOf (t .streams)) → ⊥) → getD (w .lent .file) p 0 ≡ getD file p 0
   pub file-length : length (w .lent .file) ≡ length file
-  pub file-is : w .lent .file ≡ placed (blocksOf (t .streams)) file
+  pub file-is : w .lent .file ≡ withPayloads (blocksOf (t .streams)) file
   -- the byte count is their number, and that of the bytes in the ranges held from the beginning, 0 until a transfer can be resumed
   pub bytes-are : storedOf w ≡ bytesIn (blocksOf (t .streams)) + total before
   -- the fault's number and channel, the count, the number of channels that have ended and the ledger are the tally's
@@ -77,9 +77,9 @@ pub record AfterList (R : ℕ) (before : Pairs) (file : List ℕ) (w : World) (t
   pub ended-is : endedOf (w .t) ≡ endedIn (t .streams)
   pub ledger-is : LedgerIs R before (w .lent .claimed) (blocksOf (t .streams))
   -- each channel's state is that of its bytes; after a fault in its header nothing is held of that
-  pub channels-are : (c : ℕ) → c < 64 → stateAt (w .t) c ≡ view (streamAt t c)
+  pub channels-are : (c : ℕ) → c < 64 → stateAt (w .t) c ≡ stateFrom (streamAt t c)
   -- from RESULT on every accepted payload stands whole in the file
-  pub stands : Complete t → Stand (w .lent .file) (blocksOf (t .streams))
+  pub stands : Complete t → PayloadsInFile (w .lent .file) (blocksOf (t .streams))
   -- transfer, file and ledger fit
   pub fits-still : fits w ≡ true
 
@@ -97,7 +97,7 @@ pub record EveryList : Type 0 where
       → AfterList R before file (after w ks) (tallyOf (length file) R before ks)
   -- stored bytes stay stored and counted: a payload byte taken at its place is there after any further calls
   pub kept : (w : World) (file : List ℕ) (R : ℕ) (before : Pairs) → Begun w file R before → (ks more : List Call) (p v : ℕ)
-      → Has p v (blocksOf (tallyOf (length file) R before ks .streams)) → Has p v (blocksOf (tallyOf (length file) R before (ks ++ more) .streams))
+      → HasByte p v (blocksOf (tallyOf (length file) R before ks .streams)) → HasByte p v (blocksOf (tallyOf (length file) R before (ks ++ more) .streams))
   pub counted : (w : World) (file : List ℕ) (R : ℕ) (before : Pairs) → Begun w file R before → (ks more : List Call)
       → storedOf (after w ks) ≤ storedOf (after w (ks ++ more))
   -- from RESULT on no receive call changes verdict, file, ledger or byte count

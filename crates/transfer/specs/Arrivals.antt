@@ -7,31 +7,31 @@ use Rattle.ledger.specs.Pairs.{Pairs, size}
 use Rattle.transfer.specs.Transfer.{World, guess, result, verdictOf}
 use Rattle.transfer.specs.Receive.{took}
 use Rattle.transfer.specs.Calls.{Call, receive, callOf, after}
-use Rattle.transfer.specs.Block.{placed}
-use Rattle.transfer.specs.AfterList.{Begun, Has, Stand}
-use Rattle.transfer.specs.Sending.{Life, sentBlocks, nonEmpty, WellFormed, Arrival, offered}
+use Rattle.transfer.specs.Block.{withPayloads}
+use Rattle.transfer.specs.AfterList.{Begun, HasByte, PayloadsInFile}
+use Rattle.transfer.specs.Sending.{SentChannel, sentBlocks, nonEmptyPayloads, WellFormed, Arrival, offered}
 
 -- every byte of every piece of the list is taken
 abbrev pub AllTaken : World → List Call → Type 0
 AllTaken w ks = (pre post : List Call) (c b : ℕ) (bs : List ℕ) → ks ≡ pre ++ (receive c (b ∷ bs) ∷ post) → callOf (after w pre) (receive c (b ∷ bs)) .0 ≡ took (suc (length bs))
 
-pub record Arrives (w : World) (file : List ℕ) (s : List Life) (ks : List Call) : Type 0 where
+pub record Arrives (w : World) (file : List ℕ) (s : List SentChannel) (ks : List Call) : Type 0 where
   pub all-taken : AllTaken w ks
   -- GUESS until the last byte is taken, then RESULT, wherever the pieces are cut and empty pieces stand
   pub shows-guess : (pre post : List Call) → ks ≡ pre ++ post → offered pre < offered ks → verdictOf (after w pre) ≡ guess
   pub shows-result : (pre post : List Call) → ks ≡ pre ++ post → offered pre ≡ offered ks → verdictOf (after w pre) ≡ result
   -- one end file for all arrivals: the starting file with the payloads in place
-  pub file-is : after w ks .lent .file ≡ placed (sentBlocks s) file
+  pub file-is : after w ks .lent .file ≡ withPayloads (sentBlocks s) file
   -- place by place: each payload stands in it, and any other place has its starting byte
-  pub payloads-stand : Stand (after w ks .lent .file) (sentBlocks s)
-  pub rest-stays : (p : ℕ) → ((v : ℕ) → Has p v (sentBlocks s) → ⊥) → getD (after w ks .lent .file) p 0 ≡ getD file p 0
+  pub payloads-stand : PayloadsInFile (after w ks .lent .file) (sentBlocks s)
+  pub rest-stays : (p : ℕ) → ((v : ℕ) → HasByte p v (sentBlocks s) → ⊥) → getD (after w ks .lent .file) p 0 ≡ getD file p 0
 
 pub record EveryArrival : Type 0 where
-  pub arrives : (w : World) (file : List ℕ) (R : ℕ) (before : Pairs) → Begun w file R before → (s : List Life) → WellFormed (length file) R before s → (ks : List Call) → Arrival s ks
+  pub arrives : (w : World) (file : List ℕ) (R : ℕ) (before : Pairs) → Begun w file R before → (s : List SentChannel) → WellFormed (length file) R before s → (ks : List Call) → Arrival s ks
       → Arrives w file s ks
   -- every sending has an arrival
-  pub has-arrival : (s : List Life) → (ks : List Call) × Arrival s ks
+  pub has-arrival : (s : List SentChannel) → (ks : List Call) × Arrival s ks
   -- no sending is left out: what is taken whole and ends with RESULT is a well-formed sending, for every ledger with a pair for each payload that is
   -- not empty and for each range held before
   pub only-well-formed : (w : World) (file : List ℕ) (R : ℕ) (before : Pairs) → Begun w file R before → (ks : List Call) → AllTaken w ks → verdictOf (after w ks) ≡ result
-      → (s : List Life) × Arrival s ks × ((r : ℕ) → nonEmpty (sentBlocks s) + size before ≤ r → WellFormed (length file) r before s)
+      → (s : List SentChannel) × Arrival s ks × ((r : ℕ) → nonEmptyPayloads (sentBlocks s) + size before ≤ r → WellFormed (length file) r before s)

@@ -29,9 +29,9 @@ unfoldable pub isWhole : Block → Bool
 isWhole x = leb (sizeOf x) (length (x .body))
 
 -- the bytes of blocks, one after the other
-unfoldable pub flat : List Block → List ℕ
-flat [] = []
-flat (x ∷ xs) = x .head ++ (x .body ++ flat xs)
+unfoldable pub blockBytes : List Block → List ℕ
+blockBytes [] = []
+blockBytes (x ∷ xs) = x .head ++ (x .body ++ blockBytes xs)
 
 -- ---- cutting
 
@@ -44,17 +44,17 @@ cutBy (suc k) bs =
     (block (take headerLength bs) (take (payloadLength (take headerLength bs)) (drop headerLength bs)) ∷ behind)
 
 -- the header that is begun behind them
-unfoldable pub overBy : ℕ → List ℕ → List ℕ
-overBy zero bs = bs
-overBy (suc k) bs =
-    let behind = overBy k (drop (payloadLength (take headerLength bs)) (drop headerLength bs)) in
+unfoldable pub begunHeaderBy : ℕ → List ℕ → List ℕ
+begunHeaderBy zero bs = bs
+begunHeaderBy (suc k) bs =
+    let behind = begunHeaderBy k (drop (payloadLength (take headerLength bs)) (drop headerLength bs)) in
     cond (ltb (length bs) headerLength) bs behind
 
 abbrev pub cut : List ℕ → List Block
 cut bs = cutBy (length bs) bs
 
-abbrev pub over : List ℕ → List ℕ
-over bs = overBy (length bs) bs
+abbrev pub begunHeader : List ℕ → List ℕ
+begunHeader bs = begunHeaderBy (length bs) bs
 
 -- ---- of a list of accepted blocks
 
@@ -64,25 +64,25 @@ countsIn [] = []
 countsIn (x ∷ xs) = cond (isCount (x .head)) (thirdOf (x .head) ∷ countsIn xs) (countsIn xs)
 
 -- their claims joined to what was claimed before; an empty payload claims nothing
-unfoldable pub claim : Block → Pairs → Pairs
-claim x ps = cond (eqb (sizeOf x) 0) ps (join (placeOf x) (placeOf x + sizeOf x) ps)
+unfoldable pub addClaim : Block → Pairs → Pairs
+addClaim x ps = cond (eqb (sizeOf x) 0) ps (join (placeOf x) (placeOf x + sizeOf x) ps)
 
-unfoldable pub claimsOf : List Block → Pairs → Pairs
-claimsOf [] ps = ps
-claimsOf (x ∷ xs) ps = claim x (claimsOf xs ps)
+unfoldable pub claimsIn : List Block → Pairs → Pairs
+claimsIn [] ps = ps
+claimsIn (x ∷ xs) ps = addClaim x (claimsIn xs ps)
 
 -- a block with bit 8 that is whole ends its channel
-unfoldable pub closes : Block → Bool
-closes x = endsChannel (x .head) && isWhole x
+unfoldable pub endsItsChannel : Block → Bool
+endsItsChannel x = endsChannel (x .head) && isWhole x
 
 unfoldable pub hasEnd : List Block → Bool
 hasEnd [] = false
-hasEnd (x ∷ xs) = closes x || hasEnd xs
+hasEnd (x ∷ xs) = endsItsChannel x || hasEnd xs
 
 -- their payload bytes put into a file, each at its place, and how many there are
-unfoldable pub placed : List Block → List ℕ → List ℕ
-placed [] file = file
-placed (x ∷ xs) file = sets (placed xs file) (placeOf x) (x .body)
+unfoldable pub withPayloads : List Block → List ℕ → List ℕ
+withPayloads [] file = file
+withPayloads (x ∷ xs) file = sets (withPayloads xs file) (placeOf x) (x .body)
 
 abbrev pub bytesIn : List Block → ℕ
 bytesIn xs = sum (λ (x : Block). length (x .body)) xs

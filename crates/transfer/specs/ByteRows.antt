@@ -6,19 +6,19 @@ use mathlib.Core.Bool.{Bool, true, false}
 use mathlib.Core.List.{List, [], _∷_, _++_}
 use lib.ListN.{length, set}
 use Rattle.ledger.specs.Pairs.{Pairs, Ruled}
-use Rattle.ledger.specs.Ledger.{pairsOf, lent}
+use Rattle.ledger.specs.Ledger.{pairsOf, laidOut}
 use Rattle.eblock.specs.Header.{secondOf}
 use Rattle.transfer.specs.Channel.{unused, header, payload, ended, stateAt, putState, putFault, putCount}
 use Rattle.transfer.specs.Transfer.{endedOf, usedOf, World, world, withTransfer}
-use Rattle.transfer.specs.Header.{endsChannel, Asks, counts, claims, nothing, faulty}
-use Rattle.transfer.specs.Judgement.{Asked, Union, Claim}
-use Rattle.transfer.specs.Receive.{goes, stops, leaves, byteOf}
+use Rattle.transfer.specs.Header.{endsChannel, HeaderRequest, counts, claims, nothing, faulty}
+use Rattle.transfer.specs.Judgement.{HeaderAsks, Union, ClaimJudged}
+use Rattle.transfer.specs.Receive.{continues, stops, notTaken, takeByte}
 
 -- the channel c is in a header of which 16 bytes are held; with b it is whole and asks for a
-pub record Seventeenth (w : World) (c b : ℕ) (h : List ℕ) (a : Asks) : Type 0 where
+pub record Seventeenth (w : World) (c b : ℕ) (h : List ℕ) (a : HeaderRequest) : Type 0 where
   pub in-header : stateAt (w .t) c ≡ header h
   pub sixteen : length h ≡ 16
-  pub asks : Asked (w .t .len) (w .t .count) (usedOf (w .t)) (h ++ (b ∷ [])) a
+  pub asks : HeaderAsks (w .t .len) (w .t .count) (usedOf (w .t)) (h ++ (b ∷ [])) a
 
 -- n is unknown, or not n channels have ended
 abbrev pub MayEnd : World → Type 0
@@ -27,39 +27,39 @@ MayEnd w = (w .t .count ≡ 0) ⊎ (endedOf (w .t) ≢ w .t .count)
 pub record ByteRows : Type 0 where
   -- the first byte of an unused channel, where it does not give 19
   pub first-held : (w : World) (c b : ℕ) → stateAt (w .t) c ≡ unused → (w .t .count ≡ 0) ⊎ (usedOf (w .t) ≢ w .t .count)
-      → byteOf w c b ≡ goes (withTransfer w (putState (w .t) c (header (b ∷ []))))
+      → takeByte w c b ≡ continues (withTransfer w (putState (w .t) c (header (b ∷ []))))
   -- a header's next byte, up to the 16th
   pub next-held : (w : World) (c b : ℕ) (h : List ℕ) → stateAt (w .t) c ≡ header h → length h < 16
-      → byteOf w c b ≡ goes (withTransfer w (putState (w .t) c (header (h ++ (b ∷ [])))))
+      → takeByte w c b ≡ continues (withTransfer w (putState (w .t) c (header (h ++ (b ∷ [])))))
   -- a 17th byte: a fault clears what is held, and the call stops
   pub header-fault : (w : World) (c b k : ℕ) (h : List ℕ) → Seventeenth w c b h (faulty k)
-      → byteOf w c b ≡ stops (withTransfer w (putFault (putState (w .t) c (header [])) k c))
+      → takeByte w c b ≡ stops (withTransfer w (putFault (putState (w .t) c (header [])) k c))
   -- a count; with bit 8 the channel ends
   pub count-goes : (w : World) (c b n : ℕ) (h : List ℕ) → Seventeenth w c b h (counts n) → endsChannel (h ++ (b ∷ [])) ≡ false
-      → byteOf w c b ≡ goes (withTransfer w (putState (putCount (w .t) n) c (header [])))
+      → takeByte w c b ≡ continues (withTransfer w (putState (putCount (w .t) n) c (header [])))
   pub count-ends : (w : World) (c b n : ℕ) (h : List ℕ) → Seventeenth w c b h (counts n) → endsChannel (h ++ (b ∷ [])) ≡ true
-      → byteOf w c b ≡ stops (withTransfer w (putState (putCount (w .t) n) c ended))
+      → takeByte w c b ≡ stops (withTransfer w (putState (putCount (w .t) n) c ended))
   -- an empty payload; with bit 8 the channel ends, and 20 is given where n have ended already
   pub empty-goes : (w : World) (c b : ℕ) (h : List ℕ) → Seventeenth w c b h nothing → endsChannel (h ++ (b ∷ [])) ≡ false
-      → byteOf w c b ≡ goes (withTransfer w (putState (w .t) c (header [])))
+      → takeByte w c b ≡ continues (withTransfer w (putState (w .t) c (header [])))
   pub empty-ends : (w : World) (c b : ℕ) (h : List ℕ) → Seventeenth w c b h nothing → endsChannel (h ++ (b ∷ [])) ≡ true → MayEnd w
-      → byteOf w c b ≡ stops (withTransfer w (putState (w .t) c ended))
+      → takeByte w c b ≡ stops (withTransfer w (putState (w .t) c ended))
   pub empty-20 : (w : World) (c b : ℕ) (h : List ℕ) → Seventeenth w c b h nothing → endsChannel (h ++ (b ∷ [])) ≡ true → 0 < w .t .count → endedOf (w .t) ≡ w .t .count
-      → byteOf w c b ≡ stops (withTransfer w (putFault (putState (w .t) c (header [])) 20 c))
+      → takeByte w c b ≡ stops (withTransfer w (putFault (putState (w .t) c (header [])) 20 c))
   -- a range: 17 or 18, with nothing claimed, or the ledger holds it and its bytes are to come
   pub claim-fault : (w : World) (c b k s e : ℕ) (h : List ℕ) → Seventeenth w c b h (claims s e) → Ruled 0 (pairsOf (w .lent .claimed))
-      → Claim (w .t .pairs) (pairsOf (w .lent .claimed)) s e k → 0 < k → byteOf w c b ≡ stops (withTransfer w (putFault (putState (w .t) c (header [])) k c))
+      → ClaimJudged (w .t .pairs) (pairsOf (w .lent .claimed)) s e k → 0 < k → takeByte w c b ≡ stops (withTransfer w (putFault (putState (w .t) c (header [])) k c))
   pub claimed : (w : World) (c b s e : ℕ) (h : List ℕ) (m : Pairs) → Seventeenth w c b h (claims s e) → Ruled 0 (pairsOf (w .lent .claimed))
-      → Claim (w .t .pairs) (pairsOf (w .lent .claimed)) s e 0 → Union s e (pairsOf (w .lent .claimed)) m
-      → byteOf w c b
-      ≡ goes (world (putState (w .t) c (payload s (secondOf (h ++ (b ∷ []))) (endsChannel (h ++ (b ∷ []))))) (w .lent .file) (lent (w .t .pairs) m))
+      → ClaimJudged (w .t .pairs) (pairsOf (w .lent .claimed)) s e 0 → Union s e (pairsOf (w .lent .claimed)) m
+      → takeByte w c b
+      ≡ continues (world (putState (w .t) c (payload s (secondOf (h ++ (b ∷ []))) (endsChannel (h ++ (b ∷ []))))) (w .lent .file) (laidOut (w .t .pairs) m))
   -- a payload's byte is stored at its place; after the last one the channel is in a header, or ends
   pub stored : (w : World) (c b p n : ℕ) (e : Bool) → stateAt (w .t) c ≡ payload p (suc (suc n)) e
-      → byteOf w c b ≡ goes (world (putState (w .t) c (payload (suc p) (suc n) e)) (set (w .lent .file) p b) (w .lent .claimed))
+      → takeByte w c b ≡ continues (world (putState (w .t) c (payload (suc p) (suc n) e)) (set (w .lent .file) p b) (w .lent .claimed))
   pub last-stored : (w : World) (c b p : ℕ) → stateAt (w .t) c ≡ payload p 1 false
-      → byteOf w c b ≡ goes (world (putState (w .t) c (header [])) (set (w .lent .file) p b) (w .lent .claimed))
+      → takeByte w c b ≡ continues (world (putState (w .t) c (header [])) (set (w .lent .file) p b) (w .lent .claimed))
   pub last-ends : (w : World) (c b p : ℕ) → stateAt (w .t) c ≡ payload p 1 true → MayEnd w
-      → byteOf w c b ≡ stops (world (putState (w .t) c ended) (set (w .lent .file) p b) (w .lent .claimed))
+      → takeByte w c b ≡ stops (world (putState (w .t) c ended) (set (w .lent .file) p b) (w .lent .claimed))
   -- an ended channel's byte is not taken, nor one of a payload with nothing left, which does not fit
-  pub ended-leaves : (w : World) (c b : ℕ) → stateAt (w .t) c ≡ ended → byteOf w c b ≡ leaves w
-  pub none-left-leaves : (w : World) (c b p : ℕ) (e : Bool) → stateAt (w .t) c ≡ payload p 0 e → byteOf w c b ≡ leaves w
+  pub ended-leaves : (w : World) (c b : ℕ) → stateAt (w .t) c ≡ ended → takeByte w c b ≡ notTaken w
+  pub none-left-leaves : (w : World) (c b p : ℕ) (e : Bool) → stateAt (w .t) c ≡ payload p 0 e → takeByte w c b ≡ notTaken w

@@ -2,7 +2,7 @@
 use Prim.Native.Nat.{ℕ}
 use mathlib.Core.List.{List, [], _∷_}
 use lib.ListN.{length}
-use Rattle.transfer.specs.Transfer.{World, world, startOf, startLeaves}
+use Rattle.transfer.specs.Transfer.{World, world, startOf, startAfter}
 use Rattle.transfer.specs.Receive.{Answer, receiveOf}
 
 pub data Call : Type 0 where
@@ -22,7 +22,7 @@ runBy f w (k ∷ ks) =
 
 -- what start leaves of a lent ledger, with a file of the length that it was told
 unfoldable pub begun : List ℕ → List ℕ → World
-begun file claimed = world (startOf (length file) claimed) file (startLeaves claimed)
+begun file claimed = world (startOf (length file) claimed) file (startAfter claimed)
 
 abbrev pub answersOf : World → List Call → List Answer
 answersOf w ks = runBy callOf w ks .0

@@ -3,11 +3,11 @@ use Prim.Native.Nat.{ℕ}
 use mathlib.Core.List.{List, [], _∷_, _++_}
 use lib.ListN.{replicate}
 use Rattle.ledger.specs.Pairs.{none}
-use Rattle.eblock.specs.Header.{bytesOf}
+use Rattle.eblock.specs.Header.{headerBytes}
 use Rattle.transfer.specs.Calls.{Call, receive, begun}
 use Rattle.transfer.specs.Block.{block}
 use Rattle.transfer.specs.AfterList.{Begun}
-use Rattle.transfer.specs.Sending.{Life, WellFormed, Arrival}
+use Rattle.transfer.specs.Sending.{SentChannel, WellFormed, Arrival}
 use Rattle.transfer.specs.Arrivals.{Arrives}
 
 -- "plai" and "d123"
@@ -18,19 +18,19 @@ abbrev pub d123 : List ℕ
 d123 = 100 ∷ 49 ∷ 50 ∷ 51 ∷ []
 
 abbrev pub first : Call
-first = receive 0 (bytesOf 0 4 0 ++ plai)
+first = receive 0 (headerBytes 0 4 0 ++ plai)
 
 abbrev pub second : Call
-second = receive 1 (bytesOf 8 4 4 ++ d123)
+second = receive 1 (headerBytes 8 4 4 ++ d123)
 
 abbrev pub third : Call
-third = receive 0 (bytesOf 72 0 2)
+third = receive 0 (headerBytes 72 0 2)
 
 -- two channels: "plai" and the count on channel 0, "d123" on channel 1
-abbrev pub plaid : List Life
+abbrev pub plaid : List SentChannel
 plaid =
-    record { number = 0; blocks = block (bytesOf 0 4 0) plai ∷ block (bytesOf 72 0 2) [] ∷ [] }
-    ∷ record { number = 1; blocks = block (bytesOf 8 4 4) d123 ∷ [] }
+    record { number = 0; blocks = block (headerBytes 0 4 0) plai ∷ block (headerBytes 72 0 2) [] ∷ [] }
+    ∷ record { number = 1; blocks = block (headerBytes 8 4 4) d123 ∷ [] }
     ∷ []
 
 abbrev pub calls : List Call

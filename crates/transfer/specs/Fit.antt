@@ -4,7 +4,7 @@ use mathlib.Core.Bool.{Bool, true, false, cond, _&&_, _||_}
 use mathlib.Core.List.{List, [], _∷_}
 use lib.Dec.{leb, ltb, eqb}
 use lib.ListN.{length, take, drop}
-use Rattle.ledger.specs.Pairs.{Pairs, inside, endsBy}
+use Rattle.ledger.specs.Pairs.{Pairs, inside, endsAtMost}
 use Rattle.ledger.specs.Ledger.{zeros, obeys, pairsOf}
 use Rattle.eblock.specs.Header.{countLimit}
 use Rattle.transfer.specs.declared.state.Channel.{Channel}
@@ -71,7 +71,7 @@ fitsLedger t claimed =
     leb (t .pairs) pairLimit
     && (eqb (length claimed) (2 * t .pairs)
     && (obeys claimed
-    && (endsBy (t .len) (pairsOf claimed)
+    && (endsAtMost (t .len) (pairsOf claimed)
     && (eqb (length (t .channels)) channelCount
     && (eqb (length (t .heads)) (heldLimit * channelCount)
     && (channelsFit (pairsOf claimed) (t .channels) (t .heads)

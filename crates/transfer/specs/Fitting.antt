@@ -6,12 +6,12 @@ use mathlib.Core.Bool.{true, cond}
 use mathlib.Core.List.{List}
 use lib.Dec.{eqb}
 use lib.ListN.{length, getD}
-use Rattle.ledger.specs.Means.{Obeys}
+use Rattle.ledger.specs.Ledgers.{Obeys}
 use Rattle.transfer.specs.declared.state.Channel.{Channel}
 use Rattle.transfer.specs.declared.state.Transfer.{Transfer}
 use Rattle.transfer.specs.Channel.{channelAt}
 use Rattle.transfer.specs.Transfer.{sum, usedOf, World, world}
-use Rattle.transfer.specs.Receive.{leftBy, byteOf}
+use Rattle.transfer.specs.Receive.{afterByte, takeByte}
 use Rattle.transfer.specs.Calls.{Call, callOf}
 use Rattle.transfer.specs.Fit.{fitsLedger, fits}
 
@@ -61,5 +61,5 @@ pub record Fitting : Type 0 where
   -- used are the channels not unused
   pub used-are : (w : World) → Fit w → usedOf (w .t) ≡ sum (λ (k : Channel). cond (eqb (k .state) 0) 0 1) (w .t .channels)
   -- every byte on every channel keeps it, in any world that fits, and so does every call
-  pub byte-keeps : (w : World) (c b : ℕ) → Fit w → c < 64 → Fit (leftBy (byteOf w c b))
+  pub byte-keeps : (w : World) (c b : ℕ) → Fit w → c < 64 → Fit (afterByte (takeByte w c b))
   pub call-keeps : (w : World) (k : Call) → Fit w → Fit (callOf w k .1)

@@ -3,7 +3,7 @@ use Prim.Native.Nat.{ℕ, _+_}
 use mathlib.Core.Bool.{Bool, cond, _||_}
 use mathlib.Core.List.{List}
 use lib.Dec.{ltb, eqb}
-use Rattle.ledger.specs.Pairs.{Pairs, size, join, shares}
+use Rattle.ledger.specs.Pairs.{Pairs, size, join, overlaps}
 use Rattle.eblock.specs.Descriptor.{has, eodc, endOfData, faultOf}
 use Rattle.eblock.specs.Header.{countLimit, descriptorOf, secondOf, thirdOf}
 
@@ -19,15 +19,15 @@ unfoldable pub payloadLength : List ℕ → ℕ
 payloadLength h = cond (isCount h) 0 (secondOf h)
 
 -- what a header asks for: a count, a range to be claimed, or neither; or the number of its fault
-pub data Asks : Type 0 where
-  counts : ℕ → Asks
-  claims : ℕ → ℕ → Asks
-  nothing : Asks
-  faulty : ℕ → Asks
+pub data HeaderRequest : Type 0 where
+  counts : ℕ → HeaderRequest
+  claims : ℕ → ℕ → HeaderRequest
+  nothing : HeaderRequest
+  faulty : ℕ → HeaderRequest
 
 -- 11, 12, 13; for a count 14, then 15; for a payload 16. `known` is 0 where no count is known.
-unfoldable pub askedOf : ℕ → ℕ → ℕ → List ℕ → Asks
-askedOf F known used h =
+unfoldable pub requestOf : ℕ → ℕ → ℕ → List ℕ → HeaderRequest
+requestOf F known used h =
     let n = thirdOf h in
     let offset = thirdOf h in
     let len = secondOf h in
@@ -38,4 +38,4 @@ askedOf F known used h =
 
 -- 17 where the range shares a byte with a claimed one, 18 where the ledger would need more than R pairs, 0 where it is claimed
 unfoldable pub claimFault : ℕ → Pairs → ℕ → ℕ → ℕ
-claimFault R ps s e = cond (shares s e ps) 17 (cond (ltb R (size (join s e ps))) 18 0)
+claimFault R ps s e = cond (overlaps s e ps) 17 (cond (ltb R (size (join s e ps))) 18 0)

@@ -5,54 +5,54 @@ use mathlib.Core.Path.{_≡_}
 use mathlib.Core.Logic.{_⊎_}
 use mathlib.Core.Bool.{true, false}
 use mathlib.Core.List.{List, [], _∷_, map}
-use Rattle.ledger.specs.Pairs.{Pairs, size, hit, holds, Ruled}
+use Rattle.ledger.specs.Pairs.{Pairs, size, inRange, contains, Ruled}
 use Rattle.eblock.specs.Descriptor.{faultOf}
 use Rattle.eblock.specs.Header.{descriptorOf, secondOf, thirdOf}
-use Rattle.transfer.specs.Header.{isCount, endsChannel, payloadLength, Asks, counts, claims, nothing, faulty, askedOf, claimFault}
+use Rattle.transfer.specs.Header.{isCount, endsChannel, payloadLength, HeaderRequest, counts, claims, nothing, faulty, requestOf, claimFault}
 
 -- by the transfer alone: F bytes of file, the known count or 0, and the channels used
-pub data Asked (F known used : ℕ) (h : List ℕ) : Asks → Type 0 where
+pub data HeaderAsks (F known used : ℕ) (h : List ℕ) : HeaderRequest → Type 0 where
   -- 11, 12, 13
-  by-descriptor : 0 < faultOf (descriptorOf h) → Asked F known used h (faulty (faultOf (descriptorOf h)))
+  by-descriptor : 0 < faultOf (descriptorOf h) → HeaderAsks F known used h (faulty (faultOf (descriptorOf h)))
   -- a second count
-  by-14 : faultOf (descriptorOf h) ≡ 0 → isCount h ≡ true → 0 < known → Asked F known used h (faulty 14)
+  by-14 : faultOf (descriptorOf h) ≡ 0 → isCount h ≡ true → 0 < known → HeaderAsks F known used h (faulty 14)
   -- a count that is 0, above 64, or less than the channels used
-  by-15 : faultOf (descriptorOf h) ≡ 0 → isCount h ≡ true → known ≡ 0 → ((thirdOf h ≡ 0) ⊎ ((64 < thirdOf h) ⊎ (thirdOf h < used))) → Asked F known used h (faulty 15)
+  by-15 : faultOf (descriptorOf h) ≡ 0 → isCount h ≡ true → known ≡ 0 → ((thirdOf h ≡ 0) ⊎ ((64 < thirdOf h) ⊎ (thirdOf h < used))) → HeaderAsks F known used h (faulty 15)
   for-count : faultOf (descriptorOf h) ≡ 0 → isCount h ≡ true → known ≡ 0 → 0 < thirdOf h → thirdOf h ≤ 64 → used ≤ thirdOf h
-      → Asked F known used h (counts (thirdOf h))
+      → HeaderAsks F known used h (counts (thirdOf h))
   -- an empty payload, wherever it lies
-  for-nothing : faultOf (descriptorOf h) ≡ 0 → isCount h ≡ false → secondOf h ≡ 0 → Asked F known used h nothing
+  for-nothing : faultOf (descriptorOf h) ≡ 0 → isCount h ≡ false → secondOf h ≡ 0 → HeaderAsks F known used h nothing
   -- a payload that ends past F
-  by-16 : faultOf (descriptorOf h) ≡ 0 → isCount h ≡ false → 0 < secondOf h → F < thirdOf h + secondOf h → Asked F known used h (faulty 16)
+  by-16 : faultOf (descriptorOf h) ≡ 0 → isCount h ≡ false → 0 < secondOf h → F < thirdOf h + secondOf h → HeaderAsks F known used h (faulty 16)
   for-claim : faultOf (descriptorOf h) ≡ 0 → isCount h ≡ false → 0 < secondOf h → thirdOf h + secondOf h ≤ F
-      → Asked F known used h (claims (thirdOf h) (thirdOf h + secondOf h))
+      → HeaderAsks F known used h (claims (thirdOf h) (thirdOf h + secondOf h))
 
 -- m is the one list of pairs by the ledger rule that holds the places of ps and those from s up to e
 pub record Union (s e : ℕ) (ps m : Pairs) : Type 0 where
   pub ruled : Ruled 0 m
-  pub places : (p : ℕ) → holds p m ≡ max (hit s e p) (holds p ps)
+  pub places : (p : ℕ) → contains p m ≡ max (inRange s e p) (contains p ps)
 
 -- by the ledger: R pairs, of which ps are used
-pub data Claim (R : ℕ) (ps : Pairs) (s e : ℕ) : ℕ → Type 0 where
+pub data ClaimJudged (R : ℕ) (ps : Pairs) (s e : ℕ) : ℕ → Type 0 where
   -- a place of the range is claimed
-  by-17 : (p : ℕ) → s ≤ p → p < e → holds p ps ≡ 1 → Claim R ps s e 17
+  by-17 : (p : ℕ) → s ≤ p → p < e → contains p ps ≡ 1 → ClaimJudged R ps s e 17
   -- none is, and the ledger with the range would need more than R pairs
-  by-18 : ((p : ℕ) → s ≤ p → p < e → holds p ps ≡ 0) → (m : Pairs) → Union s e ps m → R < size m → Claim R ps s e 18
+  by-18 : ((p : ℕ) → s ≤ p → p < e → contains p ps ≡ 0) → (m : Pairs) → Union s e ps m → R < size m → ClaimJudged R ps s e 18
   -- none is, and R pairs are enough
-  is-claimed : ((p : ℕ) → s ≤ p → p < e → holds p ps ≡ 0) → (m : Pairs) → Union s e ps m → size m ≤ R → Claim R ps s e 0
+  is-claimed : ((p : ℕ) → s ≤ p → p < e → contains p ps ≡ 0) → (m : Pairs) → Union s e ps m → size m ≤ R → ClaimJudged R ps s e 0
 
 -- the accepted descriptors
-abbrev pub nine : List ℕ
-nine = 0 ∷ 8 ∷ 12 ∷ 32 ∷ 40 ∷ 44 ∷ 64 ∷ 72 ∷ 76 ∷ []
+abbrev pub acceptedDescriptors : List ℕ
+acceptedDescriptors = 0 ∷ 8 ∷ 12 ∷ 32 ∷ 40 ∷ 44 ∷ 64 ∷ 72 ∷ 76 ∷ []
 
 pub record Judgement : Type 0 where
-  pub asked-is : (F known used : ℕ) (h : List ℕ) → Asked F known used h (askedOf F known used h)
-  pub asked-only : (F known used : ℕ) (h : List ℕ) (a : Asks) → Asked F known used h a → a ≡ askedOf F known used h
-  pub claim-is : (R : ℕ) (ps : Pairs) (s e : ℕ) → s < e → Ruled 0 ps → Claim R ps s e (claimFault R ps s e)
-  pub claim-only : (R : ℕ) (ps : Pairs) (s e k : ℕ) → s < e → Ruled 0 ps → Claim R ps s e k → k ≡ claimFault R ps s e
+  pub asked-is : (F known used : ℕ) (h : List ℕ) → HeaderAsks F known used h (requestOf F known used h)
+  pub asked-only : (F known used : ℕ) (h : List ℕ) (a : HeaderRequest) → HeaderAsks F known used h a → a ≡ requestOf F known used h
+  pub claim-is : (R : ℕ) (ps : Pairs) (s e : ℕ) → s < e → Ruled 0 ps → ClaimJudged R ps s e (claimFault R ps s e)
+  pub claim-only : (R : ℕ) (ps : Pairs) (s e k : ℕ) → s < e → Ruled 0 ps → ClaimJudged R ps s e k → k ≡ claimFault R ps s e
   -- of the nine accepted descriptors, those that end their channel and those that give a count
-  pub nine-end : (r : List ℕ) → map (λ d. endsChannel (d ∷ r)) nine ≡ false ∷ true ∷ true ∷ false ∷ true ∷ true ∷ false ∷ true ∷ true ∷ []
-  pub nine-count : (r : List ℕ) → map (λ d. isCount (d ∷ r)) nine ≡ false ∷ false ∷ false ∷ false ∷ false ∷ false ∷ true ∷ true ∷ true ∷ []
+  pub nine-end : (r : List ℕ) → map (λ d. endsChannel (d ∷ r)) acceptedDescriptors ≡ false ∷ true ∷ true ∷ false ∷ true ∷ true ∷ false ∷ true ∷ true ∷ []
+  pub nine-count : (r : List ℕ) → map (λ d. isCount (d ∷ r)) acceptedDescriptors ≡ false ∷ false ∷ false ∷ false ∷ false ∷ false ∷ true ∷ true ∷ true ∷ []
   -- how many payload bytes follow: none behind a count, else as many as the second field says
   pub none-follow : (h : List ℕ) → isCount h ≡ true → payloadLength h ≡ 0
   pub so-many-follow : (h : List ℕ) → isCount h ≡ false → payloadLength h ≡ secondOf h

@@ -7,7 +7,7 @@ pub mod Calls
 pub mod Rows
 pub mod Block
 pub mod Tally
-pub mod View
+pub mod StateFrom
 pub mod AfterList
 pub mod EachCall
 pub mod Start

@@ -6,7 +6,7 @@ use mathlib.Core.List.{List, [], _∷_, _++_}
 use lib.ListN.{set}
 use Rattle.transfer.specs.Channel.{unused, header, payload, ended, stateAt, putState, putFault}
 use Rattle.transfer.specs.Transfer.{endedOf, usedOf, World, world, withTransfer, guess, verdictOf}
-use Rattle.transfer.specs.Receive.{Took, goes, stops, leaves, refused, took, bytesBy, byteOf, receiveOf}
+use Rattle.transfer.specs.Receive.{Outcome, continues, stops, notTaken, refused, took, takeBytes, takeByte, receiveOf}
 use Rattle.transfer.specs.Fit.{fits}
 use Rattle.transfer.specs.Calls.{Call, callOf, answersOf, after}
 
@@ -25,18 +25,18 @@ pub record Rows : Type 1 where
   pub row-empty : (w : World) (c : ℕ) → fits w ≡ true → c < 64 → verdictOf w ≡ guess → receiveOf w c [] ≡ (took 0, w)
   -- otherwise the bytes are taken one after the other
   pub row-taken : (w : World) (c b : ℕ) (bs : List ℕ) → fits w ≡ true → c < 64 → verdictOf w ≡ guess → (stateAt (w .t) c ≡ ended → ⊥)
-      → receiveOf w c (b ∷ bs) ≡ bytesBy (λ v x. byteOf v c x) w (b ∷ bs) 0
+      → receiveOf w c (b ∷ bs) ≡ takeBytes (λ v x. takeByte v c x) w (b ∷ bs) 0
   -- at the end of a piece, all of its bytes are taken
-  pub piece-none : {W : Type 0} (f : W → ℕ → Took W) (w : W) (k : ℕ) → bytesBy f w [] k ≡ (took k, w)
+  pub piece-none : {W : Type 0} (f : W → ℕ → Outcome W) (w : W) (k : ℕ) → takeBytes f w [] k ≡ (took k, w)
   -- a byte after which the call goes on, one after which it stops, and one that is not taken; k bytes were taken before
-  pub piece-goes : {W : Type 0} (f : W → ℕ → Took W) (w v : W) (b : ℕ) (bs : List ℕ) (k : ℕ) → f w b ≡ goes v → bytesBy f w (b ∷ bs) k ≡ bytesBy f v bs (suc k)
-  pub piece-stops : {W : Type 0} (f : W → ℕ → Took W) (w v : W) (b : ℕ) (bs : List ℕ) (k : ℕ) → f w b ≡ stops v → bytesBy f w (b ∷ bs) k ≡ (took (suc k), v)
-  pub piece-leaves : {W : Type 0} (f : W → ℕ → Took W) (w v : W) (b : ℕ) (bs : List ℕ) (k : ℕ) → f w b ≡ leaves v → bytesBy f w (b ∷ bs) k ≡ (took k, v)
+  pub piece-goes : {W : Type 0} (f : W → ℕ → Outcome W) (w v : W) (b : ℕ) (bs : List ℕ) (k : ℕ) → f w b ≡ continues v → takeBytes f w (b ∷ bs) k ≡ takeBytes f v bs (suc k)
+  pub piece-stops : {W : Type 0} (f : W → ℕ → Outcome W) (w v : W) (b : ℕ) (bs : List ℕ) (k : ℕ) → f w b ≡ stops v → takeBytes f w (b ∷ bs) k ≡ (took (suc k), v)
+  pub piece-leaves : {W : Type 0} (f : W → ℕ → Outcome W) (w v : W) (b : ℕ) (bs : List ℕ) (k : ℕ) → f w b ≡ notTaken v → takeBytes f w (b ∷ bs) k ≡ (took k, v)
   -- 19: the first byte of an unused channel is not taken while n is known and as many channels are used
-  pub by-19 : (w : World) (c b : ℕ) → stateAt (w .t) c ≡ unused → 0 < w .t .count → usedOf (w .t) ≡ w .t .count → byteOf w c b ≡ leaves (withTransfer w (putFault (w .t) 19 c))
+  pub by-19 : (w : World) (c b : ℕ) → stateAt (w .t) c ≡ unused → 0 < w .t .count → usedOf (w .t) ≡ w .t .count → takeByte w c b ≡ notTaken (withTransfer w (putFault (w .t) 19 c))
   -- 20: the last byte of a channel while n have ended already
   pub by-20 : (w : World) (c b p : ℕ) → stateAt (w .t) c ≡ payload p 1 true → 0 < w .t .count → endedOf (w .t) ≡ w .t .count
-      → byteOf w c b ≡ stops (world (putFault (putState (w .t) c (header [])) 20 c) (set (w .lent .file) p b) (w .lent .claimed))
+      → takeByte w c b ≡ stops (world (putFault (putState (w .t) c (header [])) 20 c) (set (w .lent .file) p b) (w .lent .claimed))
   -- one more call gets what the last left
   pub one-more : (w : World) (ks : List Call) (k : Call)
       → (after w (ks ++ k ∷ []) ≡ callOf (after w ks) k .1) × (answersOf w (ks ++ k ∷ []) ≡ answersOf w ks ++ (callOf (after w ks) k .0 ∷ []))

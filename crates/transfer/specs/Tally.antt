@@ -8,20 +8,20 @@ use lib.ListN.{length, getD, set, replicate}
 use Rattle.ledger.specs.Pairs.{Pairs}
 use Rattle.transfer.specs.Channel.{channelCount, heldLimit}
 use Rattle.transfer.specs.Transfer.{sum, Verdict, guess, result, broken}
-use Rattle.transfer.specs.Header.{Asks, counts, claims, nothing, faulty, askedOf, claimFault}
-use Rattle.transfer.specs.Receive.{Took, goes, stops, leaves, Answer, refused, bytesBy, isGuess, isSome}
+use Rattle.transfer.specs.Header.{HeaderRequest, counts, claims, nothing, faulty, requestOf, claimFault}
+use Rattle.transfer.specs.Receive.{Outcome, continues, stops, notTaken, Answer, refused, takeBytes, isGuess, isNonEmpty}
 use Rattle.transfer.specs.Calls.{Call, receive}
-use Rattle.transfer.specs.Block.{Block, cut, over, countsIn, claimsOf, hasEnd}
+use Rattle.transfer.specs.Block.{Block, cut, begunHeader, countsIn, claimsIn, hasEnd}
 
 -- ---- one channel: its taken bytes; spoilt where the last header of them was judged a fault
 
 pub data Stream : Type 0 where
-  sound : List ℕ → Stream
-  spoilt : List ℕ → Stream
+  intact : List ℕ → Stream
+  faulted : List ℕ → Stream
 
 abbrev pub taken : Stream → List ℕ
-taken (sound bs) = bs
-taken (spoilt bs) = bs
+taken (intact bs) = bs
+taken (faulted bs) = bs
 
 unfoldable pub allButLast : List Block → List Block
 allButLast [] = []
@@ -30,8 +30,8 @@ allButLast (x ∷ y ∷ xs) = x ∷ allButLast (y ∷ xs)
 
 -- a block is accepted once its header is taken without a fault
 unfoldable pub accepted : Stream → List Block
-accepted (sound bs) = cut bs
-accepted (spoilt bs) = allButLast (cut bs)
+accepted (intact bs) = cut bs
+accepted (faulted bs) = allButLast (cut bs)
 
 -- ---- all channels
 
@@ -41,8 +41,8 @@ pub record Tally : Type 0 where
   pub on : ℕ
 
 -- the channels that every number of the tally goes over
-abbrev pub lives : Tally → List Stream
-lives t = t .streams
+abbrev pub countedStreams : Tally → List Stream
+countedStreams t = t .streams
 
 unfoldable pub blocksOf : List Stream → List Block
 blocksOf [] = []
@@ -57,28 +57,28 @@ known ss = getD (countsOf ss) 0 0
 
 -- the ranges held from the beginning, none until a transfer can be resumed, and those that these claim
 abbrev pub claimed : Pairs → List Stream → Pairs
-claimed before ss = claimsOf (blocksOf ss) before
+claimed before ss = claimsIn (blocksOf ss) before
 
-abbrev pub one : Bool → ℕ
-one true = 1
-one false = 0
+abbrev pub oneIf : Bool → ℕ
+oneIf true = 1
+oneIf false = 0
 
 abbrev pub used : List Stream → ℕ
-used ss = sum (λ (s : Stream). one (isSome (taken s))) ss
+used ss = sum (λ (s : Stream). oneIf (isNonEmpty (taken s))) ss
 
 abbrev pub endedIn : List Stream → ℕ
-endedIn ss = sum (λ (s : Stream). one (hasEnd (accepted s))) ss
+endedIn ss = sum (λ (s : Stream). oneIf (hasEnd (accepted s))) ss
 
 -- BROKEN where there is a fault, else RESULT where the accepted blocks hold one count and as many channels have ended, else GUESS
 unfoldable pub verdict : Tally → Verdict
 verdict t =
-    cond (ltb 0 (t .fault)) broken (cond (eqb (length (countsOf (lives t))) 1 && eqb (endedIn (lives t)) (known (lives t))) result guess)
+    cond (ltb 0 (t .fault)) broken (cond (eqb (length (countsOf (countedStreams t))) 1 && eqb (endedIn (countedStreams t)) (known (countedStreams t))) result guess)
 
 unfoldable pub empty : Tally
-empty = record { streams = replicate channelCount (sound []); fault = 0; on = 0 }
+empty = record { streams = replicate channelCount (intact []); fault = 0; on = 0 }
 
 abbrev pub streamAt : Tally → ℕ → Stream
-streamAt t c = getD (t .streams) c (sound [])
+streamAt t c = getD (t .streams) c (intact [])
 
 abbrev pub withStream : Tally → ℕ → Stream → Tally
 withStream t c s = record { streams = set (t .streams) c s; fault = t .fault; on = t .on }
@@ -89,35 +89,35 @@ withFault t k c = record { streams = t .streams; fault = k; on = c }
 -- ---- a byte
 
 -- channel c has taken the bytes bs without a fault; fault 20 where it ends and as many as announced have ended already
-unfoldable pub keeps : Tally → ℕ → List ℕ → Took Tally
-keeps t c bs =
-    let next = withStream t c (sound bs) in
+unfoldable pub keepBytes : Tally → ℕ → List ℕ → Outcome Tally
+keepBytes t c bs =
+    let next = withStream t c (intact bs) in
     cond (hasEnd (cut bs))
-    (stops (cond (ltb 0 (known (lives next)) && eqb (endedIn (lives t)) (known (lives next))) (withFault next 20 c) next))
-    (goes next)
+    (stops (cond (ltb 0 (known (countedStreams next)) && eqb (endedIn (countedStreams t)) (known (countedStreams next))) (withFault next 20 c) next))
+    (continues next)
 
 -- the last of the bytes bs made a header whole, which is judged k
-unfoldable pub judgedBy : Tally → ℕ → List ℕ → ℕ → Took Tally
-judgedBy t c bs zero = keeps t c bs
-judgedBy t c bs (suc k) = stops (withFault (withStream t c (spoilt bs)) (suc k) c)
+unfoldable pub applyJudgement : Tally → ℕ → List ℕ → ℕ → Outcome Tally
+applyJudgement t c bs zero = keepBytes t c bs
+applyJudgement t c bs (suc k) = stops (withFault (withStream t c (faulted bs)) (suc k) c)
 
 -- the fault of what a header asks for, 0 where it has none
-unfoldable pub faultIn : ℕ → Pairs → Asks → ℕ
-faultIn R ps (faulty k) = k
-faultIn R ps (counts n) = 0
-faultIn R ps nothing = 0
-faultIn R ps (claims s e) = claimFault R ps s e
+unfoldable pub requestFault : ℕ → Pairs → HeaderRequest → ℕ
+requestFault R ps (faulty k) = k
+requestFault R ps (counts n) = 0
+requestFault R ps nothing = 0
+requestFault R ps (claims s e) = claimFault R ps s e
 
 -- one byte on channel c, whose bytes so far are bs
-unfoldable pub byteOn : ℕ → ℕ → Pairs → Tally → ℕ → List ℕ → ℕ → Took Tally
-byteOn F R before t c bs b =
-    cond (not (isSome bs) && (ltb 0 (known (lives t)) && eqb (used (lives t)) (known (lives t)))) (leaves (withFault t 19 c))
-    (cond (eqb (length (over bs)) heldLimit)
-    (judgedBy t c (bs ++ (b ∷ [])) (faultIn R (claimed before (lives t)) (askedOf F (known (lives t)) (used (lives t)) (over bs ++ (b ∷ [])))))
-    (keeps t c (bs ++ (b ∷ []))))
+unfoldable pub takeByteAfter : ℕ → ℕ → Pairs → Tally → ℕ → List ℕ → ℕ → Outcome Tally
+takeByteAfter F R before t c bs b =
+    cond (not (isNonEmpty bs) && (ltb 0 (known (countedStreams t)) && eqb (used (countedStreams t)) (known (countedStreams t)))) (notTaken (withFault t 19 c))
+    (cond (eqb (length (begunHeader bs)) heldLimit)
+    (applyJudgement t c (bs ++ (b ∷ [])) (requestFault R (claimed before (countedStreams t)) (requestOf F (known (countedStreams t)) (used (countedStreams t)) (begunHeader bs ++ (b ∷ [])))))
+    (keepBytes t c (bs ++ (b ∷ []))))
 
-unfoldable pub byteOf : ℕ → ℕ → Pairs → Tally → ℕ → ℕ → Took Tally
-byteOf F R before t c b = byteOn F R before t c (taken (streamAt t c)) b
+unfoldable pub takeByte : ℕ → ℕ → Pairs → Tally → ℕ → ℕ → Outcome Tally
+takeByte F R before t c b = takeByteAfter F R before t c (taken (streamAt t c)) b
 
 -- ---- a call: 2, 3 and 4 change nothing and are answered so; others go byte by byte
 
@@ -125,9 +125,9 @@ unfoldable pub refusalOf : Tally → ℕ → List ℕ → ℕ
 refusalOf t c piece =
     cond (leb channelCount c) 2
     (cond (not (isGuess (verdict t))) 3
-    (cond (isSome piece && hasEnd (accepted (streamAt t c))) 4 0))
+    (cond (isNonEmpty piece && hasEnd (accepted (streamAt t c))) 4 0))
 
 unfoldable pub callOf : ℕ → ℕ → Pairs → Tally → Call → Answer × Tally
 callOf F R before t (receive c piece) =
-    let go = bytesBy (λ v b. byteOf F R before v c b) t piece 0 in
+    let go = takeBytes (λ v b. takeByte F R before v c b) t piece 0 in
     cond (ltb 0 (refusalOf t c piece)) (refused (refusalOf t c piece), t) go

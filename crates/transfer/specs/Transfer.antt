@@ -5,7 +5,7 @@ use mathlib.Core.List.{List, [], _∷_}
 use lib.Dec.{ltb, eqb}
 use lib.ListN.{length, replicate}
 use Rattle.ledger.specs.Pairs.{total}
-use Rattle.ledger.specs.Ledger.{lengthWrong, pairsOf, roomOf}
+use Rattle.ledger.specs.Ledger.{lengthWrong, pairsOf, capacity}
 use Rattle.transfer.specs.declared.state.Channel.{Channel}
 use Rattle.transfer.specs.declared.state.Transfer.{Transfer}
 use Rattle.transfer.specs.Channel.{channelCount, heldLimit, blank}
@@ -21,15 +21,15 @@ abbrev pub oneIfEnded : Channel → ℕ
 oneIfEnded k = cond (eqb (k .state) 4) 1 0
 
 -- in a header or in a payload
-abbrev pub oneIfAlive : Channel → ℕ
-oneIfAlive k = cond (ltb 0 (k .state) && ltb (k .state) 4) 1 0
+abbrev pub oneIfActive : Channel → ℕ
+oneIfActive k = cond (ltb 0 (k .state) && ltb (k .state) 4) 1 0
 
 unfoldable pub endedOf : Transfer → ℕ
 endedOf t = sum oneIfEnded (t .channels)
 
 -- the channels not unused: those that have ended and those that are alive
 unfoldable pub usedOf : Transfer → ℕ
-usedOf t = endedOf t + sum oneIfAlive (t .channels)
+usedOf t = endedOf t + sum oneIfActive (t .channels)
 
 -- the bytes left in all payloads
 unfoldable pub leftOf : Transfer → ℕ
@@ -88,7 +88,7 @@ unfoldable pub startNumber : List ℕ → ℕ
 startNumber claimed = cond (lengthWrong claimed) 5 0
 
 unfoldable pub startOf : ℕ → List ℕ → Transfer
-startOf f claimed = cond (lengthWrong claimed) (fresh 0 0) (fresh f (roomOf claimed))
+startOf f claimed = cond (lengthWrong claimed) (fresh 0 0) (fresh f (capacity claimed))
 
-unfoldable pub startLeaves : List ℕ → List ℕ
-startLeaves claimed = cond (lengthWrong claimed) claimed (replicate (length claimed) 0)
+unfoldable pub startAfter : List ℕ → List ℕ
+startAfter claimed = cond (lengthWrong claimed) claimed (replicate (length claimed) 0)

@@ -2,7 +2,7 @@
 use mathlib.Core.Path.{_∙_}
 use borrow.Author.Needs.{needs}
 use borrow.Author.Tests.{eq-eqb, ne-eqb}
-use Rattle.checks.specs.FitSurvey.{surveyIn}
+use Rattle.checks.specs.ReportOf.{reportIn}
 use Rattle.checks.proofs.fit.whole.Statement.{statement}
 use Rattle.checks.proofs.fit.whole.Tie as tie
 
@@ -10,21 +10,21 @@ unfit-requires : tie.Need-unfit-requires
 unfit-requires c κs = search needs
 
 returns : tie.Need-returns
-unfolding surveyIn
+unfolding reportIn
 returns c =
     let f = c .before in
     let x = f .before .before .before .args in
     c .unfit .ensures ∙ rw (ne-eqb (x .file) (x .t .len) (f .if1 .taken))
 
-surveyed-requires : tie.Need-surveyed-requires
-surveyed-requires c κs = search needs
+fit-report-requires : tie.Need-fit-report-requires
+fit-report-requires c κs = search needs
 
 returns-2 : tie.Need-returns-2
-unfolding surveyIn
+unfolding reportIn
 returns-2 c =
     let f = c .before in
     let x = f .before .before .before .args in
-    c .surveyed .ensures ∙ rw (eq-eqb (x .file) (x .t .len) (f .if1 .left))
+    c .fit-report .ensures ∙ rw (eq-eqb (x .file) (x .t .len) (f .if1 .left))
 
 pub whole-spec : {M : Type 1} → statement M
-whole-spec = tie.close (tie.spec unfit-requires returns surveyed-requires returns-2)
+whole-spec = tie.close (tie.spec unfit-requires returns fit-report-requires returns-2)

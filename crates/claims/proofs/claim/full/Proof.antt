@@ -9,14 +9,14 @@ returns : tie.Need-returns
 returns c s e o h q =
     let x = c .before .before .args in
     let l = x .ledger .now in
-    sym (room-wide l o s e h (λ z. c .if1 .taken (at-is s e l (x .spot) q ∙ z ∙ sym (past-is s e l (x .spot) q))))
+    sym (room-wide l o s e h (λ z. c .if1 .taken (at-is s e l (x .slot) q ∙ z ∙ sym (past-is s e l (x .slot) q))))
 
 returns-2 : tie.Need-returns-2
 returns-2 c s e o h q =
     let f = c .before in
     let x = f .before .before .args in
     let l = x .ledger .now in
-    sym (room-none l o s e h (sym (at-is s e l (x .spot) q) ∙ f .if1 .left ∙ past-is s e l (x .spot) q) (c .if2 .taken))
+    sym (room-none l o s e h (sym (at-is s e l (x .slot) q) ∙ f .if1 .left ∙ past-is s e l (x .slot) q) (c .if2 .taken))
 
 mul-result : tie.Need-mul-result
 mul-result c = search needs
@@ -36,7 +36,7 @@ returns-3 c s e o h q =
     let f = n .before in
     let x = f .before .before .args in
     let l = x .ledger .now in
-    room-last l o s e h (sym (at-is s e l (x .spot) q) ∙ f .if1 .left ∙ past-is s e l (x .spot) q) (n .if2 .left)
+    room-last l o s e h (sym (at-is s e l (x .slot) q) ∙ f .if1 .left ∙ past-is s e l (x .slot) q) (n .if2 .left)
 
 pub full-spec : {M : Type 1} → statement M
 full-spec =

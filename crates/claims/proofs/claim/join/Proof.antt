@@ -7,30 +7,30 @@ use borrow.Author.Needs.{needs}
 use borrow.Author.Tests.{ltb-true, ltb-false}
 use lib.Dec.{ltb}
 use Rattle.ledger.specs.Pairs.{size, join}
-use Rattle.ledger.specs.Ledger.{obeys, pairsOf, roomOf}
+use Rattle.ledger.specs.Ledger.{obeys, pairsOf, capacity}
 use Rattle.claims.proofs.JoinRoom.{at-is, past-is}
 use Rattle.claims.proofs.claim.join.Statement.{statement}
 use Rattle.claims.proofs.claim.join.Tie as tie
 
 -- in a ledger by the rule: whether there is no pair for the range
 lacks : (c : tie.After-full) → let x = c .before .before .before .before .before .args in let l = x .ledger .now in
-    obeys l ≡ true → x .start < x .end → c .full .result ≡ ltb (roomOf l) (size (join (x .start) (x .end) (pairsOf l)))
+    obeys l ≡ true → x .start < x .end → c .full .result ≡ ltb (capacity l) (size (join (x .start) (x .end) (pairsOf l)))
 lacks c o h =
     let f = c .before .before in
     let x = f .before .before .before .args in
     c .full .ensures (x .start) (x .end) o h (f .locate .ensures .2 o h)
 
 no-room : (c : tie.Then1) → let x = c .before .before .before .before .before .before .args in let l = x .ledger .now in
-    obeys l ≡ true → x .start < x .end → roomOf l < size (join (x .start) (x .end) (pairsOf l))
+    obeys l ≡ true → x .start < x .end → capacity l < size (join (x .start) (x .end) (pairsOf l))
 no-room c o h =
     let x = c .before .before .before .before .before .before .args in
-    ltb-true (roomOf (x .ledger .now)) (size (join (x .start) (x .end) (pairsOf (x .ledger .now)))) (sym (lacks (c .before) o h) ∙ c .if1 .taken)
+    ltb-true (capacity (x .ledger .now)) (size (join (x .start) (x .end) (pairsOf (x .ledger .now)))) (sym (lacks (c .before) o h) ∙ c .if1 .taken)
 
 some-room : (c : tie.Else1) → let x = c .before .before .before .before .before .before .args in let l = x .ledger .now in
-    obeys l ≡ true → x .start < x .end → size (join (x .start) (x .end) (pairsOf l)) ≤ roomOf l
+    obeys l ≡ true → x .start < x .end → size (join (x .start) (x .end) (pairsOf l)) ≤ capacity l
 some-room c o h =
     let x = c .before .before .before .before .before .before .args in
-    ltb-false (roomOf (x .ledger .now)) (size (join (x .start) (x .end) (pairsOf (x .ledger .now)))) (sym (lacks (c .before) o h) ∙ c .if1 .left)
+    ltb-false (capacity (x .ledger .now)) (size (join (x .start) (x .end) (pairsOf (x .ledger .now)))) (sym (lacks (c .before) o h) ∙ c .if1 .left)
 
 locate-requires : tie.Need-locate-requires
 locate-requires c κs = search needs

@@ -4,18 +4,18 @@ use mathlib.Core.Path.{_≡_, sym, ap, _∙_}
 use mathlib.Core.Bool.{true}
 use borrow.Author.Needs.{needs}
 use lib.Dec.{ltb}
-use Rattle.ledger.specs.Pairs.{size, join, shares}
-use Rattle.ledger.specs.Ledger.{obeys, pairsOf, roomOf}
+use Rattle.ledger.specs.Pairs.{size, join, overlaps}
+use Rattle.ledger.specs.Ledger.{obeys, pairsOf, capacity}
 use Rattle.claims.specs.Claim.{judged}
-use Rattle.claims.specs.declared.claim.Room.the-variants.{At}
+use Rattle.claims.specs.declared.claim.ClaimCheck.the-variants.{Free}
 use Rattle.claims.proofs.JoinRoom.{at-is, past-is}
-use Rattle.claims.proofs.Judged.{shares-not-at, full-not-at, same-spot}
+use Rattle.claims.proofs.Judged.{shares-not-at, full-not-at, same-slot}
 use Rattle.claims.proofs.claim.judge.Statement.{statement}
 use Rattle.claims.proofs.claim.judge.Tie as tie
 
 -- in a ledger by the rule: whether the range shares a byte
 shared : (c : tie.After-overlaps) → let x = c .before .before .before .args in let l = x .ledger .now in
-    obeys l ≡ true → x .start < x .end → c .overlaps .result ≡ shares (x .start) (x .end) (pairsOf l)
+    obeys l ≡ true → x .start < x .end → c .overlaps .result ≡ overlaps (x .start) (x .end) (pairsOf l)
 shared c o h =
     let f = c .before in
     let x = f .before .before .args in
@@ -25,7 +25,7 @@ shared c o h =
 
 -- and whether there is no pair for it
 lacks : (c : tie.After-full) → let x = c .before .before .before .before .before .args in let l = x .ledger .now in
-    obeys l ≡ true → x .start < x .end → c .full .result ≡ ltb (roomOf l) (size (join (x .start) (x .end) (pairsOf l)))
+    obeys l ≡ true → x .start < x .end → c .full .result ≡ ltb (capacity l) (size (join (x .start) (x .end) (pairsOf l)))
 lacks c o h =
     let f = c .before .before .before in
     let x = f .before .before .args in
@@ -42,7 +42,7 @@ unfolding judged
 returns c =
     record {
       by-rule = λ o h. rw (sym (shared (c .before) o h) ∙ c .if1 .taken);
-      spot-inside = λ spot e. absurd (shares-not-at spot e);
+      slot-inside = λ slot e. absurd (shares-not-at slot e);
     }
 
 full-requires : tie.Need-full-requires
@@ -53,7 +53,7 @@ unfolding judged
 returns-2 c =
     record {
       by-rule = λ o h. rw (sym (shared (c .before .before .before) o h) ∙ c .before .before .if1 .left, sym (lacks (c .before) o h) ∙ c .if2 .taken);
-      spot-inside = λ spot e. absurd (full-not-at spot e);
+      slot-inside = λ slot e. absurd (full-not-at slot e);
     }
 
 returns-3 : tie.Need-returns-3
@@ -61,8 +61,8 @@ unfolding judged
 returns-3 c =
     let f = c .before .before .before .before in
     record {
-      by-rule = λ o h. rw (sym (shared (c .before .before .before) o h) ∙ c .before .before .if1 .left, sym (lacks (c .before) o h) ∙ c .if2 .left) (ap At (f .locate .ensures .2 o h));
-      spot-inside = λ spot e. rw (sym (same-spot (f .locate .result) spot e)) (f .locate .ensures .0, f .locate .ensures .1);
+      by-rule = λ o h. rw (sym (shared (c .before .before .before) o h) ∙ c .before .before .if1 .left, sym (lacks (c .before) o h) ∙ c .if2 .left) (ap Free (f .locate .ensures .2 o h));
+      slot-inside = λ slot e. rw (sym (same-slot (f .locate .result) slot e)) (f .locate .ensures .0, f .locate .ensures .1);
     }
 
 pub judge-spec : {M : Type 1} → statement M

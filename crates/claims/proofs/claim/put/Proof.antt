@@ -2,19 +2,19 @@
 use native.Mathlib.Omega.{arith}
 use borrow.Author.Needs.{needs}
 use Rattle.claims.proofs.JoinRoom.{at-is, past-is}
-use Rattle.claims.proofs.Judged.{spot-is, spot-room, puts-outside}
+use Rattle.claims.proofs.Judged.{slot-is, slot-room, puts-outside}
 use Rattle.claims.proofs.claim.put.Statement.{statement}
 use Rattle.claims.proofs.claim.put.Tie as tie
 
 returns : tie.Need-returns
 returns c =
     let x = c .before .before .args in
-    puts-outside (x .spot) (x .start) (x .end) (x .ledger .now) (λ q. omega arith)
+    puts-outside (x .slot) (x .start) (x .end) (x .ledger .now) (λ q. omega arith)
 
 returns-2 : tie.Need-returns-2
 returns-2 c =
     let x = c .before .before .before .args in
-    puts-outside (x .spot) (x .start) (x .end) (x .ledger .now) (λ q. omega arith)
+    puts-outside (x .slot) (x .start) (x .end) (x .ledger .now) (λ q. omega arith)
 
 merge-requires : tie.Need-merge-requires
 merge-requires c κs = search needs
@@ -28,9 +28,9 @@ returns-3 c =
     let x = m .before .before .before .before .before .args in
     record {
       by-rule = λ o h q.
-          let is = spot-is (x .start) (x .end) (x .ledger .now) (x .spot) q in
-          m .merge .ensures o h (at-is (x .start) (x .end) (x .ledger .now) (x .spot) is) (past-is (x .start) (x .end) (x .ledger .now) (x .spot) is)
-          (spot-room (x .start) (x .end) (x .ledger .now) (x .spot) q);
+          let is = slot-is (x .start) (x .end) (x .ledger .now) (x .slot) q in
+          m .merge .ensures o h (at-is (x .start) (x .end) (x .ledger .now) (x .slot) is) (past-is (x .start) (x .end) (x .ledger .now) (x .slot) is)
+          (slot-room (x .start) (x .end) (x .ledger .now) (x .slot) q);
       same-length = m .merge .kept .0;
     }
 

@@ -6,7 +6,7 @@ use borrow.Author.Needs.{needs}
 use borrow.Rule.Slice.PartMut.{putMid}
 use Rattle.octets.specs.Digits.{toBig}
 use Rattle.answers.proofs.WrittenBy.{refused, written}
-use Rattle.eblock.specs.Header.{headerLength, bytesOf, secondField, writeNumber, writeOf, writeAfter}
+use Rattle.eblock.specs.Header.{headerLength, headerBytes, secondField, writeNumber, writeOf, writeAfter}
 use Rattle.eblock.proofs.HeaderAnswers.{number-refused, number-55, number-0}
 use Rattle.eblock.proofs.HeaderFields.{length-bytesOf}
 use Rattle.eblock.proofs.HeaderStores.{placed}
@@ -21,7 +21,7 @@ unfolding writeOf writeAfter
 returns c =
     let x = c .before .before .before .args in
     let n = number-refused (x .d) (x .third) (x .out .now) _ (sym (c .before .refusal .ensures)) (c .if1 .taken) in
-    refused _ headerLength (bytesOf (x .d) (secondField (x .d) (x .length)) (x .third)) (x .out .now) _ n (c .if1 .taken)
+    refused _ headerLength (headerBytes (x .d) (secondField (x .d) (x .length)) (x .third)) (x .out .now) _ n (c .if1 .taken)
 
 returns-2 : tie.Need-returns-2
 unfolding writeOf writeAfter
@@ -29,7 +29,7 @@ returns-2 c =
     let r = c .before .before in
     let x = r .before .before .args in
     let n = number-55 (x .d) (x .third) (x .out .now) (omega (arith, r .refusal .ensures)) (c .if2 .taken) in
-    refused _ headerLength (bytesOf (x .d) (secondField (x .d) (x .length)) (x .third)) (x .out .now) 55 n (omega arith)
+    refused _ headerLength (headerBytes (x .d) (secondField (x .d) (x .length)) (x .third)) (x .out .now) 55 n (omega arith)
 
 slice-write-out : tie.Need-slice-write-out
 slice-write-out c = search needs
@@ -84,7 +84,7 @@ returns-3 c =
     let ys : w₁ .write .last .1 .0 ≡ toBig 256 8 (secondField (x .d) (x .length)) = w₁ .write .ensures ∙ rw (n₁, f .second-field .ensures) in
     let zs : w₂ .write2 .last .1 .0 ≡ toBig 256 8 (x .third) = w₂ .write2 .ensures ∙ rw n₂ in
     let s = secondField (x .d) (x .length) in
-    let h = written _ headerLength (bytesOf (x .d) s (x .third)) (x .out .now) (number-0 (x .d) (x .third) (x .out .now) (omega (arith, r .refusal .ensures)) (omega arith)) in
+    let h = written _ headerLength (headerBytes (x .d) s (x .third)) (x .out .now) (number-0 (x .d) (x .third) (x .out .now) (omega (arith, r .refusal .ensures)) (omega arith)) in
     let l = length-bytesOf (x .d) s (x .third) in
     (h .0, placed (x .d) s (x .third) (x .out .now) _ _ (omega arith) ys zs ∙ rw l at (h .1))
 

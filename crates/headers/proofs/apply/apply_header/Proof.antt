@@ -7,8 +7,8 @@ use lib.ListN.{length}
 use Rattle.transfer.specs.declared.state.Transfer.{Transfer}
 use Rattle.transfer.specs.Channel.{putCount}
 use Rattle.transfer.specs.Transfer.{usedOf}
-use Rattle.transfer.specs.Header.{askedOf}
-use Rattle.headers.specs.Request.{asksOfRequest}
+use Rattle.transfer.specs.Header.{requestOf}
+use Rattle.headers.specs.Request.{headerRequest}
 use Rattle.channels.specs.ChannelState.{writeBack}
 use Rattle.channels.specs.OtherChannels.{CountsOthers}
 use Rattle.headers.specs.declared.judge.Request.{Request}
@@ -26,12 +26,12 @@ abbrev begun : tie.After-judge-header → tie.Start
 begun c = c .before .before .before .before .before
 
 -- the request that the code has, by the numbers that it has
-asks : (c : tie.After-judge-header) (q : Request) → c .judge-header .result ≡ q → let x = begun c .args in asksOfRequest q ≡ askedOf (x .o .len) (x .x .count) (x .o .used + 1) (x .head .now)
-asks c q e = ap asksOfRequest (sym e) ∙ c .judge-header .ensures
+asks : (c : tie.After-judge-header) (q : Request) → c .judge-header .result ≡ q → let x = begun c .args in headerRequest q ≡ requestOf (x .o .len) (x .x .count) (x .o .used + 1) (x .head .now)
+asks c q e = ap headerRequest (sym e) ∙ c .judge-header .ensures
 
 -- it is what the header asks for, in a transfer of which x is a channel
 asks-for : (c : tie.After-judge-header) (q : Request) → c .judge-header .result ≡ q → (t : Transfer) → let x = begun c .args in CountsOthers t (x .c) (x .o) → x .x .state ≡ 1
-    → asksOfRequest q ≡ askedOf (writeBack t (x .c) (x .x) .len) (writeBack t (x .c) (x .x) .count) (usedOf (writeBack t (x .c) (x .x))) (x .head .now)
+    → headerRequest q ≡ requestOf (writeBack t (x .c) (x .x) .len) (writeBack t (x .c) (x .x) .count) (usedOf (writeBack t (x .c) (x .x))) (x .head .now)
 asks-for c q e t a i = let x = begun c .args in asks c q e ∙ write-back-asked t (x .c) (x .o) a (x .x) (x .head .now) i
 
 element-copy-out-has : tie.Need-element-copy-out-has

@@ -6,7 +6,7 @@ use mathlib.Core.List.{List}
 use native.Mathlib.Omega.{arith}
 use borrow.Author.Needs.{needs}
 use lib.ListN.{length}
-use Rattle.claims.specs.Claim.{roomNumber}
+use Rattle.claims.specs.Claim.{claimNumber}
 use Rattle.ledger.specs.Ledger.{obeys, pairsOf}
 use Rattle.transfer.specs.declared.state.Transfer.{Transfer}
 use Rattle.transfer.specs.Header.{claimFault}
@@ -28,8 +28,8 @@ as-many s t a n = let x = s .args in n ∙ ap (λ p. 2 * p) (sym (write-back-pai
 judge-requires : tie.Need-judge-requires
 judge-requires c κs = search needs
 
-enum-known-room : tie.Need-enum-known-room
-enum-known-room c = search needs
+enum-known-check : tie.Need-enum-known-check
+enum-known-check c = search needs
 
 put-requires : tie.Need-put-requires
 put-requires c κs = search needs
@@ -58,9 +58,9 @@ returns c h o t file a n =
     let x = s .args in
     let u = writeBack t (x .c) (x .x) in
     let i = as-many s t a n in
-    let q = m .room .given .1 in
+    let q = m .check .given .1 in
     claims-opens u file (x .ledger .now) (x .c) (x .start) (x .end) (x .last) _ (p .put .last .0)
-    (fault-number (u .pairs) (x .ledger .now) (x .start) (x .end) o i (s .pre) (j .judge .result) (j .judge .ensures) ∙ (unfold roomNumber in rw q))
+    (fault-number (u .pairs) (x .ledger .now) (x .start) (x .end) o i (s .pre) (j .judge .result) (j .judge .ensures) ∙ (unfold claimNumber in rw q))
     (put-claims (u .pairs) (x .ledger .now) (x .start) (x .end) o i (s .pre) (j .judge .result) (j .judge .ensures) _ q (p .put .last .0) (p .put .ensures))
     (c .«open» .ensures h t file (p .put .last .0) a)
 
@@ -85,7 +85,7 @@ claim-range-spec =
     tie.close
     (tie.spec
     judge-requires
-    enum-known-room
+    enum-known-check
     put-requires
     sub-open
     open-requires

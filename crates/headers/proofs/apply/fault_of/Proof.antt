@@ -1,6 +1,6 @@
 -- `apply::fault_of`.
 use borrow.Author.Needs.{needs}
-use Rattle.claims.specs.Claim.{roomNumber}
+use Rattle.claims.specs.Claim.{claimNumber}
 use Rattle.headers.proofs.apply.fault_of.Statement.{statement}
 use Rattle.headers.proofs.apply.fault_of.Tie as tie
 
@@ -14,15 +14,15 @@ enum-told-3 : tie.Need-enum-told-3
 enum-told-3 c = search needs
 
 returns : tie.Need-returns
-unfolding roomNumber
+unfolding claimNumber
 returns c = rw (c .enum-told .given .1)
 
 returns-2 : tie.Need-returns-2
-unfolding roomNumber
+unfolding claimNumber
 returns-2 c = rw (c .enum-told2 .given .1)
 
 returns-3 : tie.Need-returns-3
-unfolding roomNumber
+unfolding claimNumber
 returns-3 c = rw (c .enum-told3 .given .1)
 
 pub fault-of-spec : {M : Type 1} → statement M

@@ -10,7 +10,7 @@ use lib.Seq.{take-take}
 use Rattle.octets.specs.Digits.{fromBig}
 use Rattle.eblock.specs.Descriptor.{faultOf}
 use Rattle.eblock.specs.Header.{descriptorOf, secondOf, thirdOf}
-use Rattle.transfer.specs.Header.{askedOf}
+use Rattle.transfer.specs.Header.{requestOf}
 use Rattle.headers.proofs.judge.judge_header.Statement.{statement}
 use Rattle.headers.proofs.judge.judge_header.Tie as tie
 
@@ -32,7 +32,7 @@ fault-requires : tie.Need-fault-requires
 fault-requires c κs = search needs
 
 returns : tie.Need-returns
-unfolding askedOf
+unfolding requestOf
 returns c =
     let e = c .before .fault .ensures in
     rw (← e, lt-ltb 0 (c .before .fault .result) (c .if1 .taken))
@@ -56,7 +56,7 @@ judge-count-requires : tie.Need-judge-count-requires
 judge-count-requires c κs = search needs
 
 returns-2 : tie.Need-returns-2
-unfolding askedOf
+unfolding requestOf
 returns-2 c =
     let h = c .before .before in
     let r = h .before in
@@ -78,7 +78,7 @@ judge-payload-requires : tie.Need-judge-payload-requires
 judge-payload-requires c κs = search needs
 
 returns-3 : tie.Need-returns-3
-unfolding askedOf
+unfolding requestOf
 returns-3 c =
     let e = c .before .before .before in
     let h = e .before in

@@ -9,7 +9,7 @@ use lib.Dec.{leb, ltb, eqb}
 use lib.ListN.{length, getD, drop, length-drop}
 use lib.Seq.{take-all}
 use Rattle.ledger.specs.Ledger.{zeros, obeys}
-use Rattle.ledger.proofs.Opened.{lowest, lowest-follows, sound, sound-unused, sound-not, sound-above, sound-on, sound-over}
+use Rattle.ledger.proofs.LedgerPairAt.{lowest, lowest-follows, sound, sound-unused, sound-not, sound-above, sound-on, sound-over}
 use Rattle.ledger.proofs.rule.obeys.Statement.{statement}
 use Rattle.ledger.proofs.rule.obeys.Tie as tie
 

@@ -5,7 +5,7 @@ use native.Mathlib.Omega.{arith}
 use borrow.Author.Needs.{needs}
 use borrow.Author.Tests.{not-true, not-false}
 use Rattle.ledger.specs.Ledger.{lengthWrong, obeys}
-use Rattle.ledger.proofs.Sizes.{obeys-fits}
+use Rattle.ledger.proofs.LedgerSizes.{obeys-fits}
 use Rattle.ledger.proofs.LedgerRefusal.{refusal-53, refusal-1, refusal-none}
 use Rattle.ledger.proofs.rule.refusal.Statement.{statement}
 use Rattle.ledger.proofs.rule.refusal.Tie as tie

@@ -6,7 +6,7 @@ use borrow.Author.Needs.{needs}
 use lib.ListN.{length, getD, drop}
 use Rattle.ledger.specs.Pairs.{total}
 use Rattle.ledger.specs.Ledger.{pairsOf}
-use Rattle.ledger.proofs.Opened.{pairs-unused, pairs-used, pairs-over}
+use Rattle.ledger.proofs.LedgerPairAt.{pairs-unused, pairs-used, pairs-over}
 use Rattle.ledger.proofs.rule.total.Statement.{statement}
 use Rattle.ledger.proofs.rule.total.Tie as tie
 

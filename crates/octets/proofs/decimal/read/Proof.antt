@@ -12,7 +12,7 @@ use Rattle.octets.specs.Decimal.{numberOf, digitValue, readOf}
 use Rattle.octets.specs.Text.{isDigit, all}
 use Rattle.octets.proofs.Texts.{true-between, all-not, all-more}
 use Rattle.octets.proofs.Decimals.{numberOf-more, numberOf-above}
-use Rattle.octets.proofs.Readings.{readOf-spoilt, readOf-above, readOf-value}
+use Rattle.octets.proofs.Reading.{readOf-spoilt, readOf-above, readOf-value}
 use Rattle.octets.proofs.decimal.read.Statement.{statement}
 use Rattle.octets.proofs.decimal.read.Tie as tie
 

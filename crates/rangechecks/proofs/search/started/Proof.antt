@@ -3,13 +3,13 @@ use Prim.Native.Nat.{_+_, _-_, _/_, _≤_}
 use mathlib.Core.Path.{_≡_, sym, _∙_}
 use mathlib.Core.Bool.{Bool, true, false, cond}
 use native.Mathlib.Omega.{arith}
-use Rattle.ledger.specs.Ledger.{roomOf}
+use Rattle.ledger.specs.Ledger.{capacity}
 use Rattle.rangechecks.proofs.BinarySearch.{Between, halves, in-room}
 use Rattle.rangechecks.proofs.search.started.Statement.{statement}
 use Rattle.rangechecks.proofs.search.started.Tie as tie
 
 abbrev Inv-loop : tie.InvT-loop
-Inv-loop ledger place low₀ high₀ low high = (low ≤ high) × (high ≤ roomOf ledger) × (Between place ledger low high)
+Inv-loop ledger place low₀ high₀ low high = (low ≤ high) × (high ≤ capacity ledger) × (Between place ledger low high)
 
 abbrev μ-loop : tie.MeasureT-loop
 μ-loop ledger place low₀ high₀ low high = high - low

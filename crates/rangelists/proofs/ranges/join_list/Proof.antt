@@ -7,7 +7,7 @@ use native.Mathlib.Omega.{arith}
 use borrow.Author.Needs.{needs}
 use lib.ListN.{length, take, drop, length-drop}
 use lib.Seq.{take-all, drop-drop}
-use Rattle.ledger.specs.Ledger.{obeys, pairsOf, roomOf}
+use Rattle.ledger.specs.Ledger.{obeys, pairsOf, capacity}
 use Rattle.rangelists.specs.RangeText.{merged, mergeRange, rangeOf, mergedFrom, parts, Represents}
 use Rattle.octets.specs.Text.{isNotComma, leading}
 use Rattle.octets.proofs.Texts.{leading-le}
@@ -18,7 +18,7 @@ use Rattle.rangelists.proofs.ranges.join_list.Tie as tie
 abbrev Inv-loop : tie.InvT-loop
 Inv-loop text ledger₀ at₀ ledger at =
     (at ≤ length text) × (length ledger ≡ length ledger₀) × (obeys ledger ≡ true)
-    × (mergedFrom (roomOf ledger₀) (pairsOf ledger) (parts (drop at text)) ≡ mergedFrom (roomOf ledger₀) (pairsOf ledger₀) (parts text))
+    × (mergedFrom (capacity ledger₀) (pairsOf ledger) (parts (drop at text)) ≡ mergedFrom (capacity ledger₀) (pairsOf ledger₀) (parts text))
 
 abbrev μ-loop : tie.MeasureT-loop
 μ-loop text ledger₀ at₀ ledger at = length text - at
@@ -42,7 +42,7 @@ ends-le c =
 -- what was joined is the text up to that comma
 said : (c : tie.After-join-text Inv-loop μ-loop) → let k = c .before .before .before .before .before in let x = k .before .before .before .args in
     let d = drop (k .loop .at) (x .text .now) in
-    Represents (mergeRange (roomOf (x .ledger .now)) (pairsOf (k .loop .ledger)) (rangeOf (take (leading isNotComma d) d)) merged) (c .join-text .result) (c .join-text .last .1 .0)
+    Represents (mergeRange (capacity (x .ledger .now)) (pairsOf (k .loop .ledger)) (rangeOf (take (leading isNotComma d) d)) merged) (c .join-text .result) (c .join-text .last .1 .0)
 said c =
     let u = c .before .before .before in
     let k = u .before .before in
@@ -132,8 +132,8 @@ loop-again c =
       omega (arith, ends-le u),
       j .join-text .kept .1 .0 ∙ k .loop .inv .1,
       said j .done z .0,
-      ap (λ (n : ℕ). mergedFrom (roomOf (x .ledger .now)) (pairsOf (j .join-text .last .1 .0)) (parts (drop n s))) (sym e)
-          ∙ ap (λ (t : List ℕ). mergedFrom (roomOf (x .ledger .now)) (pairsOf (j .join-text .last .1 .0)) (parts t)) (sym (drop-drop (suc (leading isNotComma d)) (k .loop .at) s))
+      ap (λ (n : ℕ). mergedFrom (capacity (x .ledger .now)) (pairsOf (j .join-text .last .1 .0)) (parts (drop n s))) (sym e)
+          ∙ ap (λ (t : List ℕ). mergedFrom (capacity (x .ledger .now)) (pairsOf (j .join-text .last .1 .0)) (parts t)) (sym (drop-drop (suc (leading isNotComma d)) (k .loop .at) s))
           ∙ sym (walk-next _ _ _ d _ (said j) z h)
           ∙ k .loop .inv .3,
     )

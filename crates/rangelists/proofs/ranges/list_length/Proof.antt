@@ -5,7 +5,7 @@ use native.Mathlib.Omega.{arith}
 use borrow.Author.Needs.{needs}
 use lib.ListN.{length, getD, drop}
 use Rattle.ledger.specs.Ledger.{pairsOf}
-use Rattle.ledger.proofs.Opened.{pairs-unused, pairs-used, pairs-over}
+use Rattle.ledger.proofs.LedgerPairAt.{pairs-unused, pairs-used, pairs-over}
 use Rattle.rangelists.specs.RangeText.{rangesText}
 use Rattle.rangelists.proofs.RangeText.{listFrom, listFrom-none, listFrom-all, list-grows, comma-le}
 use Rattle.rangelists.proofs.ranges.list_length.Statement.{statement}

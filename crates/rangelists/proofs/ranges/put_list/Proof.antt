@@ -6,7 +6,7 @@ use lib.ListN.{length, getD, take, drop}
 use lib.Seq.{sets}
 use Rattle.ledger.specs.Pairs.{none, pair}
 use Rattle.ledger.specs.Ledger.{pairsOf}
-use Rattle.ledger.proofs.Opened.{pairs-unused, pairs-used, pairs-over}
+use Rattle.ledger.proofs.LedgerPairAt.{pairs-unused, pairs-used, pairs-over}
 use Rattle.rangelists.specs.RangeText.{comma, rangeText, rangesText}
 use Rattle.rangelists.proofs.RangeText.{listFrom, listFrom-none, listFrom-all, comma-fits, range-fits, list-left, list-put, next-all}
 use Rattle.rangelists.proofs.ranges.put_list.Statement.{statement}

@@ -5,8 +5,8 @@ use Prim.Native.Nat.{ℕ, _%_}
 use native.Mathlib.Omega.{arith}
 use borrow.Author.Needs.{needs}
 use lib.ListN.{length, replicate}
-use Rattle.ledger.specs.Ledger.{lengthWrong, pairsOf, roomOf}
-use Rattle.ledger.proofs.Sizes.{length-fits}
+use Rattle.ledger.specs.Ledger.{lengthWrong, pairsOf, capacity}
+use Rattle.ledger.proofs.LedgerSizes.{length-fits}
 use Rattle.rangelists.specs.RangeText.{rangesOf, Represents}
 use Rattle.rangelists.proofs.RangeReading.{reads-53, reads-trouble, reads-merged}
 use Rattle.rangelists.proofs.RangeMerging.{cleared-obeys, cleared-merged, obeyed-lent}
@@ -21,7 +21,7 @@ even c = length-fits (c .before .before .before .before .before .args .ledger .n
 
 -- the list was joined to a ledger of zeros
 said : (c : tie.After-join-list) → let e = c .before .before .before .before .before in let x = e .before .before .before .before .before .before .args in
-    Represents (rangesOf (roomOf (x .ledger .now)) (x .text .now)) (c .join-list .result) (c .join-list .last .1 .0)
+    Represents (rangesOf (capacity (x .ledger .now)) (x .text .now)) (c .join-list .result) (c .join-list .last .1 .0)
 said c =
     let r = c .before .before .before .before in
     let x = r .before .before .before .before .before .before .before .args in

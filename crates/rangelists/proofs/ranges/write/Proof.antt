@@ -3,7 +3,7 @@ use mathlib.Core.Path.{sym, ap, _∙_}
 use native.Mathlib.Omega.{arith}
 use borrow.Author.Needs.{needs}
 use Rattle.ledger.specs.Ledger.{pairsOf}
-use Rattle.ledger.proofs.Sizes.{length-fits}
+use Rattle.ledger.proofs.LedgerSizes.{length-fits}
 use Rattle.answers.specs.declared.written.Written.the-variants.{Bytes}
 use Rattle.ledger.proofs.LedgerRefusal.{refusal-zero}
 use Rattle.rangelists.proofs.RangeWriting.{number-refused, number-54, number-55, number-0}

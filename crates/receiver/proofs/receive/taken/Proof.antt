@@ -11,7 +11,7 @@ use Rattle.channels.specs.ChannelState.{writeBack}
 use Rattle.channels.specs.OtherChannels.{CountsOthers}
 use Rattle.channels.proofs.WriteBack.{write-back-verdict}
 use Rattle.channels.proofs.CountsOthers.{write-back-unchanged, counts-others}
-use Rattle.runs.specs.Runs.{bytesOn}
+use Rattle.runs.specs.Runs.{takeBytesOn}
 use Rattle.receiver.proofs.receive.taken.Statement.{statement}
 use Rattle.receiver.proofs.receive.taken.Tie as tie
 
@@ -74,7 +74,7 @@ returns c =
     let ledger = k .take .last .1 .1 .1 .1 .1 .0 in (
       ap (λ (u : Transfer). (took (k .take .result .taken), world u file ledger)) (c .write-back .ensures)
           ∙ k .take .ensures (x .t1) (others-counted a) (fits-out o)
-          ∙ ap (λ u. bytesOn (x .c) (world u (x .file .now) (x .ledger .now)) (x .piece .now) 0) (as-given o),
+          ∙ ap (λ u. takeBytesOn (x .c) (world u (x .file .now) (x .ledger .now)) (x .piece .now) 0) (as-given o),
       c .before .of2 .ensures ∙ sym (ap (λ u. verdictOf (world u file ledger)) (c .write-back .ensures) ∙ write-back-verdict (x .t1) (x .c) (a .counts-without .result) (others-counted a) (k .take .result .channel) file ledger),
     )
 

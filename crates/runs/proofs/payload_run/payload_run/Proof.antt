@@ -6,7 +6,7 @@ use borrow.Author.Needs.{needs}
 use lib.Dec.{eqb}
 use lib.ListN.{length}
 use Rattle.transfer.specs.Transfer.{world}
-use Rattle.transfer.specs.Receive.{opens}
+use Rattle.transfer.specs.Receive.{beginPayload}
 use Rattle.copies.proofs.CopiedBytes.{stored-is-written}
 use Rattle.channels.specs.ChannelState.{numbers, writeBack}
 use Rattle.channels.proofs.WriteBack.{write-back-at}
@@ -55,7 +55,7 @@ returns c =
           stored-run-of (writeBack t (x .c) (x .x)) (x .file .now) _ (x .c) (numbers (x .x)) k (x .piece .now) m (a .below) (s .pre .0) (s .pre .1) b i (n .lesser .ensures)
           (y .store .ensures ∙ stored-is-written (x .x .next) m (x .piece .now) (x .file .now) (omega (arith, n .lesser .ensures)) (omega (arith, n .lesser .ensures, i)))
           (writeBack t (x .c) (o .«open» .result .channel)) (o .«open» .result .continues)
-          (λ f l. o .«open» .ensures b t f l a ∙ ap (λ z. opens (world (writeBack t (x .c) (x .x)) f l) (x .c) z (x .x .left - m) (eqb (x .x .state) 3)) q) ledger e,
+          (λ f l. o .«open» .ensures b t f l a ∙ ap (λ z. beginPayload (world (writeBack t (x .c) (x .x)) f l) (x .c) z (x .x .left - m) (eqb (x .x .state) 3)) q) ledger e,
     )
 
 pub payload-run-spec : {M : Type 1} → statement M

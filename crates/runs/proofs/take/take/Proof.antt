@@ -9,12 +9,12 @@ use lib.ListN.{length, take, drop, length-drop, drop-of-length-le}
 use lib.Seq.{take-all}
 use Rattle.transfer.specs.declared.state.Transfer.{Transfer}
 use Rattle.transfer.specs.Transfer.{World, world}
-use Rattle.transfer.specs.Receive.{byteOf}
+use Rattle.transfer.specs.Receive.{takeByte}
 use Rattle.transfer.specs.Fit.{fits}
-use Rattle.transfer.proofs.Pieces.{bytes-none}
+use Rattle.transfer.proofs.ReceivePieces.{bytes-none}
 use Rattle.channels.specs.ChannelState.{writeBack}
 use Rattle.channels.specs.OtherChannels.{CountsOthers}
-use Rattle.runs.specs.Runs.{bytesOn, RunOf}
+use Rattle.runs.specs.Runs.{takeBytesOn, RunOf}
 use Rattle.runs.proofs.CallRuns.{further, stopped, still-fits}
 use Rattle.runs.proofs.take.take.Statement.{statement}
 use Rattle.runs.proofs.take.take.Tie as tie
@@ -29,7 +29,7 @@ Inv-loop c o piece file₀ ledger₀ y₀ i₀ file ledger y i =
     × (length file ≡ length file₀)
     × (length ledger ≡ length ledger₀)
     × ((t : Transfer) → CountsOthers t c o → fits (world (writeBack t c y₀) file₀ ledger₀) ≡ true
-    → (fits (world (writeBack t c y) file ledger) ≡ true) × (bytesOn c (world (writeBack t c y₀) file₀ ledger₀) piece 0 ≡ bytesOn c (world (writeBack t c y) file ledger) (drop i piece) i))
+    → (fits (world (writeBack t c y) file ledger) ≡ true) × (takeBytesOn c (world (writeBack t c y₀) file₀ ledger₀) piece 0 ≡ takeBytesOn c (world (writeBack t c y) file ledger) (drop i piece) i))
 
 abbrev μ-loop : tie.MeasureT-loop
 μ-loop c o piece file₀ ledger₀ y₀ i₀ file ledger y i = length piece - i
@@ -134,7 +134,7 @@ returns-2 : tie.Need-returns-2 Inv-loop μ-loop
 returns-2 c t a f =
     let l = c .before in
     let x = l .before .before .before .before .args in
-    sym (l .loop .inv .3 t a f .1 ∙ ap (λ p. bytesOn (x .c) (reached l t) p (l .loop .i)) (drop-of-length-le (x .piece .now) (c .loop-test .left)) ∙ bytes-none (λ v b. byteOf v (x .c) b) (reached l t) (l .loop .i))
+    sym (l .loop .inv .3 t a f .1 ∙ ap (λ p. takeBytesOn (x .c) (reached l t) p (l .loop .i)) (drop-of-length-le (x .piece .now) (c .loop-test .left)) ∙ bytes-none (λ v b. takeByte v (x .c) b) (reached l t) (l .loop .i))
 
 pub take-spec : {M : Type 1} → statement M
 take-spec =

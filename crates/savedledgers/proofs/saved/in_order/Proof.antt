@@ -7,7 +7,7 @@ use native.Mathlib.Nat.{sub-zero}
 use borrow.Author.Needs.{needs}
 use borrow.Author.Tests.{not-true, not-false}
 use lib.ListN.{length, drop}
-use Rattle.ledger.proofs.Opened.{lowest, follows-less}
+use Rattle.ledger.proofs.LedgerPairAt.{lowest, follows-less}
 use Rattle.ledger.specs.Pairs.{isRuled}
 use Rattle.savedledgers.specs.Saved.{pairsIn}
 use Rattle.savedledgers.proofs.SavedBody.{isRuled-turn, isRuled-next}

@@ -8,7 +8,7 @@ use borrow.Author.Tests.{not-true, not-false}
 use lib.ListN.{length, take, drop, length-drop}
 use lib.Seq.{take-all}
 use Rattle.ledger.specs.Ledger.{lengthWrong}
-use Rattle.ledger.proofs.Sizes.{length-fits}
+use Rattle.ledger.proofs.LedgerSizes.{length-fits}
 use Rattle.ledger.specs.Pairs.{isRuled}
 use Rattle.savedledgers.specs.Saved.{kindOne, frameLength, frameNumber, bodyOf, pairLength, savedPairs}
 use Rattle.answers.specs.declared.loaded.Loaded.the-variants.{Refused}

@@ -5,7 +5,7 @@ use native.Mathlib.Omega.{arith}
 use lib.ListN.{length, drop}
 use Rattle.ledger.specs.Pairs.{size}
 use Rattle.ledger.specs.Ledger.{pairsOf}
-use Rattle.ledger.proofs.Opened.{pairs-unused, pairs-used, pairs-over}
+use Rattle.ledger.proofs.LedgerPairAt.{pairs-unused, pairs-used, pairs-over}
 use Rattle.savedledgers.proofs.saved.used_pairs.Statement.{statement}
 use Rattle.savedledgers.proofs.saved.used_pairs.Tie as tie
 

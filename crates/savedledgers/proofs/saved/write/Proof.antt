@@ -7,8 +7,8 @@ use borrow.Author.Needs.{needs}
 use lib.ListN.{length, length-take}
 use Rattle.ledger.specs.Pairs.{size}
 use Rattle.ledger.specs.Ledger.{lengthWrong, obeys, pairsOf}
-use Rattle.ledger.proofs.Sizes.{length-fits}
-use Rattle.ledger.proofs.Lents.{size-pairsOf}
+use Rattle.ledger.proofs.LedgerSizes.{length-fits}
+use Rattle.ledger.proofs.LedgerLayout.{size-pairsOf}
 use Rattle.ledger.proofs.LedgerRefusal.{refusal-zero}
 use Rattle.savedledgers.specs.Saved.{savedOf, writeSaved, writeSavedAfter}
 use Rattle.answers.specs.declared.written.Written.the-variants.{Bytes}

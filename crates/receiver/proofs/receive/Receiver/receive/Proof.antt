@@ -9,7 +9,7 @@ use Rattle.transfer.specs.Channel.{channelAt}
 use Rattle.transfer.specs.Transfer.{World, world, verdictOf}
 use Rattle.transfer.specs.Receive.{refusalOf}
 use Rattle.transfer.specs.Fit.{fits}
-use Rattle.runs.specs.Runs.{bytesOn}
+use Rattle.runs.specs.Runs.{takeBytesOn}
 use Rattle.receiver.specs.declared.receive.Answer.{Answer}
 use Rattle.receiver.specs.Answers.{answerOf}
 use Rattle.receiver.proofs.Refusal.{found-counts, is-refused, is-taken, not-refused, some-is}
@@ -93,7 +93,7 @@ returns-2 c =
     let e = k .before .before .before in
     let r = e .before in
     let x = begun r .args in (
-      k .taken .ensures .0 ∙ ap (λ i. bytesOn i (given r) (x .piece .now) 0) (r .before .before .channel-index .ensures .1 (may e .1)) ∙ is-taken (given r) (x .channel) (x .piece .now) (not-refused-is e),
+      k .taken .ensures .0 ∙ ap (λ i. takeBytesOn i (given r) (x .piece .now) 0) (r .before .before .channel-index .ensures .1 (may e .1)) ∙ is-taken (given r) (x .channel) (x .piece .now) (not-refused-is e),
       k .taken .ensures .1,
     )
 

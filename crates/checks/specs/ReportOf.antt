@@ -1,0 +1,16 @@
+-- What FIT counts on its way: where transfer and ledger fit, the channels not unused and those that have ended; where they don't, nothing.
+use Prim.Native.Nat.{ℕ}
+use mathlib.Core.Bool.{cond}
+use mathlib.Core.List.{List}
+use lib.Dec.{eqb}
+use Rattle.transfer.specs.declared.state.Transfer.{Transfer}
+use Rattle.transfer.specs.Fit.{fitsLedger}
+use Rattle.channelchecks.specs.declared.report.FitReport.{FitReport}
+use Rattle.channelchecks.specs.FitReport.{unfit, reportWhere}
+
+unfoldable pub reportOf : Transfer → List ℕ → FitReport
+reportOf t claimed = reportWhere (fitsLedger t claimed) t
+
+-- for a file of so many bytes
+unfoldable pub reportIn : ℕ → Transfer → List ℕ → FitReport
+reportIn file t claimed = cond (eqb file (t .len)) (reportOf t claimed) unfit

@@ -1,0 +1,83 @@
+-- The screen line's example is a well-formed sending, and its three calls are an arrival of it.
+use Prim.Native.Nat.{ℕ, zero, suc, _+_, _≤_}
+use mathlib.Core.Path.{_≡_, refl}
+use native.Mathlib.Omega.{arith}
+use native.Mathlib.Decide.{ℕ-discrete}
+use borrow.Author.Tests.{eq-eqb, ne-eqb}
+use lib.ListN.{replicate}
+use Rattle.octets.specs.Digits.{fromLittle, fromBig, toLittle, toBig}
+use Rattle.ledger.specs.Pairs.{none, size, inRange, contains}
+use Rattle.ledger.proofs.PairsPlaces.{Where, under, within, past, stand}
+use Rattle.eblock.specs.Descriptor.{has, faultOf}
+use Rattle.eblock.specs.Header.{secondOf, thirdOf, headerBytes}
+use Rattle.transfer.specs.Transfer.{sum}
+use Rattle.transfer.specs.Header.{payloadLength}
+use Rattle.transfer.specs.Calls.{begun}
+use Rattle.transfer.specs.Block.{blockBytes, countsIn}
+use Rattle.transfer.specs.AfterList.{Begun}
+use Rattle.transfer.specs.Sending.{sentBlocks, timesSentOn, payloadsHolding, WellFormed, sentOn, piecesOn, Arrival}
+use Rattle.transfer.specs.Example.{plaid, calls}
+use Rattle.transfer.proofs.Start.{every-start-begins}
+
+once : (c : ℕ) → timesSentOn c plaid ≤ 1
+unfolding sum
+once c = go (ℕ-discrete 0 c) (ℕ-discrete 1 c)
+  where
+    go : Dec (0 ≡ c) → Dec (1 ≡ c) → timesSentOn c plaid ≤ 1
+    go (yes a) (yes b) = absurd (omega (arith, a, b))
+    go (yes a) (no b) = rw (eq-eqb 0 c a, ne-eqb 1 c b) (omega arith)
+    go (no a) (yes b) = rw (ne-eqb 0 c a, eq-eqb 1 c b) (omega arith)
+    go (no a) (no b) = rw (ne-eqb 0 c a, ne-eqb 1 c b) (omega arith)
+
+apart : (p : ℕ) → payloadsHolding p (sentBlocks plaid) + contains p none ≤ 1
+unfolding sum sentBlocks contains payloadLength secondOf thirdOf headerBytes fromBig fromLittle toBig toLittle has
+apart p = go (stand 0 4 p) (stand 2 2 p) (stand 4 8 p)
+  where
+    go : Where 0 4 p → Where 2 2 p → Where 4 8 p → inRange 0 4 p + (inRange 2 2 p + (inRange 4 8 p + 0)) + 0 ≤ 1
+    go a (within x y e) c = absurd (omega arith)
+    go (under a b) (under x e) c = absurd (omega arith)
+    go (under a b) (past x y e) c = absurd (omega arith)
+    go (within a b d) (under x e) (within x′ y′ e′) = absurd (omega arith)
+    go (within a b d) (under x e) (under x′ e′) = omega arith
+    go (within a b d) (under x e) (past x′ y′ e′) = omega arith
+    go (within a b d) (past x y e) (within x′ y′ e′) = absurd (omega arith)
+    go (within a b d) (past x y e) (under x′ e′) = omega arith
+    go (within a b d) (past x y e) (past x′ y′ e′) = omega arith
+    go (past a b d) (under x e) (within x′ y′ e′) = omega arith
+    go (past a b d) (under x e) (under x′ e′) = omega arith
+    go (past a b d) (under x e) (past x′ y′ e′) = omega arith
+    go (past a b d) (past x y e) (within x′ y′ e′) = omega arith
+    go (past a b d) (past x y e) (under x′ e′) = omega arith
+    go (past a b d) (past x y e) (past x′ y′ e′) = omega arith
+
+pub well-formed : WellFormed 8 2 none plaid
+unfolding sum sentBlocks countsIn size payloadLength secondOf thirdOf headerBytes fromBig fromLittle toBig toLittle has faultOf
+well-formed =
+    record {
+      some = omega arith;
+      few = omega arith;
+      once = once;
+      each = (
+        record {
+          channel = omega arith;
+          each = (
+            record { seventeen = refl; accepted = refl; whole = refl; inside = λ h. omega arith },
+            (record { seventeen = refl; accepted = refl; whole = refl; inside = λ h. omega arith }, tt),
+          );
+          ends = (refl, refl);
+        },
+        (record { channel = omega arith; each = (record { seventeen = refl; accepted = refl; whole = refl; inside = λ h. omega arith }, tt); ends = refl }, tt),
+      );
+      one-count = refl;
+      apart = apart;
+      room = omega arith;
+    }
+
+pub arrival : Arrival plaid calls
+unfolding sentOn piecesOn blockBytes headerBytes toBig toLittle
+arrival zero = refl
+arrival (suc zero) = refl
+arrival (suc (suc c)) = rw (ne-eqb 0 (suc (suc c)) (λ e. omega arith), ne-eqb 1 (suc (suc c)) (λ e. omega arith))
+
+pub begins : Begun (begun (replicate 8 0) (replicate 4 7)) (replicate 8 0) 2 none
+begins = every-start-begins (replicate 8 0) (replicate 4 7) refl (omega arith)

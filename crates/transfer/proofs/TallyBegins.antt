@@ -1,0 +1,73 @@
+-- The beginning: an accepted start leaves the world of the empty tally, for which the invariant holds.
+use Prim.Native.Nat.{ℕ, zero, suc, _*_, _%_, _≤_, zero-le}
+use mathlib.Core.Path.{_≡_, refl, ap, _∙_}
+use mathlib.Core.List.{List, []}
+use native.Mathlib.Omega.{arith}
+use native.Mathlib.Decide.{decLe, ℕ-discrete}
+use lib.ListN.{length, replicate}
+use Rattle.ledger.specs.Pairs.{Pairs, none, size, contains, Ruled, endsAtMost}
+use Rattle.ledger.specs.Ledger.{entryLimit, capacity, laidOut}
+use Rattle.transfer.specs.Channel.{channelCount, stateNumber, heldNumber, nextNumber, leftNumber, heldBytes, numbersOf}
+use Rattle.transfer.specs.Transfer.{sum, World, world, fresh, startNumber}
+use Rattle.transfer.specs.Fit.{pairLimit}
+use Rattle.transfer.specs.Calls.{begun}
+use Rattle.transfer.specs.Block.{cutBy, countsIn, claimsIn, withPayloads}
+use Rattle.transfer.specs.Tally.{intact, accepted, blocksOf, empty}
+use Rattle.transfer.specs.AfterList.{Begun, fresh-start}
+use Rattle.transfer.specs.StateFrom.{stateFrom}
+use Rattle.transfer.proofs.Start.{start}
+use Rattle.transfer.proofs.ChannelBytes.{no-byte}
+use Rattle.transfer.proofs.TallyStreams.{AllProper}
+use Rattle.transfer.proofs.TallyTransfer.{rowOf, headsOf, transferOf, worldOf}
+use Rattle.transfer.proofs.TallyInvariant.{unknown, no-fault, AllSound, Invariant}
+
+proper-empty : (n : ℕ) → AllProper (replicate n (intact []))
+proper-empty zero = tt
+proper-empty (suc n) = (no-byte refl, proper-empty n)
+
+pub intact-empty : (n : ℕ) → AllSound (replicate n (intact []))
+intact-empty zero = tt
+intact-empty (suc n) = (refl, intact-empty n)
+
+pub invariant-empty : (F R : ℕ) → Invariant F R none empty
+unfolding empty blocksOf accepted cutBy claimsIn countsIn sum size endsAtMost contains
+invariant-empty F R =
+    record {
+      number = refl;
+      proper = proper-empty channelCount;
+      clean = λ z. intact-empty channelCount;
+      apart = λ q. omega arith;
+      ends = refl;
+      room = zero-le;
+      count = unknown refl;
+      fault = no-fault refl refl;
+      headers = refl;
+    }
+
+laidOut-none : (r : ℕ) → replicate (2 * r) 0 ≡ laidOut r none
+unfolding laidOut
+laidOut-none zero = refl
+laidOut-none (suc r) = let e : 2 * suc r ≡ suc (suc (2 * r)) = omega arith in rw (e, laidOut-none r)
+
+world-empty : (file : List ℕ) (R : ℕ) → world (fresh (length file) R) file (laidOut R none) ≡ worldOf (length file) R none file empty
+unfolding worldOf transferOf fresh empty blocksOf accepted cutBy claimsIn countsIn withPayloads headsOf rowOf stateFrom numbersOf stateNumber heldNumber heldBytes nextNumber leftNumber
+world-empty file R = refl
+
+pub begun-is : (file claimed : List ℕ) → startNumber claimed ≡ 0 → (capacity claimed ≤ pairLimit) × (begun file claimed ≡ worldOf (length file) (capacity claimed) none file empty)
+unfolding begun
+begun-is file claimed h = go (ℕ-discrete (length claimed % 2) 0) (decLe (length claimed) entryLimit)
+  where
+    go : Dec (length claimed % 2 ≡ 0) → Dec (length claimed ≤ entryLimit) → (capacity claimed ≤ pairLimit) × (begun file claimed ≡ worldOf (length file) (capacity claimed) none file empty)
+    go (no e) l = absurd (omega (arith, h, start .odd (length file) claimed e .0))
+    go (yes e) (no l) = absurd (omega (arith, h, start .long (length file) claimed (omega arith) .0))
+    go (yes e) (yes l) =
+        let a = start .accepted (length file) claimed e l in
+        let n : length claimed ≡ 2 * capacity claimed = omega (arith, e) in (
+          omega (arith, l),
+          rw (a .1, a .2) (ap (world (fresh (length file) (capacity claimed)) file) (ap (λ n. replicate n 0) n ∙ laidOut-none (capacity claimed)) ∙ world-empty file (capacity claimed)),
+        )
+
+-- whatever the ledger held before
+pub begins : (w : World) (file : List ℕ) (R : ℕ) (before : Pairs) → Begun w file R before
+    → Ruled 0 before × (R ≤ pairLimit) × Invariant (length file) R before empty × (w ≡ worldOf (length file) R before file empty)
+begins w file R before (fresh-start f ledger e) = (tt, begun-is f ledger e .0, invariant-empty (length f) (capacity ledger), begun-is f ledger e .1)
