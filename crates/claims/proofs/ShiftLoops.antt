@@ -42,9 +42,9 @@ up-filled l i e a b h g =
     (sets-eq (a ∷ b ∷ []) (take (i + 2) l ++ t) i k
     ∙ rw (drop-at (take (i + 2) l) t (i + 2) n, take-append-le i (take (i + 2) l) t m, take-take i (i + 2) l q) (append-assoc (take i l) (a ∷ b ∷ []) t))
 
--- ---- down: a copy of later entries over earlier ones, read behind what is written
+-- ---- down: a copy of later entries over earlier ones, read ahead of what is written
 
--- an entry at or behind the place that is written next still stands
+-- an entry at or after the place that is written next is still there
 down-at : (l : List ℕ) (to from n : ℕ) → to ≤ from → from + n < length l → getD (paste l to (drop from l) n) (from + n) 0 ≡ getD (drop from l) n 0
 down-at l to from n h g =
     let p = take to l ++ take n (drop from l) in
@@ -66,7 +66,7 @@ down-more l now to from k j h g e is at =
     ap (λ q. getD (paste l to (drop from l) n) q 0) k₁ ∙ down-at l to from n h (omega arith) in
     rw (is, at, r, m) (paste-suc l to (drop from l) n 0 (omega arith) d)
 
--- the entries that were left behind cleared
+-- the entries that were left cleared
 pub down-cleared : (l : List ℕ) (to from end k : ℕ) → to ≤ from → from ≤ end → end ≤ length l → k ≡ end - (to + (end - from))
     → putMid (to + (end - from)) k (movedDown l to from end) (replicate k 0) ≡ closed l to from end
 unfolding movedDown closed

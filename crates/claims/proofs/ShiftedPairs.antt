@@ -14,7 +14,7 @@ use Rattle.ledger.proofs.LedgerLayout.{length-laidOut}
 use Rattle.ledger.proofs.PairsJoinSlot.{rest, splice}
 use Rattle.ledger.proofs.PairsAsNumbers.{flat, length-flat, laidOut-flat, flat-rest, flat-splice, size-rest, size-splice}
 
--- the zeros behind the used pairs
+-- the zeros after the used pairs
 abbrev zerosBehind : ℕ → Pairs → List ℕ
 zerosBehind r ps = replicate (2 * (r - size ps)) 0
 

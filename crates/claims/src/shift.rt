@@ -35,7 +35,7 @@ fn move_down(ledger: &mut [u64], to: usize, from: usize, end: usize)
     }
 }
 
-// Takes out the entries from `to` up to `from`: those up to end move down, and zeros stand in their place.
+// Takes out the entries from `to` up to `from`: those up to end move down, and zeros take their place.
 //
 //     .. to ++ from ..... end ..        .. to from ..... 0 0 end ..
 pub fn close(ledger: &mut [u64], to: usize, from: usize, end: usize)

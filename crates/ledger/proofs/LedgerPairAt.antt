@@ -39,7 +39,7 @@ pairs-over l i h = go (drop i l) (omega (arith, length-drop i l))
 
 -- ---- the rule and the ends, tested together
 
--- the least place at which a pair may start behind one that ends at `end`, 0 where there is none before it
+-- the least place at which a pair may start after one that ends at `end`, 0 where there is none before it
 abbrev pub lowest : ℕ → ℕ
 lowest end = cond (eqb end 0) 0 (suc end)
 

@@ -150,9 +150,9 @@ held-places p lo k (a ∷ b ∷ rest) h x y = go (rule-first lo a b rest h) k x 
     go (used u v w) (suc k) x y i =
         rw (ne-eqb b 0 (λ q. omega arith)) (omega (arith, i k w (rw (even-on k) at x) (rw (odd-on k) at y), inRange-le a b p))
 
-pub holds-places : (p : ℕ) (l : List ℕ) → obeys l ≡ true → (contains p (pairsOf l) ≡ 1) ↔ Contains p l
+pub contains-places : (p : ℕ) (l : List ℕ) → obeys l ≡ true → (contains p (pairsOf l) ≡ 1) ↔ Contains p l
 unfolding obeys
-holds-places p l o = (places-held p 0 l o, λ w. held-places p 0 (w .0) l o (w .1) (w .2))
+contains-places p l o = (places-held p 0 l o, λ w. held-places p 0 (w .0) l o (w .1) (w .2))
 
 pub only-one : (r : ℕ) (l m : List ℕ) → length l ≡ 2 * r → length m ≡ 2 * r → obeys l ≡ true → obeys m ≡ true → ((p : ℕ) → Contains p l ↔ Contains p m) → l ≡ m
 unfolding obeys
@@ -163,6 +163,6 @@ only-one r l m n k o q h =
     same p = go (ℕ-discrete (contains p (pairsOf l)) 1) (ℕ-discrete (contains p (pairsOf m)) 1)
       where
         go : Dec (contains p (pairsOf l) ≡ 1) → Dec (contains p (pairsOf m) ≡ 1) → contains p (pairsOf l) ≡ contains p (pairsOf m)
-        go (yes x) d = x ∙ sym (holds-places p m q .1 (h p .0 (holds-places p l o .0 x)))
-        go (no x) (yes y) = absurd (x (holds-places p l o .1 (h p .1 (holds-places p m q .0 y))))
+        go (yes x) d = x ∙ sym (contains-places p m q .1 (h p .0 (contains-places p l o .0 x)))
+        go (no x) (yes y) = absurd (x (contains-places p l o .1 (h p .1 (contains-places p m q .0 y))))
         go (no x) (no y) = omega (arith, holds-le p (pairsOf l), holds-le p (pairsOf m))

@@ -16,7 +16,7 @@ ledgers =
       lengths = λ l. (length-fits l, λ h. length-right l (h .0) (h .1));
       test-is-rule = LedgerRule.test-is-rule;
       odd-breaks = LedgerOdd.odd-breaks;
-      holds-places = LedgerRule.holds-places;
+      contains-places = LedgerRule.contains-places;
       only-one = LedgerRule.only-one;
       bytes-are-places = λ f ps c h. total-held f 0 ps c h;
       join-union = λ s e p ps h c. join-holds s e 0 p ps h c;
@@ -24,6 +24,6 @@ ledgers =
       join-needs = join-size;
       join-only = λ s e ps qs h c d u. ruled-unique 0 qs (join s e ps) d (join-ruled s e 0 ps h (omega arith) c) (λ p. u p ∙ sym (join-holds s e 0 p ps h c));
       join-adds = λ s e ps h c n. join-total s e 0 ps h (omega arith) c (λ p. shares-none s e p ps n);
-      shares-place = λ s e ps h c. (λ n p. shares-none s e p ps n, none-shares s e 0 ps h c);
+      overlaps-place = λ s e ps h c. (λ n p. shares-none s e p ps n, none-shares s e 0 ps h c);
       inside-places = λ s e ps h c. (inside-held s e ps, held-inside s e 0 ps h c);
     }

@@ -1,4 +1,4 @@
--- Pairs as a plain run of numbers, and the ledger as such a run with zeros behind it.
+-- Pairs as a plain run of numbers, and the ledger as such a run with zeros after it.
 use Prim.Native.Nat.{ℕ, zero, suc, _+_, _*_, _-_, _≤_}
 use mathlib.Core.Path.{_≡_, refl, ap}
 use mathlib.Core.Bool.{Bool, true, false, cond}

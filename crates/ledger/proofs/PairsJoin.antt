@@ -9,7 +9,7 @@ use lib.Dec.{leb, ltb}
 use Rattle.ledger.specs.Pairs.{Pairs, none, pair, size, inRange, contains, Ruled, join, endsAtMost}
 use Rattle.ledger.proofs.PairsPlaces.{inRange-in, inRange-under, inRange-past, Where, under, within, past, stand, ruled-down}
 
--- ---- how a range stands to a pair
+-- ---- where a range is relative to a pair
 
 pub data Stands (s e a b : ℕ) : Type 0 where
   before : e < a → ltb e a ≡ true → Stands s e a b

@@ -17,7 +17,7 @@ rest zero ps = ps
 rest (suc k) none = none
 rest (suc k) (pair a b ps) = rest k ps
 
--- the first k pairs of ps, and qs behind them
+-- the first k pairs of ps, and qs after them
 unfoldable pub splice : ℕ → Pairs → Pairs → Pairs
 splice zero ps qs = qs
 splice (suc k) none qs = qs

@@ -1,4 +1,4 @@
--- Places: where one stands to a range, and which places pairs hold. That a place is held is the number 1, that it is not is 0, so
+-- Places: where one is relative to a range, and which places pairs hold. That a place is held is the number 1, that it is not is 0, so
 -- that a union is `max`, sharing no place is a sum of at most 1, and `omega` does the rest.
 use Prim.Native.Nat.{ℕ, suc, _≤_, _<_}
 use mathlib.Core.Path.{_≡_, refl}
@@ -23,7 +23,7 @@ pub inRange-past : (a b p : ℕ) → b ≤ p → inRange a b p ≡ 0
 unfolding inRange
 inRange-past a b p h = rw (le-ltb p b h, and-false (leb a p))
 
--- where p stands to the range from a to b
+-- where p is relative to the range from a to b
 pub data Where (a b p : ℕ) : Type 0 where
   under : p < a → inRange a b p ≡ 0 → Where a b p
   within : a ≤ p → p < b → inRange a b p ≡ 1 → Where a b p

@@ -31,10 +31,10 @@ unfoldable pub rule : ℕ → List ℕ → Bool
 rule lo [] = true
 rule lo (a ∷ []) = false
 rule lo (a ∷ b ∷ rest) =
-    let behind = rule (suc b) rest in
-    cond (eqb b 0) (eqb a 0 && (zeros rest && eqb (length rest % 2) 0)) (leb lo a && (ltb a b && behind))
+    let following = rule (suc b) rest in
+    cond (eqb b 0) (eqb a 0 && (zeros rest && eqb (length rest % 2) 0)) (leb lo a && (ltb a b && following))
 
--- the pair (a, b) may stand behind one that ends at `end`, 0 where there is none before it
+-- the pair (a, b) may come after one that ends at `end`, 0 where there is none before it
 abbrev pub mayFollow : ℕ → ℕ → ℕ → Bool
 mayFollow end a b = (eqb end 0 || ltb end a) && ltb a b
 
@@ -50,8 +50,8 @@ unfoldable pub pairsOf : List ℕ → Pairs
 pairsOf [] = none
 pairsOf (a ∷ []) = none
 pairsOf (a ∷ b ∷ rest) =
-    let behind = pairsOf rest in
-    cond (eqb b 0) none (pair a b behind)
+    let following = pairsOf rest in
+    cond (eqb b 0) none (pair a b following)
 
 -- a ledger of r pairs with these used ones, and zeros after them
 unfoldable pub laidOut : ℕ → Pairs → List ℕ

@@ -10,7 +10,7 @@ use Rattle.ledger.specs.Ledger.{lengthWrong, obeys, pairsOf, Contains}
 
 -- the ledger rule in document 01's words, for a ledger of r pairs
 pub record Obeys (r : ℕ) (l : List ℕ) : Type 0 where
-  -- how many pairs are used: they stand first
+  -- how many pairs are used: they come first
   pub used : ℕ
   pub room : used ≤ r
   pub ordered : (i : ℕ) → i < used → getD l (2 * i) 0 < getD l (2 * i + 1) 0
@@ -30,7 +30,7 @@ pub record Ledgers : Type 0 where
   -- an odd number of entries breaks it, whatever they are
   pub odd-breaks : (l : List ℕ) → length l % 2 ≢ 0 → obeys l ≡ false
   -- the places of the used pairs are those that the ledger holds
-  pub holds-places : (p : ℕ) (l : List ℕ) → obeys l ≡ true → (contains p (pairsOf l) ≡ 1) ↔ Contains p l
+  pub contains-places : (p : ℕ) (l : List ℕ) → obeys l ≡ true → (contains p (pairsOf l) ≡ 1) ↔ Contains p l
   -- of all ledgers of its length that obey the rule it is the only one with its places
   pub only-one : (r : ℕ) (l m : List ℕ) → length l ≡ 2 * r → length m ≡ 2 * r → obeys l ≡ true → obeys m ≡ true → ((p : ℕ) → Contains p l ↔ Contains p m) → l ≡ m
   -- its number of bytes is the number of places that it holds
@@ -43,5 +43,5 @@ pub record Ledgers : Type 0 where
   -- a range that shares no place adds its bytes
   pub join-adds : (s e : ℕ) (ps : Pairs) → s < e → Ruled 0 ps → overlaps s e ps ≡ false → total (join s e ps) ≡ (e - s) + total ps
   -- sharing is a common place, and lying inside one pair is that every place is held
-  pub shares-place : (s e : ℕ) (ps : Pairs) → s < e → Ruled 0 ps → (overlaps s e ps ≡ false) ↔ ((p : ℕ) → inRange s e p + contains p ps ≤ 1)
+  pub overlaps-place : (s e : ℕ) (ps : Pairs) → s < e → Ruled 0 ps → (overlaps s e ps ≡ false) ↔ ((p : ℕ) → inRange s e p + contains p ps ≤ 1)
   pub inside-places : (s e : ℕ) (ps : Pairs) → s < e → Ruled 0 ps → (inside s e ps ≡ true) ↔ ((p : ℕ) → s ≤ p → p < e → contains p ps ≡ 1)

@@ -40,9 +40,9 @@ isRuled lo (pair a b ps) = leb lo a && (ltb a b && isRuled (suc b) ps)
 unfoldable pub join : ℕ → ℕ → Pairs → Pairs
 join s e none = pair s e none
 join s e (pair a b ps) =
-    let behind = join s e ps in
+    let following = join s e ps in
     let wider = join (min s a) (max e b) ps in
-    cond (ltb e a) (pair s e (pair a b ps)) (cond (ltb b s) (pair a b behind) wider)
+    cond (ltb e a) (pair s e (pair a b ps)) (cond (ltb b s) (pair a b following) wider)
 
 -- the range from s to e shares a place with one of the pairs
 unfoldable pub overlaps : ℕ → ℕ → Pairs → Bool

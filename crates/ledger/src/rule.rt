@@ -46,7 +46,7 @@ fn zero_pairs(entries: &[u64]) -> bool
     entries.len() % 2 == 0
 }
 
-// Whether the pair (a, b) may stand behind one that ends at end; an end of 0 says that there is none before it.
+// Whether the pair (a, b) may come after one that ends at end; an end of 0 says that there is none before it.
 pub fn may_follow(end: u64, a: u64, b: u64) -> bool
     ensures { λ r. ⌜ r ≡ mayFollow end a b ⌝ }
 {

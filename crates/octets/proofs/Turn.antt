@@ -37,8 +37,8 @@ take-eight s i e =
 
 -- ---- writing
 
--- f w n writes n in w digits: its last digit is that of n % B, and what stands before it writes n / B. One turn stores the digit
--- before those that stand written, so that what is still to be written and what stands written are the same whole.
+-- f w n writes n in w digits: its last digit is that of n % B, and what is before it writes n / B. One turn stores the digit
+-- before those that are written, so that what is still to be written and what is written are the same whole.
 pub backwards : (f : ℕ → ℕ → List ℕ) (B : ℕ) (digit : ℕ → ℕ) → ((w n : ℕ) → f (suc w) n ≡ f w (n / B) ++ (digit (n % B) ∷ []))
     → (out : List ℕ) (i m : ℕ) → 0 < i → i ≤ length out
     → f (i - 1) (m / B) ++ drop (i - 1) (set out (i - 1) (digit (m % B))) ≡ f i m ++ drop i out
@@ -51,6 +51,6 @@ backwards f B digit last out i m h g =
     rw (set-split out j v l, drop-at (take j out) (v ∷ drop (suc j) out) j n)
     (sym (append-snoc (f j (m / B)) v (drop (suc j) out)) ∙ rw (← last j m) (ap (λ k. f k m ++ drop k out) (sym e)))
 
--- v stored at j, behind what stands before j
+-- v stored at j, after what is before j
 pub stored-after : (p out : List ℕ) (v j : ℕ) → j < length out → take (suc j) (set out j v) ++ p ≡ take j out ++ (v ∷ p)
 stored-after p out v j h = rw (take-suc-set out j v) (append-snoc (take j out) v p)

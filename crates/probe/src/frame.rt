@@ -1,4 +1,4 @@
-// Requests, as they stand on standard input: four bytes of length, then the kind and the body.
+// Requests, as they are on standard input: four bytes of length, then the kind and the body.
 use crate::part;
 use libc::STDIN_FILENO;
 use octets::little;

@@ -24,7 +24,7 @@ parts-last (b ∷ bs) h = go (eqb b 44) refl (parts-last bs)
         let z : suc (leading isNotComma bs) ≡ suc (length bs) = rw e at h in
         rw (i (omega arith))
 
--- else what stands before the first comma is the first part
+-- else what comes before the first comma is the first part
 pub parts-next : (text : List ℕ) → leading isNotComma text < length text → parts text ≡ take (leading isNotComma text) text ∷ parts (drop (suc (leading isNotComma text)) text)
 unfolding leading parts prependToFirst
 parts-next [] h = absurd (omega arith)

@@ -130,7 +130,7 @@ module _ (F R : ℕ) (before : Pairs) (file : List ℕ) (ruled : Ruled 0 before)
         ended-is = unfold worldOf in ended-is F R t (i .proper);
         ledger-is = unfold worldOf in ledger-is R before (blocksOf (t .streams)) ruled (i .apart) (i .room);
         channels-are = λ c h. unfold worldOf in state-is F R t c (i .proper) (omega (arith, i .number));
-        stands = λ c. whole-stand (worldOf F R before file t .lent .file) (blocksOf (t .streams)) (whole-all (t .streams) (i .proper) (all-ended c (i .count))) (λ p v h. (omega (arith, at-place p v h .0, same-length), at-place p v h .1));
+        payloads-in-file = λ c. whole-stand (worldOf F R before file t .lent .file) (blocksOf (t .streams)) (whole-all (t .streams) (i .proper) (all-ended c (i .count))) (λ p v h. (omega (arith, at-place p v h .0, same-length), at-place p v h .1));
         fits-still = fits-always F R before file t ruled l r i;
       }
     where

@@ -124,7 +124,7 @@ module _ (w : World) (file : List ℕ) (R : ℕ) (before : Pairs) (begun : Begun
         shows-guess = λ pre post e h. shown-guess pre post (way pre post e) (omega (arith, h, ap offered e, offered-append pre post));
         shows-result = λ pre post e h. shown-result pre post (way pre post e) (omega (arith, h, ap offered e, offered-append pre post));
         file-is = file-sent;
-        payloads-stand = whole-stand File (sentBlocks s) (sent-whole F (sentBlocks s) blocks) at-place;
+        payloads-in-file = whole-stand File (sentBlocks s) (sent-whole F (sentBlocks s) blocks) at-place;
         rest-stays = λ p h. ap (λ f. getD f p 0) file-sent ∙ none-withPayloads p (sentBlocks s) file h;
       }
 

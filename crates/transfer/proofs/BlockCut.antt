@@ -87,7 +87,7 @@ cuts-header done r d h =
     let c = cuts-blocks done r [] r (length (blockBytes done ++ r)) d (omega arith) (λ j q. cuts-short j r h) in
     (c .0 ∙ append-nil done, c .1)
 
--- in a payload, or just behind one
+-- in a payload, or just after one
 pub cuts-payload : (done : List Block) (h p : List ℕ) → Done done → length h ≡ headerLength → length p ≤ payloadLength h
     → Cuts (length (blockBytes done ++ (h ++ p))) (blockBytes done ++ (h ++ p)) (done ++ (block h p ∷ [])) []
 cuts-payload done h p d e f =

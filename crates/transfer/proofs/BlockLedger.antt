@@ -10,7 +10,7 @@ use Rattle.ledger.specs.Pairs.{Pairs, size, contains, Ruled}
 use Rattle.ledger.specs.Ledger.{obeys, pairsOf, laidOut, Contains}
 use Rattle.ledger.proofs.PairsPlaces.{inRange-in, Where, under, within, past, stand}
 use Rattle.ledger.proofs.LedgerLayout.{length-laidOut, pairsOf-laidOut, rule-laidOut}
-use Rattle.ledger.proofs.LedgerRule.{holds-places, only-one}
+use Rattle.ledger.proofs.LedgerRule.{contains-places, only-one}
 use Rattle.transfer.specs.Transfer.{sum}
 use Rattle.transfer.specs.Block.{Block, placeOf, sizeOf, claimsIn}
 use Rattle.transfer.specs.AfterList.{ClaimsPlace, LedgerIs}
@@ -51,7 +51,7 @@ module _ (R : ℕ) (before : Pairs) (xs : List Block) (ruled : Ruled 0 before) (
 
   places : (p : ℕ) → Contains p (laidOut R (claimsIn xs before)) ↔ (ClaimsPlace p xs ⊎ (contains p before ≡ 1))
   places p =
-      let at = holds-places p (laidOut R (claimsIn xs before)) rule-kept in
+      let at = contains-places p (laidOut R (claimsIn xs before)) rule-kept in
       let same : contains p (pairsOf (laidOut R (claimsIn xs before))) ≡ contains p (claimsIn xs before) = ap (contains p) (pairsOf-laidOut R 0 (claimsIn xs before) all room) in
       ((λ h. holds-claims p .0 (sym same ∙ at .1 h)), (λ c. at .0 (same ∙ holds-claims p .1 c)))
 

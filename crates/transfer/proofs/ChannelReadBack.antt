@@ -14,7 +14,7 @@ pub record Has (t : Transfer) (c : ℕ) : Type 0 where
   pub row : c < length (t .channels)
   pub bytes : heldLimit * c + heldLimit ≤ length (t .heads)
 
--- a state that can stand in the struct: a header of at most 16 bytes
+-- a state that the struct can hold: a header of at most 16 bytes
 abbrev pub Stands : State → Type 0
 Stands unused = Unit {0}
 Stands (header h) = length h ≤ heldLimit
@@ -29,7 +29,7 @@ length-heldBytes (header h) s =
 length-heldBytes (payload p n e) s = refl
 length-heldBytes ended s = refl
 
--- the numbers and the bytes of a state stand for it
+-- the numbers and the bytes of a state mean it
 pub read-back : (x : State) (rest : List ℕ) → readState (stateNumber x) (take (heldNumber x) (heldBytes x ++ rest)) (nextNumber x) (leftNumber x) ≡ x
 unfolding readState stateNumber heldNumber heldBytes nextNumber leftNumber
 read-back unused rest = refl

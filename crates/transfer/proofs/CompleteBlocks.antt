@@ -1,4 +1,4 @@
--- Where every used channel has ended, every accepted block is whole and stands in the file.
+-- Where every used channel has ended, every accepted block is whole and in the file.
 use Prim.Native.Nat.{ℕ, suc, _+_, _≤_, _<_}
 use mathlib.Core.Path.{_≡_, refl, sym, ap, _∙_}
 use mathlib.Core.Logic.{inl, inr}

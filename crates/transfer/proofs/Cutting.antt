@@ -12,7 +12,7 @@ use Rattle.transfer.specs.Block.{Block, block, sizeOf, blockBytes, cutBy
 use Rattle.transfer.specs.Cutting.{WholeButLast, Cutting}
 use Rattle.transfer.proofs.BlockCut.{Cuts, cuts-short}
 
--- the first block's header and payload, and what is behind it
+-- the first block's header and payload, and what is after it
 abbrev head : List ℕ → List ℕ
 head bs = take headerLength bs
 
@@ -26,7 +26,7 @@ cuts-first : (k : ℕ) (bs : List ℕ) → headerLength ≤ length bs → Cuts (
 unfolding cutBy begunHeaderBy
 cuts-first k bs h = let far = le-ltb (length bs) headerLength h in (rw far, rw far)
 
--- as many cuts as there are bytes are enough, and so they are for what is behind the first block
+-- as many cuts as there are bytes are enough, and so they are for what is after the first block
 fewer : (k : ℕ) (bs : List ℕ) → length bs ≤ suc k → headerLength ≤ length bs → length (rest bs) ≤ k
 fewer k bs q h = omega (arith, length-drop (payloadLength (head bs)) (drop headerLength bs), length-drop headerLength bs)
 
@@ -46,7 +46,7 @@ together (suc k) bs = go (decLt (length bs) headerLength) (together k (rest bs))
         rw (c .0, c .1)
         (append-assoc (head bs) (body bs ++ xs) (begunHeaderBy k (rest bs)) ∙ ap (λ r. head bs ++ r) (append-assoc (body bs) xs (begunHeaderBy k (rest bs)) ∙ ap (λ r. body bs ++ r) i) ∙ split bs)
 
--- where blocks are cut behind it, a payload is whole
+-- where blocks are cut after it, a payload is whole
 is-whole : (k : ℕ) (bs : List ℕ) (y : Block) (ys : List Block) → cutBy k (rest bs) ≡ y ∷ ys → length (body bs) ≡ payloadLength (head bs)
 is-whole k bs y ys e = go (decLt (payloadLength (head bs)) (length (drop headerLength bs)))
   where
@@ -108,5 +108,5 @@ cutting =
       together = λ bs. together (length bs) bs;
       whole = λ bs. whole (length bs) bs;
       begun = λ bs. begun (length bs) bs (omega arith);
-      behind = λ bs front x e l. behind (length bs) bs front x (omega arith) e l;
+      nothing-begun = λ bs front x e l. behind (length bs) bs front x (omega arith) e l;
     }

@@ -1,4 +1,4 @@
--- The states that FIT allows a channel: how their numbers and bytes stand in the struct.
+-- The states that FIT allows a channel: how their numbers and bytes are in the struct.
 use Prim.Native.Nat.{ℕ, _+_, _-_, _≤_, _<_}
 use mathlib.Core.Path.{_≡_, refl, ap, _∙_}
 use mathlib.Core.Logic.{inl, inr}

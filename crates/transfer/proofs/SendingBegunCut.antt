@@ -94,7 +94,7 @@ module _ (F : ℕ) where
           shut : hasEnd (block (x .head) e ∷ []) ≡ false
           shut = unfold endsItsChannel isWhole in rw (lt-leb (sizeOf x) (length e) w, and-false (endsChannel (x .head)))
 
-      -- the block and what is behind it
+      -- the block and what is after it
       behind : (e : List ℕ) (j : ℕ) → e ++ m ≡ blockBytes xs → Part xs (cutBy j e) m → Part (x ∷ xs) (x ∷ cutBy j e) m
       behind e j g p = record { first = (refl, p .first); ended-last = last xs z g (p .ended-last); whole = λ r. ap {B = List Block} (λ ys. x ∷ ys) (p .whole r) }
         where

@@ -30,7 +30,7 @@ pub data Fault (k c : ℕ) : Type 0 where
   no-fault : k ≡ 0 → c ≡ 0 → Fault k c
   fault-of : 11 ≤ k → k ≤ 20 → c < channelCount → Fault k c
 
--- no stream is spoilt
+-- no stream has a fault
 abbrev pub AllSound : List Stream → Type 0
 AllSound [] = Unit
 AllSound (s ∷ ss) = (s ≡ intact (taken s)) × AllSound ss

@@ -48,7 +48,7 @@ unfolding headsOf
 length-headsOf [] a = refl
 length-headsOf (s ∷ ss) a = omega (arith, length-append (heldBytes (stateFrom s)) (headsOf ss), held-length s (a .0), length-headsOf ss (a .1))
 
--- behind the first channel's
+-- after the first channel's
 module _ (s : Stream) (ss : List Stream) (n : ℕ) (e : length (heldBytes (stateFrom s)) ≡ heldLimit) where
   heads-front : take (heldLimit + n) (heldBytes (stateFrom s) ++ headsOf ss) ≡ heldBytes (stateFrom s) ++ take n (headsOf ss)
   heads-front = ap (λ k. take (k + n) (heldBytes (stateFrom s) ++ headsOf ss)) (sym e) ∙ take-append-add (heldBytes (stateFrom s)) (headsOf ss) n

@@ -78,8 +78,8 @@ pub record AfterList (R : ℕ) (before : Pairs) (file : List ℕ) (w : World) (t
   pub ledger-is : LedgerIs R before (w .lent .claimed) (blocksOf (t .streams))
   -- each channel's state is that of its bytes; after a fault in its header nothing is held of that
   pub channels-are : (c : ℕ) → c < 64 → stateAt (w .t) c ≡ stateFrom (streamAt t c)
-  -- from RESULT on every accepted payload stands whole in the file
-  pub stands : Complete t → PayloadsInFile (w .lent .file) (blocksOf (t .streams))
+  -- from RESULT on every accepted payload is whole in the file
+  pub payloads-in-file : Complete t → PayloadsInFile (w .lent .file) (blocksOf (t .streams))
   -- transfer, file and ledger fit
   pub fits-still : fits w ≡ true
 

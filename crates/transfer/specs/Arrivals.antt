@@ -17,13 +17,13 @@ AllTaken w ks = (pre post : List Call) (c b : ℕ) (bs : List ℕ) → ks ≡ pr
 
 pub record Arrives (w : World) (file : List ℕ) (s : List SentChannel) (ks : List Call) : Type 0 where
   pub all-taken : AllTaken w ks
-  -- GUESS until the last byte is taken, then RESULT, wherever the pieces are cut and empty pieces stand
+  -- GUESS until the last byte is taken, then RESULT, wherever the pieces are cut and empty pieces come
   pub shows-guess : (pre post : List Call) → ks ≡ pre ++ post → offered pre < offered ks → verdictOf (after w pre) ≡ guess
   pub shows-result : (pre post : List Call) → ks ≡ pre ++ post → offered pre ≡ offered ks → verdictOf (after w pre) ≡ result
   -- one end file for all arrivals: the starting file with the payloads in place
   pub file-is : after w ks .lent .file ≡ withPayloads (sentBlocks s) file
-  -- place by place: each payload stands in it, and any other place has its starting byte
-  pub payloads-stand : PayloadsInFile (after w ks .lent .file) (sentBlocks s)
+  -- place by place: each payload is in it, and any other place has its starting byte
+  pub payloads-in-file : PayloadsInFile (after w ks .lent .file) (sentBlocks s)
   pub rest-stays : (p : ℕ) → ((v : ℕ) → HasByte p v (sentBlocks s) → ⊥) → getD (after w ks .lent .file) p 0 ≡ getD file p 0
 
 pub record EveryArrival : Type 0 where

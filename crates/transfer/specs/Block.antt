@@ -39,16 +39,16 @@ blockBytes (x ∷ xs) = x .head ++ (x .body ++ blockBytes xs)
 unfoldable pub cutBy : ℕ → List ℕ → List Block
 cutBy zero bs = []
 cutBy (suc k) bs =
-    let behind = cutBy k (drop (payloadLength (take headerLength bs)) (drop headerLength bs)) in
+    let following = cutBy k (drop (payloadLength (take headerLength bs)) (drop headerLength bs)) in
     cond (ltb (length bs) headerLength) []
-    (block (take headerLength bs) (take (payloadLength (take headerLength bs)) (drop headerLength bs)) ∷ behind)
+    (block (take headerLength bs) (take (payloadLength (take headerLength bs)) (drop headerLength bs)) ∷ following)
 
--- the header that is begun behind them
+-- the header that is begun after them
 unfoldable pub begunHeaderBy : ℕ → List ℕ → List ℕ
 begunHeaderBy zero bs = bs
 begunHeaderBy (suc k) bs =
-    let behind = begunHeaderBy k (drop (payloadLength (take headerLength bs)) (drop headerLength bs)) in
-    cond (ltb (length bs) headerLength) bs behind
+    let following = begunHeaderBy k (drop (payloadLength (take headerLength bs)) (drop headerLength bs)) in
+    cond (ltb (length bs) headerLength) bs following
 
 abbrev pub cut : List ℕ → List Block
 cut bs = cutBy (length bs) bs

@@ -1,4 +1,4 @@
--- A channel (document 01, "One transfer"): unused, in a header, in a payload, or ended, and how that stands in the struct.
+-- A channel (document 01, "One transfer"): unused, in a header, in a payload, or ended, and how the struct holds that.
 use Prim.Native.Nat.{ℕ, zero, suc, _+_, _*_, _-_}
 use mathlib.Core.Bool.{Bool, true, false}
 use mathlib.Core.List.{List, _++_}
@@ -59,7 +59,7 @@ heldBytes ended = replicate heldLimit 0
 unfoldable pub numbersOf : State → Channel
 numbersOf x = record { state = stateNumber x; held = heldNumber x; next = nextNumber x; left = leftNumber x }
 
--- what numbers and held bytes stand for
+-- what numbers and held bytes mean
 unfoldable pub readState : ℕ → List ℕ → ℕ → ℕ → State
 readState zero h p n = unused
 readState (suc zero) h p n = header h

@@ -12,9 +12,9 @@ WholeButLast (x ∷ []) = (length (x .head) ≡ 17) × (length (x .body) ≤ siz
 WholeButLast (x ∷ y ∷ xs) = (length (x .head) ≡ 17) × (length (x .body) ≡ sizeOf x) × WholeButLast (y ∷ xs)
 
 pub record Cutting : Type 0 where
-  -- the blocks and the header begun behind them, put back together, are the bytes
+  -- the blocks and the header begun after them, put back together, are the bytes
   pub together : (bs : List ℕ) → blockBytes (cut bs) ++ begunHeader bs ≡ bs
   pub whole : (bs : List ℕ) → WholeButLast (cut bs)
-  -- what is begun is not yet a header, and behind a payload that is not whole nothing is begun
+  -- what is begun is not yet a header, and after a payload that is not whole nothing is begun
   pub begun : (bs : List ℕ) → length (begunHeader bs) < 17
-  pub behind : (bs : List ℕ) (front : List Block) (x : Block) → cut bs ≡ front ++ (x ∷ []) → length (x .body) < sizeOf x → begunHeader bs ≡ []
+  pub nothing-begun : (bs : List ℕ) (front : List Block) (x : Block) → cut bs ≡ front ++ (x ∷ []) → length (x .body) < sizeOf x → begunHeader bs ≡ []

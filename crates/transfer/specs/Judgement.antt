@@ -53,6 +53,6 @@ pub record Judgement : Type 0 where
   -- of the nine accepted descriptors, those that end their channel and those that give a count
   pub nine-end : (r : List ℕ) → map (λ d. endsChannel (d ∷ r)) acceptedDescriptors ≡ false ∷ true ∷ true ∷ false ∷ true ∷ true ∷ false ∷ true ∷ true ∷ []
   pub nine-count : (r : List ℕ) → map (λ d. isCount (d ∷ r)) acceptedDescriptors ≡ false ∷ false ∷ false ∷ false ∷ false ∷ false ∷ true ∷ true ∷ true ∷ []
-  -- how many payload bytes follow: none behind a count, else as many as the second field says
+  -- how many payload bytes follow: none after a count, else as many as the second field says
   pub none-follow : (h : List ℕ) → isCount h ≡ true → payloadLength h ≡ 0
   pub so-many-follow : (h : List ℕ) → isCount h ≡ false → payloadLength h ≡ secondOf h

@@ -10,7 +10,7 @@ use Rattle.transfer.specs.Receive.{isNonEmpty}
 use Rattle.transfer.specs.Block.{Block, placeOf, sizeOf, cut, begunHeader}
 use Rattle.transfer.specs.Tally.{Stream, intact, faulted}
 
--- by the last block and the header begun behind it: in its payload where bytes of that are still to come, else ended or in the next header
+-- by the last block and the header begun after it: in its payload where bytes of that are still to come, else ended or in the next header
 unfoldable pub stateAfterBlock : Block → List ℕ → State
 stateAfterBlock x r =
     let come = length (x .body) in

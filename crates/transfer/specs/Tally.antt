@@ -13,7 +13,7 @@ use Rattle.transfer.specs.Receive.{Outcome, continues, stops, notTaken, 
 use Rattle.transfer.specs.Calls.{Call, receive}
 use Rattle.transfer.specs.Block.{Block, cut, begunHeader, countsIn, claimsIn, hasEnd}
 
--- ---- one channel: its taken bytes; spoilt where the last header of them was judged a fault
+-- ---- one channel: its taken bytes; faulted where the last header of them was judged a fault
 
 pub data Stream : Type 0 where
   intact : List ℕ → Stream

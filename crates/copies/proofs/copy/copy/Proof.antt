@@ -1,4 +1,4 @@
--- `copy::copy`: the bytes passed stand in the part, and what is after them is as it was.
+-- `copy::copy`: the bytes passed are in the part, and what is after them is as it was.
 use Prim.Native.Nat.{ℕ, _+_, _-_, _≤_, _<_}
 use mathlib.Core.Path.{_≡_, refl, _∙_}
 use mathlib.Core.List.{List, _++_}

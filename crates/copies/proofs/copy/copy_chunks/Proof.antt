@@ -1,4 +1,4 @@
--- `copy::copy_chunks`: the bytes passed stand in the part, and what is after them is as it was.
+-- `copy::copy_chunks`: the bytes passed are in the part, and what is after them is as it was.
 use Prim.Native.Nat.{_+_, _-_, _≤_}
 use mathlib.Core.Path.{_≡_, refl, ap, _∙_}
 use mathlib.Core.List.{_++_}

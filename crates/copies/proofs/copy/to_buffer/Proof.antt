@@ -1,4 +1,4 @@
--- `copy::to_buffer`: the bytes passed stand at the front of the array.
+-- `copy::to_buffer`: the bytes passed are at the front of the array.
 use Prim.Native.Nat.{ℕ, _+_, _-_, _≤_, _<_}
 use mathlib.Core.Path.{_≡_, refl}
 use mathlib.Core.List.{List}

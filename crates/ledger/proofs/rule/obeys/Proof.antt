@@ -20,7 +20,7 @@ Inv-loop ledger limit end₀ i₀ end i =
 abbrev μ-loop : tie.MeasureT-loop
 μ-loop ledger limit end₀ i₀ end i = length ledger - i
 
--- whether the pair at hand may stand where it does
+-- whether the pair at hand may be where it is
 start : (c : tie.After-may-follow Inv-loop μ-loop) → let l = c .before .before .before .before .before in
     let s = l .before .before .args .ledger .now in
     c .may-follow .result ≡ (leb (lowest (l .loop .end)) (getD s (l .loop .i) 0) && ltb (getD s (l .loop .i) 0) (getD s (l .loop .i + 1) 0))

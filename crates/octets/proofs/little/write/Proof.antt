@@ -1,4 +1,4 @@
--- `little::write`: what stands written, with what is still to be written behind it, is the whole.
+-- `little::write`: what is written, with what is still to be written after it, is the whole.
 use Prim.Native.Nat.{ℕ, suc, _+_, _-_, _/_, _%_, _≤_, _<_}
 use mathlib.Core.Path.{_≡_, refl, sym, _∙_}
 use mathlib.Core.List.{List, _++_, append-nil}
@@ -19,7 +19,7 @@ Inv-loop n out₀ m₀ i₀ out m i =
 abbrev μ-loop : tie.MeasureT-loop
 μ-loop n out₀ m₀ i₀ out m i = length out - i
 
--- the byte after those that stand written
+-- the byte after those that are written
 turn : (out : List ℕ) (i m : ℕ) → i < length out
     → take (i + 1) (set out i (m % 256)) ++ toLittle 256 (length (set out i (m % 256)) - (i + 1)) (m / 256)
     ≡ take i out ++ toLittle 256 (length out - i) m

@@ -16,7 +16,7 @@ use Rattle.rangelists.proofs.ranges.read_range.Tie as tie
 hyphen : (c : tie.Else2) → let s = c .before .before .before .before .before .args .text .now in getD s (leading isDigit s) 0 ≡ 45
 hyphen c = rw (c .before .before .before .leading .ensures) at (c .if2 .left)
 
--- the number before the hyphen, and the one behind it
+-- the number before the hyphen, and the one after it
 start-is : (c : tie.After-read-position) → let s = c .before .before .before .before .before .before .before .args .text .now in
     c .read-position .result ≡ positionOf (take (leading isDigit s) s)
 start-is c = rw (c .before .before .before .before .before .leading .ensures) at (c .read-position .ensures)
