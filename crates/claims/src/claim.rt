@@ -145,12 +145,12 @@ fn widen(ledger: &mut [u64], at: usize, past: usize, used: usize, start: u64, en
     ensures { λ _. ⌜ now (ledger .exit) ≡ closed (set (set (now (ledger .entry)) (2 * at) (min (getD (now (ledger .entry)) (2 * at) 0) start)) (2 * at + 1) (max (getD (now (ledger .entry)) (2 * past - 1) 0) end)) (2 * at + 2) (2 * past) (2 * used) ⌝ }
 {
     let first = 2 * at;
-    let behind = 2 * past;
+    let after = 2 * past;
     let a = lesser(ledger[first], start);
-    let b = greater(ledger[behind - 1], end);
+    let b = greater(ledger[after - 1], end);
     ledger[first] = a;
     ledger[first + 1] = b;
-    shift::close(ledger, first + 2, behind, 2 * used);
+    shift::close(ledger, first + 2, after, 2 * used);
 }
 
 // Makes a pair of its own at `at` of the range from start to end, where not all pairs are used.

@@ -9,8 +9,8 @@ use Rattle.claims.proofs.claim.widen.Tie as tie
 mul-first : tie.Need-mul-first
 mul-first c = search needs
 
-mul-behind : tie.Need-mul-behind
-mul-behind c = search needs
+mul-after : tie.Need-mul-after
+mul-after c = search needs
 
 mul-lesser : tie.Need-mul-lesser
 mul-lesser c = search needs
@@ -70,7 +70,7 @@ widen-spec =
     tie.close
     (tie.spec
     mul-first
-    mul-behind
+    mul-after
     mul-lesser
     slice-read-lesser
     lesser-requires
