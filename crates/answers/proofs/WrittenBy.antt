@@ -7,22 +7,22 @@ use native.Mathlib.Decide.{decLt}
 use borrow.Author.Tests.{lt-ltb, le-ltb}
 use lib.ListN.{length, drop}
 use lib.Seq.{sets}
-use Rattle.answers.specs.Written.{writtenNumber, writtenBytes, firstNumber, roomNumber, writtenBy, writtenAfter, Refuses, Writes}
+use Rattle.answers.specs.Written.{writtenNumber, writtenBytes, firstRefusal, roomRefusal, writtenBy, writtenAfter, Refuses, Writes}
 use Rattle.answers.specs.declared.written.Written.the-variants.{Bytes, Refused}
 use Rattle.answers.proofs.WritesAt.{sets-first}
 
 -- ---- the number
 
 module _ (k m : ℕ) where
-  pub first-some : 0 < k → firstNumber k m ≡ k
-  unfolding firstNumber
+  pub first-some : 0 < k → firstRefusal k m ≡ k
+  unfolding firstRefusal
   first-some h = rw (lt-ltb 0 k h)
 
-  pub first-none : k ≡ 0 → firstNumber k m ≡ m
-  unfolding firstNumber
+  pub first-none : k ≡ 0 → firstRefusal k m ≡ m
+  unfolding firstRefusal
   first-none e = rw e
 
-  pub first-zero : firstNumber k m ≡ 0 → (k ≡ 0) × (m ≡ 0)
+  pub first-zero : firstRefusal k m ≡ 0 → (k ≡ 0) × (m ≡ 0)
   first-zero z = go (decLt 0 k)
     where
       go : Dec (0 < k) → (k ≡ 0) × (m ≡ 0)
@@ -32,15 +32,15 @@ module _ (k m : ℕ) where
           (e, sym (first-none e) ∙ z)
 
 module _ (n : ℕ) (out : List ℕ) where
-  pub room-short : length out < n → roomNumber n out ≡ 55
-  unfolding roomNumber
+  pub room-short : length out < n → roomRefusal n out ≡ 55
+  unfolding roomRefusal
   room-short h = rw (lt-ltb (length out) n h)
 
-  pub room-enough : n ≤ length out → roomNumber n out ≡ 0
-  unfolding roomNumber
+  pub room-enough : n ≤ length out → roomRefusal n out ≡ 0
+  unfolding roomRefusal
   room-enough h = rw (le-ltb (length out) n h)
 
-  pub room-zero : roomNumber n out ≡ 0 → n ≤ length out
+  pub room-zero : roomRefusal n out ≡ 0 → n ≤ length out
   room-zero z = go (decLt (length out) n)
     where
       go : Dec (length out < n) → n ≤ length out

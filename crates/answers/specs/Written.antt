@@ -21,12 +21,12 @@ writtenBytes (Refused k) = 0
 -- ---- the number of a refusal
 
 -- of two numbers, in the order of their tests, the first that is not 0
-unfoldable pub firstNumber : ℕ → ℕ → ℕ
-firstNumber k m = cond (ltb 0 k) k m
+unfoldable pub firstRefusal : ℕ → ℕ → ℕ
+firstRefusal k m = cond (ltb 0 k) k m
 
 -- 55 where fewer than n bytes are lent
-unfoldable pub roomNumber : ℕ → List ℕ → ℕ
-roomNumber n out = cond (ltb (length out) n) 55 0
+unfoldable pub roomRefusal : ℕ → List ℕ → ℕ
+roomRefusal n out = cond (ltb (length out) n) 55 0
 
 -- ---- the answer and the lent bytes, by that number
 

@@ -19,14 +19,14 @@ use Rattle.transfer.specs.Fit.{channelFits, channelsFit}
 use Rattle.transfer.proofs.FitChannelKinds.{Stage}
 use Rattle.transfer.proofs.FitChannels.{bytesAt, channel-says}
 use Rattle.counts.proofs.Sum.{sum-at, sum-over, ended-le}
-use Rattle.channelchecks.specs.declared.pass.Pass.{Pass}
-use Rattle.channelchecks.specs.Pass.{countedIn, storedFor, Passes}
+use Rattle.channelchecks.specs.declared.totals.ChannelTotals.{ChannelTotals}
+use Rattle.channelchecks.specs.ChannelTotals.{withChannel, setIfUsed, TotalsAre}
 use Rattle.channelchecks.specs.Payloads.{ofPayloads, nextsOf, leftsOf}
 use Rattle.channelchecks.proofs.Payloads.{packs, skips}
 use Rattle.channelchecks.proofs.Used.{oneIfUsed, sum-used as sum-both, none-left, is-used}
 
 -- the first c channels fit; p counts those that have bytes left, which are packed at the front of two arrays, those that are used, and those that have ended
-pub record Passed (ps : Pairs) (ks : List Channel) (heads next left : List ℕ) (p : Pass) (c : ℕ) : Type 0 where
+pub record Passed (ps : Pairs) (ks : List Channel) (heads next left : List ℕ) (p : ChannelTotals) (c : ℕ) : Type 0 where
   pub fits : p .fits ≡ true
   pub few-packed : p .payloads ≤ c
   pub few-used : p .used ≤ c
@@ -66,7 +66,7 @@ module _ (ps : Pairs) (ks : List Channel) (heads : List ℕ) (c : ℕ) (h : c < 
       let e : heldLimit * c + heldLimit ≡ heldLimit * (c + 1) = omega arith in
       rw (← e, ← drop-drop heldLimit (heldLimit * c) heads, drop-cons ks c blank h, add-one c)
 
-  module _ (next left : List ℕ) (p : Pass) (v : Passed ps ks heads next left p c) where
+  module _ (next left : List ℕ) (p : ChannelTotals) (v : Passed ps ks heads next left p c) where
     abbrev pub k : Channel
     k = getD ks c blank
 
@@ -124,16 +124,16 @@ module _ (ps : Pairs) (ks : List Channel) (heads : List ℕ) (c : ℕ) (h : c < 
           one true = omega arith
           one false = omega arith
 
-      pub passes : Passed ps ks heads (storedFor k next (p .payloads) (k .next)) (storedFor k left (p .payloads) (k .left)) (countedIn p k) (c + 1)
+      pub passes : Passed ps ks heads (setIfUsed k next (p .payloads) (k .next)) (setIfUsed k left (p .payloads) (k .left)) (withChannel p k) (c + 1)
       passes = go (ℕ-discrete (k .state) 0)
         where
-          go : Dec (k .state ≡ 0) → Passed ps ks heads (storedFor k next (p .payloads) (k .next)) (storedFor k left (p .payloads) (k .left)) (countedIn p k) (c + 1)
+          go : Dec (k .state ≡ 0) → Passed ps ks heads (setIfUsed k next (p .payloads) (k .next)) (setIfUsed k left (p .payloads) (k .left)) (withChannel p k) (c + 1)
           go (yes z) = rw (eq-eqb (k .state) 0 z) (passes-unused z)
           go (no z) = rw (ne-eqb (k .state) 0 z) (passes-used (omega arith))
 
 -- after the last channel
-pub passed-all : (ps : Pairs) (t : Transfer) (next left : List ℕ) (p : Pass) (c : ℕ) → Passed ps (t .channels) (t .heads) next left p c → length (t .channels) ≤ c
-    → Passes ps t p next left
+pub passed-all : (ps : Pairs) (t : Transfer) (next left : List ℕ) (p : ChannelTotals) (c : ℕ) → Passed ps (t .channels) (t .heads) next left p c → length (t .channels) ≤ c
+    → TotalsAre ps t p next left
 unfolding channelsFit ofPayloads usedOf endedOf
 passed-all ps t next left p c v g =
     let over = drop-of-length-le (t .channels) g in
@@ -149,8 +149,8 @@ passed-all ps t next left p c v g =
     }
 
 -- a channel that does not fit
-pub passed-unfit : (ps : Pairs) (t : Transfer) (next left : List ℕ) (p q : Pass) (c : ℕ) → Passed ps (t .channels) (t .heads) next left p c → q .fits ≡ false → q .payloads ≡ 0
-    → channelsFit ps (t .channels) (t .heads) ≡ false → Passes ps t q next left
+pub passed-unfit : (ps : Pairs) (t : Transfer) (next left : List ℕ) (p q : ChannelTotals) (c : ℕ) → Passed ps (t .channels) (t .heads) next left p c → q .fits ≡ false → q .payloads ≡ 0
+    → channelsFit ps (t .channels) (t .heads) ≡ false → TotalsAre ps t q next left
 passed-unfit ps t next left p q c v f z h =
     record {
       fits-where = f ∙ sym h;

@@ -13,12 +13,12 @@ abbrev pub unfit : FitReport
 unfit = record { fits = false; used = 0; ended = 0 }
 
 -- of a transfer that fits or not
-abbrev pub reportWhere : Bool → Transfer → FitReport
-reportWhere b t = cond b (record { fits = true; used = usedOf t; ended = endedOf t }) unfit
+abbrev pub reportIf : Bool → Transfer → FitReport
+reportIf b t = cond b (record { fits = true; used = usedOf t; ended = endedOf t }) unfit
 
 -- each channel fits, and no two payloads share a byte
-abbrev pub allFit : Transfer → List ℕ → Bool
-allFit t claimed = channelsFit (pairsOf claimed) (t .channels) (t .heads) && restsApart (t .channels)
+abbrev pub channelsFitTogether : Transfer → List ℕ → Bool
+channelsFitTogether t claimed = channelsFit (pairsOf claimed) (t .channels) (t .heads) && restsApart (t .channels)
 
 -- the ledger obeys its rule with no end above the file's length
 abbrev pub ledgerFits : Transfer → List ℕ → Bool

@@ -1,3 +1,3 @@
-pub mod Pass
+pub mod ChannelTotals
 pub mod Payloads
 pub mod FitReport

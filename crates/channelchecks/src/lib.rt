@@ -2,5 +2,5 @@
 mod channel;
 mod held;
 pub mod limits;
-mod pass;
 pub mod report;
+mod totals;

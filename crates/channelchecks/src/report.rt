@@ -1,12 +1,12 @@
 // The channels against the ledger, with what is counted on the way.
-use crate::pass;
+use crate::totals;
 use ledger::rule;
 use rangechecks::disjoint;
 use transfer::state::Transfer;
 ghost use mathlib.Core.Path.{_≡_};
 ghost use mathlib.Core.Bool.{true, _&&_};
 ghost use Rattle.ledger.specs.Ledger.{obeys};
-ghost use Rattle.channelchecks.specs.FitReport.{unfit, reportWhere, allFit, ledgerFits};
+ghost use Rattle.channelchecks.specs.FitReport.{unfit, reportIf, channelsFitTogether, ledgerFits};
 
 // What one pass over the channels finds; where they don't fit, nothing.
 pub struct FitReport {
@@ -30,11 +30,11 @@ pub fn unfit() -> FitReport
 // With a ledger that obeys its rule.
 fn channels_fit(t: Transfer, ledger: &[u64]) -> FitReport
     requires { ⌜ obeys (now ledger) ≡ true ⌝ }
-    ensures { λ r. ⌜ r ≡ reportWhere (allFit t (now (ledger .entry))) t ⌝ }
+    ensures { λ r. ⌜ r ≡ reportIf (channelsFitTogether t (now (ledger .entry))) t ⌝ }
 {
     let mut next = [0u64; 64];
     let mut left = [0u64; 64];
-    let found = pass::over_channels(t, ledger, &mut next, &mut left);
+    let found = totals::check_channels(t, ledger, &mut next, &mut left);
     if !found.fits {
         return unfit();
     }
@@ -51,7 +51,7 @@ fn channels_fit(t: Transfer, ledger: &[u64]) -> FitReport
 
 // With any ledger: it obeys its rule with no end above the file's length, each channel fits, and no two payloads share a byte.
 pub fn report_channels(t: Transfer, ledger: &[u64]) -> FitReport
-    ensures { λ r. ⌜ r ≡ reportWhere (ledgerFits t (now (ledger .entry)) && allFit t (now (ledger .entry))) t ⌝ }
+    ensures { λ r. ⌜ r ≡ reportIf (ledgerFits t (now (ledger .entry)) && channelsFitTogether t (now (ledger .entry))) t ⌝ }
 {
     if !rule::obeys(ledger, t.len) {
         return unfit();

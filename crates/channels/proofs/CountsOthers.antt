@@ -19,7 +19,7 @@ use Rattle.transfer.proofs.FitChannelKinds.{Stage, resting, collecting, storing
 use Rattle.transfer.proofs.Sums.{sum-set, one-of}
 use Rattle.transfer.proofs.FitByChannel.{Together}
 use Rattle.channels.specs.declared.channel_state.ChannelState.{ChannelState}
-use Rattle.channels.specs.ChannelState.{numbers, channelStateOf, writeBack}
+use Rattle.channels.specs.ChannelState.{channelOf, channelStateOf, writeBack}
 use Rattle.channels.specs.OtherChannels.{othersOf, CountsOthers}
 
 pub write-back-unchanged : (t : Transfer) (c : ℕ) → writeBack t c (channelStateOf (t .count) (t .fault) (t .on) (channelAt t c) (t .heads) c) ≡ t
@@ -33,7 +33,7 @@ write-back-unchanged t c =
 
 -- written back number by number
 pub write-back-fields : (t : Transfer) (c : ℕ) (x : ChannelState) (h : List ℕ) → h ≡ take (heldLimit * c) (t .heads) ++ (x .bytes ++ drop (heldLimit * c + heldLimit) (t .heads))
-    → _≡_ {A = Transfer} (record { len = t .len; pairs = t .pairs; count = x .count; fault = x .fault; on = x .on; heads = h; channels = set (t .channels) c (numbers x) }) (writeBack t c x)
+    → _≡_ {A = Transfer} (record { len = t .len; pairs = t .pairs; count = x .count; fault = x .fault; on = x .on; heads = h; channels = set (t .channels) c (channelOf x) }) (writeBack t c x)
 unfolding writeBack
 write-back-fields t c x h e = rw e
 
@@ -55,29 +55,29 @@ module _ (w : World) (f : Together w) (c : ℕ) (h : c < channelCount) (found : 
   row : c < length (w .t .channels)
   row = omega (arith, h, f .channels)
 
-  rest-ended : (x : ChannelState) → endedOf (writeBack (w .t) c x) ≡ cond (eqb (k .state) 4) (found .ended - 1) (found .ended) + oneIfEnded (numbers x)
+  rest-ended : (x : ChannelState) → endedOf (writeBack (w .t) c x) ≡ cond (eqb (k .state) 4) (found .ended - 1) (found .ended) + oneIfEnded (channelOf x)
   unfolding endedOf writeBack
   rest-ended x = go (ℕ-discrete (k .state) 4)
     where
-      s : sum oneIfEnded (set ks c (numbers x)) + oneIfEnded k ≡ sum oneIfEnded ks + oneIfEnded (numbers x)
-      s = sum-set oneIfEnded blank ks c (numbers x) row
+      s : sum oneIfEnded (set ks c (channelOf x)) + oneIfEnded k ≡ sum oneIfEnded ks + oneIfEnded (channelOf x)
+      s = sum-set oneIfEnded blank ks c (channelOf x) row
 
       one : oneIfEnded k ≤ sum oneIfEnded ks
       one = one-of oneIfEnded blank ks c row
 
-      go : Dec (k .state ≡ 4) → sum oneIfEnded (set ks c (numbers x)) ≡ cond (eqb (k .state) 4) (found .ended - 1) (found .ended) + oneIfEnded (numbers x)
+      go : Dec (k .state ≡ 4) → sum oneIfEnded (set ks c (channelOf x)) ≡ cond (eqb (k .state) 4) (found .ended - 1) (found .ended) + oneIfEnded (channelOf x)
       go (yes p) = let i : oneIfEnded k ≡ 1 = rw p in rw p (omega (arith, e, s, one, i))
       go (no p) = let i : oneIfEnded k ≡ 0 = rw (ne-eqb (k .state) 4 p) in rw (ne-eqb (k .state) 4 p) (omega (arith, e, s, i))
 
-  rest-used : (x : ChannelState) → usedOf (writeBack (w .t) c x) ≡ cond (eqb (k .state) 0) (found .used) (found .used - 1) + (oneIfEnded (numbers x) + oneIfActive (numbers x))
+  rest-used : (x : ChannelState) → usedOf (writeBack (w .t) c x) ≡ cond (eqb (k .state) 0) (found .used) (found .used - 1) + (oneIfEnded (channelOf x) + oneIfActive (channelOf x))
   unfolding usedOf endedOf writeBack
   rest-used x = go (ℕ-discrete (k .state) 0)
     where
-      s : sum oneIfEnded (set ks c (numbers x)) + oneIfEnded k ≡ sum oneIfEnded ks + oneIfEnded (numbers x)
-      s = sum-set oneIfEnded blank ks c (numbers x) row
+      s : sum oneIfEnded (set ks c (channelOf x)) + oneIfEnded k ≡ sum oneIfEnded ks + oneIfEnded (channelOf x)
+      s = sum-set oneIfEnded blank ks c (channelOf x) row
 
-      a : sum oneIfActive (set ks c (numbers x)) + oneIfActive k ≡ sum oneIfActive ks + oneIfActive (numbers x)
-      a = sum-set oneIfActive blank ks c (numbers x) row
+      a : sum oneIfActive (set ks c (channelOf x)) + oneIfActive k ≡ sum oneIfActive ks + oneIfActive (channelOf x)
+      a = sum-set oneIfActive blank ks c (channelOf x) row
 
       n : oneIfEnded k + oneIfActive k ≡ cond (eqb (k .state) 0) 0 1
       n = counted k (f .stages c h)
@@ -88,7 +88,7 @@ module _ (w : World) (f : Together w) (c : ℕ) (h : c < channelCount) (found : 
       two : oneIfActive k ≤ sum oneIfActive ks
       two = one-of oneIfActive blank ks c row
 
-      go : Dec (k .state ≡ 0) → sum oneIfEnded (set ks c (numbers x)) + sum oneIfActive (set ks c (numbers x)) ≡ cond (eqb (k .state) 0) (found .used) (found .used - 1) + (oneIfEnded (numbers x) + oneIfActive (numbers x))
+      go : Dec (k .state ≡ 0) → sum oneIfEnded (set ks c (channelOf x)) + sum oneIfActive (set ks c (channelOf x)) ≡ cond (eqb (k .state) 0) (found .used) (found .used - 1) + (oneIfEnded (channelOf x) + oneIfActive (channelOf x))
       go (yes p) = let m : oneIfEnded k + oneIfActive k ≡ 0 = n ∙ rw p in rw p (omega (arith, u, s, a, m))
       go (no p) = let m : oneIfEnded k + oneIfActive k ≡ 1 = n ∙ rw (ne-eqb (k .state) 0 p) in rw (ne-eqb (k .state) 0 p) (omega (arith, u, s, a, m, one, two))
 

@@ -9,12 +9,12 @@ use lib.Dec.{ltb, eqb}
 use lib.ListN.{length, take, drop, length-append}
 use lib.Seq.{getD-set-same, set-set, take-at, drop-at, take-append-add, take-append-le, drop-append-add, drop-append-le, length-take-le}
 use Rattle.transfer.specs.declared.state.Transfer.{Transfer}
-use Rattle.transfer.specs.Channel.{heldLimit, State, header, payload, ended, stateNumber, heldNumber, nextNumber, leftNumber, heldBytes, numbersOf, blank, channelAt, putState, putFault}
-use Rattle.transfer.specs.Transfer.{oneIfEnded, oneIfActive, endedOf, usedOf, world, guess, result, broken, isFinal, verdictOf}
+use Rattle.transfer.specs.Channel.{heldLimit, State, header, payload, ended, stateCode, heldLength, nextPlace, bytesLeft, heldBytes, encodeState, blank, channelAt, putState, putFault}
+use Rattle.transfer.specs.Transfer.{oneIfEnded, oneIfActive, endedOf, usedOf, world, guess, result, broken, allEnded, verdictOf}
 use Rattle.transfer.specs.Header.{requestOf}
 use Rattle.channels.specs.declared.channel_state.ChannelState.{ChannelState}
 use Rattle.channels.specs.declared.other_channels.OtherChannels.{OtherChannels}
-use Rattle.channels.specs.ChannelState.{numbers, writeBack, withState, withFault}
+use Rattle.channels.specs.ChannelState.{channelOf, writeBack, withState, clearedWithFault}
 use Rattle.channels.specs.HeldBytes.{withHeldBytesAt, heldBytesAt, withHeldBytes}
 use Rattle.channels.specs.OtherChannels.{CountsOthers}
 use Rattle.verdicts.specs.Verdict.{countReached}
@@ -64,9 +64,9 @@ module _ (t : Transfer) (c : ℕ) (o : OtherChannels) (a : CountsOthers t c o) w
   room : heldLimit * c + heldLimit ≤ length (t .heads)
   room = omega (arith, a .below, a .heads)
 
-  pub write-back-at : (x : ChannelState) → channelAt (writeBack t c x) c ≡ numbers x
+  pub write-back-at : (x : ChannelState) → channelAt (writeBack t c x) c ≡ channelOf x
   unfolding writeBack
-  write-back-at x = getD-set-same (t .channels) c (numbers x) blank (omega (arith, a .below, a .channels))
+  write-back-at x = getD-set-same (t .channels) c (channelOf x) blank (omega (arith, a .below, a .channels))
 
   pub write-back-bytes : (x : ChannelState) → length (x .bytes) ≡ heldLimit → heldBytesAt (writeBack t c x) c ≡ x .bytes
   unfolding writeBack
@@ -74,35 +74,35 @@ module _ (t : Transfer) (c : ℕ) (o : OtherChannels) (a : CountsOthers t c o) w
 
   -- a state written over the channel
   pub write-back-puts : (x y : ChannelState) (s : State) → length (x .bytes) ≡ heldLimit → y .count ≡ x .count → y .fault ≡ x .fault → y .on ≡ x .on
-      → numbers y ≡ numbersOf s → y .bytes ≡ heldBytes s → writeBack t c y ≡ putState (writeBack t c x) c s
+      → channelOf y ≡ encodeState s → y .bytes ≡ heldBytes s → writeBack t c y ≡ putState (writeBack t c x) c s
   unfolding writeBack putState
   write-back-puts x y s n q f i k b =
-      rw (q, f, i, k, b, before (t .heads) (x .bytes) (heldLimit * c) room n, after (t .heads) (x .bytes) (heldLimit * c) room n, set-set (t .channels) c (numbers x) (numbersOf s))
+      rw (q, f, i, k, b, before (t .heads) (x .bytes) (heldLimit * c) room n, after (t .heads) (x .bytes) (heldLimit * c) room n, set-set (t .channels) c (channelOf x) (encodeState s))
 
   module _ (x : ChannelState) (n : length (x .bytes) ≡ heldLimit) where
     pub write-back-header : writeBack t c (withState x 1 0 0) ≡ putState (writeBack t c x) c (header [])
-    unfolding withState numbersOf stateNumber heldNumber nextNumber leftNumber heldBytes
+    unfolding withState encodeState stateCode heldLength nextPlace bytesLeft heldBytes
     write-back-header = write-back-puts x (withState x 1 0 0) (header []) n refl refl refl refl refl
 
     pub write-back-payload : (p m : ℕ) (last : Bool) → writeBack t c (withState x (cond last 3 2) p m) ≡ putState (writeBack t c x) c (payload p m last)
-    unfolding withState numbersOf stateNumber heldNumber nextNumber leftNumber heldBytes
+    unfolding withState encodeState stateCode heldLength nextPlace bytesLeft heldBytes
     write-back-payload p m false = write-back-puts x (withState x 2 p m) (payload p m false) n refl refl refl refl refl
     write-back-payload p m true = write-back-puts x (withState x 3 p m) (payload p m true) n refl refl refl refl refl
 
     pub write-back-ended : writeBack t c (withState x 4 0 0) ≡ putState (writeBack t c x) c ended
-    unfolding withState numbersOf stateNumber heldNumber nextNumber leftNumber heldBytes
+    unfolding withState encodeState stateCode heldLength nextPlace bytesLeft heldBytes
     write-back-ended = write-back-puts x (withState x 4 0 0) ended n refl refl refl refl refl
 
-    pub write-back-fault : (k : ℕ) → writeBack t c (withFault x c k) ≡ putFault (putState (writeBack t c x) c (header [])) k c
+    pub write-back-fault : (k : ℕ) → writeBack t c (clearedWithFault x c k) ≡ putFault (putState (writeBack t c x) c (header [])) k c
     write-back-fault k = faulted-is ∙ ap (λ (u : Transfer). putFault u k c) write-back-header
       where
-        faulted-is : writeBack t c (withFault x c k) ≡ putFault (writeBack t c (withState x 1 0 0)) k c
-        faulted-is = unfold writeBack in unfold withFault in unfold withState in unfold putFault in refl
+        faulted-is : writeBack t c (clearedWithFault x c k) ≡ putFault (writeBack t c (withState x 1 0 0)) k c
+        faulted-is = unfold writeBack in unfold clearedWithFault in unfold withState in unfold putFault in refl
 
     pub write-back-held-bytes : (bs : List ℕ) → x .held + length bs ≤ heldLimit → writeBack t c (withHeldBytes x bs) ≡ withHeldBytesAt (writeBack t c x) c bs
     unfolding writeBack withHeldBytes withHeldBytesAt
     write-back-held-bytes bs l =
-        rw (getD-set-same (t .channels) c (numbers x) blank (omega (arith, a .below, a .channels)), among (t .heads) (x .bytes) (heldLimit * c) room n (x .held) bs l, set-set (t .channels) c (numbers x) _)
+        rw (getD-set-same (t .channels) c (channelOf x) blank (omega (arith, a .below, a .channels)), among (t .heads) (x .bytes) (heldLimit * c) room n (x .held) bs l, set-set (t .channels) c (channelOf x) _)
 
   pub write-back-pairs : (x : ChannelState) → writeBack t c x .pairs ≡ t .pairs
   unfolding writeBack
@@ -114,24 +114,24 @@ module _ (t : Transfer) (c : ℕ) (o : OtherChannels) (a : CountsOthers t c o) w
 
   -- ---- counts
 
-  pub write-back-final : (x : ChannelState) → x .state < 4 → isFinal (writeBack t c x) ≡ countReached (x .count) (o .ended)
-  unfolding isFinal
+  pub write-back-final : (x : ChannelState) → x .state < 4 → allEnded (writeBack t c x) ≡ countReached (x .count) (o .ended)
+  unfolding allEnded
   write-back-final x h =
-      let z : oneIfEnded (numbers x) ≡ 0 = rw (ne-eqb (x .state) 4 (λ e. omega arith)) in
+      let z : oneIfEnded (channelOf x) ≡ 0 = rw (ne-eqb (x .state) 4 (λ e. omega arith)) in
       let e : endedOf (writeBack t c x) ≡ o .ended = omega (arith, a .ended x, z) in
       rw e (unfold writeBack in refl)
 
   -- the verdict by the count of the others that have ended
   pub write-back-verdict : (x : ChannelState) (file ledger : List ℕ)
-      → verdictOf (world (writeBack t c x) file ledger) ≡ cond (ltb 0 (x .fault)) broken (cond (countReached (x .count) (o .ended + oneIfEnded (numbers x))) result guess)
-  unfolding verdictOf isFinal
+      → verdictOf (world (writeBack t c x) file ledger) ≡ cond (ltb 0 (x .fault)) broken (cond (countReached (x .count) (o .ended + oneIfEnded (channelOf x))) result guess)
+  unfolding verdictOf allEnded
   write-back-verdict x file ledger = rw (a .ended x) (unfold writeBack in refl)
 
   pub write-back-used : (x : ChannelState) → x .state ≡ 1 → usedOf (writeBack t c x) ≡ o .used + 1
-  write-back-used x s = let z : oneIfEnded (numbers x) + oneIfActive (numbers x) ≡ 1 = rw s in omega (arith, a .used x, z)
+  write-back-used x s = let z : oneIfEnded (channelOf x) + oneIfActive (channelOf x) ≡ 1 = rw s in omega (arith, a .used x, z)
 
   pub write-back-unused : (x : ChannelState) → x .state ≡ 0 → usedOf (writeBack t c x) ≡ o .used
-  write-back-unused x s = let z : oneIfEnded (numbers x) + oneIfActive (numbers x) ≡ 0 = rw s in omega (arith, a .used x, z)
+  write-back-unused x s = let z : oneIfEnded (channelOf x) + oneIfActive (channelOf x) ≡ 0 = rw s in omega (arith, a .used x, z)
 
   pub write-back-count-reached : (x : ChannelState) → x .state ≡ 0 → countReached (writeBack t c x .count) (usedOf (writeBack t c x)) ≡ countReached (x .count) (o .used)
   write-back-count-reached x s = rw (write-back-unused x s) (unfold writeBack in refl)

@@ -7,8 +7,8 @@ use Rattle.transfer.specs.declared.state.Transfer.{Transfer}
 use Rattle.transfer.specs.Channel.{heldLimit}
 use Rattle.channels.specs.declared.channel_state.ChannelState.{ChannelState}
 
-abbrev pub numbers : ChannelState → Channel
-numbers x = record { state = x .state; held = x .held; next = x .next; left = x .left }
+abbrev pub channelOf : ChannelState → Channel
+channelOf x = record { state = x .state; held = x .held; next = x .next; left = x .left }
 
 -- channel c, with its numbers k, of a transfer with that count, fault and held bytes
 unfoldable pub channelStateOf : ℕ → ℕ → ℕ → Channel → List ℕ → ℕ → ChannelState
@@ -33,7 +33,7 @@ writeBack t c x =
       fault = x .fault;
       on = x .on;
       heads = take (heldLimit * c) (t .heads) ++ (x .bytes ++ drop (heldLimit * c + heldLimit) (t .heads));
-      channels = set (t .channels) c (numbers x);
+      channels = set (t .channels) c (channelOf x);
     }
 
 -- ---- what a call leaves of the channel
@@ -43,5 +43,5 @@ unfoldable pub withState : ChannelState → ℕ → ℕ → ℕ → ChannelState
 withState x s p n =
     record { count = x .count; fault = x .fault; on = x .on; state = s; held = 0; next = p; left = n; bytes = replicate heldLimit 0 }
 
-unfoldable pub withFault : ChannelState → ℕ → ℕ → ChannelState
-withFault x c k = record { count = x .count; fault = k; on = c; state = 1; held = 0; next = 0; left = 0; bytes = replicate heldLimit 0 }
+unfoldable pub clearedWithFault : ChannelState → ℕ → ℕ → ChannelState
+clearedWithFault x c k = record { count = x .count; fault = k; on = c; state = 1; held = 0; next = 0; left = 0; bytes = replicate heldLimit 0 }

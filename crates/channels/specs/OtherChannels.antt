@@ -10,7 +10,7 @@ use Rattle.transfer.specs.Channel.{channelCount, heldLimit}
 use Rattle.transfer.specs.Transfer.{oneIfEnded, oneIfActive, endedOf, usedOf}
 use Rattle.channels.specs.declared.channel_state.ChannelState.{ChannelState}
 use Rattle.channels.specs.declared.other_channels.OtherChannels.{OtherChannels}
-use Rattle.channels.specs.ChannelState.{numbers, writeBack}
+use Rattle.channels.specs.ChannelState.{channelOf, writeBack}
 
 -- the counts of all channels, less one in that state
 unfoldable pub othersOf : ℕ → FitReport → ℕ → OtherChannels
@@ -23,5 +23,5 @@ pub record CountsOthers (t : Transfer) (c : ℕ) (o : OtherChannels) : Type 0 wh
   pub channels : length (t .channels) ≡ channelCount
   pub heads : length (t .heads) ≡ heldLimit * channelCount
   pub len : t .len ≡ o .len
-  pub used : (x : ChannelState) → usedOf (writeBack t c x) ≡ o .used + (oneIfEnded (numbers x) + oneIfActive (numbers x))
-  pub ended : (x : ChannelState) → endedOf (writeBack t c x) ≡ o .ended + oneIfEnded (numbers x)
+  pub used : (x : ChannelState) → usedOf (writeBack t c x) ≡ o .used + (oneIfEnded (channelOf x) + oneIfActive (channelOf x))
+  pub ended : (x : ChannelState) → endedOf (writeBack t c x) ≡ o .ended + oneIfEnded (channelOf x)

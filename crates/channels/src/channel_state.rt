@@ -1,7 +1,7 @@
 // The channel of a call, apart from its transfer: a call changes nothing else but count and fault, so it works on these few numbers and
 // writes them back once. Whatever a state doesn't use is 0.
 ghost use mathlib.Core.Path.{_≡_};
-ghost use Rattle.channels.specs.ChannelState.{withState, withFault};
+ghost use Rattle.channels.specs.ChannelState.{withState, clearedWithFault};
 
 // What a call can change of its transfer: the channel's numbers and held bytes, count and fault.
 pub struct ChannelState {
@@ -32,8 +32,8 @@ pub fn with_state(x: ChannelState, state: u8, next: u64, left: u64) -> ChannelSt
 }
 
 // A fault with its channel; of the header nothing is held.
-pub fn with_fault(x: ChannelState, c: usize, k: u64) -> ChannelState
-    ensures { λ r. ⌜ r ≡ withFault x c k ⌝ }
+pub fn cleared_with_fault(x: ChannelState, c: usize, k: u64) -> ChannelState
+    ensures { λ r. ⌜ r ≡ clearedWithFault x c k ⌝ }
 {
     let none = [0u8; 16];
     ChannelState {

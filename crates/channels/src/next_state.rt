@@ -9,7 +9,7 @@ ghost use mathlib.Core.List.{List};
 ghost use Prim.Native.Nat.{ℕ, _<_};
 ghost use Rattle.transfer.specs.declared.state.Transfer.{Transfer};
 ghost use Rattle.transfer.specs.Transfer.{world};
-ghost use Rattle.transfer.specs.Receive.{beginPayload, endChannel};
+ghost use Rattle.transfer.specs.Receive.{expectPayload, endChannel};
 ghost use Rattle.channels.specs.ChannelState.{writeBack};
 ghost use Rattle.channels.specs.OtherChannels.{CountsOthers};
 ghost use Rattle.channels.specs.NextState.{continuesOrStops};
@@ -21,12 +21,12 @@ pub struct NextState {
 }
 
 // The channel ends; 20 where as many as announced have ended already.
-fn close(x: ChannelState, c: usize, o: OtherChannels) -> NextState
+fn end_channel(x: ChannelState, c: usize, o: OtherChannels) -> NextState
     ensures { λ r. ⌜ (x .state < 4 → (t : Transfer) (file ledger : List ℕ) → CountsOthers t c o → continuesOrStops (r .continues) (world (writeBack t c (r .channel)) file ledger) ≡ endChannel (world (writeBack t c x) file ledger) c) ⌝ }
 {
     if verdict::count_reached(x.count, o.ended) {
         return NextState {
-            channel: channel_state::with_fault(x, c, 20),
+            channel: channel_state::cleared_with_fault(x, c, 20),
             continues: false,
         };
     }
@@ -47,7 +47,7 @@ fn payload_number(last: bool) -> u8
 }
 
 // left payload bytes from the place next on are to come, after which the channel ends or not.
-pub fn open(
+pub fn expect_payload(
     x: ChannelState,
     c: usize,
     o: OtherChannels,
@@ -55,11 +55,11 @@ pub fn open(
     left: u64,
     last: bool,
 ) -> NextState
-    ensures { λ r. ⌜ (x .state < 4 → (t : Transfer) (file ledger : List ℕ) → CountsOthers t c o → continuesOrStops (r .continues) (world (writeBack t c (r .channel)) file ledger) ≡ beginPayload (world (writeBack t c x) file ledger) c next left last) ⌝ }
+    ensures { λ r. ⌜ (x .state < 4 → (t : Transfer) (file ledger : List ℕ) → CountsOthers t c o → continuesOrStops (r .continues) (world (writeBack t c (r .channel)) file ledger) ≡ expectPayload (world (writeBack t c x) file ledger) c next left last) ⌝ }
 {
     if left == 0 {
         if last {
-            return close(x, c, o);
+            return end_channel(x, c, o);
         }
         return NextState {
             channel: channel_state::with_state(x, 1, 0, 0),

@@ -10,8 +10,8 @@ use Rattle.ledger.specs.Pairs.{endsAtMost}
 use Rattle.ledger.specs.Ledger.{obeys, pairsOf}
 use Rattle.transfer.specs.declared.state.Transfer.{Transfer}
 use Rattle.transfer.specs.Channel.{channelCount, heldLimit}
-use Rattle.transfer.specs.Fit.{pairLimit, channelsFit, restsApart, countFits, faultFits, fitsLedger}
-use Rattle.channelchecks.specs.FitReport.{allFit, ledgerFits}
+use Rattle.transfer.specs.Fit.{pairLimit, channelsFit, restsApart, countFits, faultFits, fitsWithoutFile}
+use Rattle.channelchecks.specs.FitReport.{channelsFitTogether, ledgerFits}
 
 -- eight tests, the last moved to the front
 moved : (a b o e k r n f : Bool) → (a && (b && (o && (e && (k && (r && (n && f))))))) ≡ ((a && b) && (f && (((o && e) && (k && r)) && n)))
@@ -26,8 +26,8 @@ moved true true true true true true true f = sym (and-true f)
 
 -- the pairs, the fault, the channels with the ledger, and their count
 pub fits-by-parts : (t : Transfer) (l : List ℕ) → length (t .channels) ≡ channelCount → length (t .heads) ≡ heldLimit * channelCount
-    → fitsLedger t l ≡ ((leb (t .pairs) pairLimit && eqb (length l) (2 * t .pairs)) && (faultFits t && ((ledgerFits t l && allFit t l) && countFits t)))
-unfolding fitsLedger
+    → fitsWithoutFile t l ≡ ((leb (t .pairs) pairLimit && eqb (length l) (2 * t .pairs)) && (faultFits t && ((ledgerFits t l && channelsFitTogether t l) && countFits t)))
+unfolding fitsWithoutFile
 fits-by-parts t l h g =
     rw (eq-eqb (length (t .channels)) channelCount h, eq-eqb (length (t .heads)) (heldLimit * channelCount) g) (moved
     (leb (t .pairs) pairLimit)

@@ -4,13 +4,13 @@ use mathlib.Core.Bool.{cond}
 use mathlib.Core.List.{List}
 use lib.Dec.{eqb}
 use Rattle.transfer.specs.declared.state.Transfer.{Transfer}
-use Rattle.transfer.specs.Fit.{fitsLedger}
+use Rattle.transfer.specs.Fit.{fitsWithoutFile}
 use Rattle.channelchecks.specs.declared.report.FitReport.{FitReport}
-use Rattle.channelchecks.specs.FitReport.{unfit, reportWhere}
+use Rattle.channelchecks.specs.FitReport.{unfit, reportIf}
 
 unfoldable pub reportOf : Transfer → List ℕ → FitReport
-reportOf t claimed = reportWhere (fitsLedger t claimed) t
+reportOf t claimed = reportIf (fitsWithoutFile t claimed) t
 
 -- for a file of so many bytes
-unfoldable pub reportIn : ℕ → Transfer → List ℕ → FitReport
-reportIn file t claimed = cond (eqb file (t .len)) (reportOf t claimed) unfit
+unfoldable pub reportWithFile : ℕ → Transfer → List ℕ → FitReport
+reportWithFile file t claimed = cond (eqb file (t .len)) (reportOf t claimed) unfit

@@ -4,8 +4,8 @@ use channelchecks::report;
 use channelchecks::report::FitReport;
 use transfer::state::Transfer;
 ghost use mathlib.Core.Path.{_≡_};
-ghost use Rattle.transfer.specs.Fit.{fitsLedger};
-ghost use Rattle.checks.specs.ReportOf.{reportOf, reportIn};
+ghost use Rattle.transfer.specs.Fit.{fitsWithoutFile};
+ghost use Rattle.checks.specs.ReportOf.{reportOf, reportWithFile};
 
 // All but the file's length, with what is counted on the way.
 fn fit_report(t: Transfer, ledger: &[u64]) -> FitReport
@@ -29,7 +29,7 @@ fn fit_report(t: Transfer, ledger: &[u64]) -> FitReport
 
 // Its answer alone.
 pub fn without_file(t: Transfer, ledger: &[u64]) -> bool
-    ensures { λ r. ⌜ r ≡ fitsLedger t (now (ledger .entry)) ⌝ }
+    ensures { λ r. ⌜ r ≡ fitsWithoutFile t (now (ledger .entry)) ⌝ }
 {
     let found = fit_report(t, ledger);
     found.fits
@@ -37,7 +37,7 @@ pub fn without_file(t: Transfer, ledger: &[u64]) -> bool
 
 // The whole of it, for a file of so many bytes.
 pub fn whole(t: Transfer, file: usize, ledger: &[u64]) -> FitReport
-    ensures { λ r. ⌜ r ≡ reportIn file t (now (ledger .entry)) ⌝ }
+    ensures { λ r. ⌜ r ≡ reportWithFile file t (now (ledger .entry)) ⌝ }
 {
     if file as u64 != t.len {
         return report::unfit();

@@ -6,7 +6,7 @@ use mathlib.Core.List.{List}
 use native.Mathlib.Omega.{arith}
 use native.Mathlib.Decide.{decLt, decLe}
 use lib.ListN.{getD}
-use Rattle.ledger.specs.Pairs.{Pairs, none, pair, size, Ruled, countEndingBelow, countStartingBy}
+use Rattle.ledger.specs.Pairs.{Pairs, none, pair, size, ObeyFrom, countEndingBelow, countStartingBy}
 use Rattle.ledger.specs.Ledger.{obeys, pairsOf, capacity}
 use Rattle.claims.specs.Claim.{slotOf}
 use Rattle.claims.specs.ClaimLaws.{ClaimLaws}
@@ -28,13 +28,13 @@ below-ends s i (pair a b ps) h = go i (decLt b s) (λ j. below-ends s j ps) h
     go (suc i) (yes q) f k = f i (omega (arith, below-on s a b ps q))
 
 -- the ends ascend
-ends-from : (s lo i : ℕ) (ps : Pairs) → Ruled lo ps → s ≤ lo → i < size ps → s ≤ endAt i ps
+ends-from : (s lo i : ℕ) (ps : Pairs) → ObeyFrom lo ps → s ≤ lo → i < size ps → s ≤ endAt i ps
 unfolding endAt size
 ends-from s lo i none c h k = absurd (omega arith)
 ends-from s lo zero (pair a b ps) c h k = omega (arith, c .0, c .1)
 ends-from s lo (suc i) (pair a b ps) c h k = ends-from s (suc b) i ps (c .2) (omega (arith, c .0, c .1)) (omega arith)
 
-below-from : (s lo i : ℕ) (ps : Pairs) → Ruled lo ps → countEndingBelow s ps ≤ i → i < size ps → s ≤ endAt i ps
+below-from : (s lo i : ℕ) (ps : Pairs) → ObeyFrom lo ps → countEndingBelow s ps ≤ i → i < size ps → s ≤ endAt i ps
 unfolding endAt size
 below-from s lo i none c h k = absurd (omega arith)
 below-from s lo i (pair a b ps) c h k = go i (decLt b s) (λ j. below-from s (suc b) j ps (c .2)) h k
@@ -56,13 +56,13 @@ countStartingBy-starts e i (pair a b ps) h = go i (decLe a e) (λ j. countStarti
     go (suc i) (yes q) f k = f i (omega (arith, countStartingBy-on e a b ps q))
 
 -- the starts ascend
-starts-from : (e lo i : ℕ) (ps : Pairs) → Ruled lo ps → e < lo → i < size ps → e < startAt i ps
+starts-from : (e lo i : ℕ) (ps : Pairs) → ObeyFrom lo ps → e < lo → i < size ps → e < startAt i ps
 unfolding startAt size
 starts-from e lo i none c h k = absurd (omega arith)
 starts-from e lo zero (pair a b ps) c h k = omega (arith, c .0)
 starts-from e lo (suc i) (pair a b ps) c h k = starts-from e (suc b) i ps (c .2) (omega (arith, c .0, c .1)) (omega arith)
 
-countStartingBy-after : (e lo i : ℕ) (ps : Pairs) → Ruled lo ps → countStartingBy e ps ≤ i → i < size ps → e < startAt i ps
+countStartingBy-after : (e lo i : ℕ) (ps : Pairs) → ObeyFrom lo ps → countStartingBy e ps ≤ i → i < size ps → e < startAt i ps
 unfolding startAt size
 countStartingBy-after e lo i none c h k = absurd (omega arith)
 countStartingBy-after e lo i (pair a b ps) c h k = go i (decLe a e) (λ j. countStartingBy-after e (suc b) j ps (c .2)) h k

@@ -8,7 +8,7 @@ use native.Mathlib.Decide.{decLt}
 use borrow.Author.Tests.{lt-ltb, le-ltb}
 use lib.Dec.{ltb}
 use lib.ListN.{length, getD, drop}
-use Rattle.ledger.specs.Pairs.{pair, size, Ruled, join, countEndingBelow, countStartingBy}
+use Rattle.ledger.specs.Pairs.{pair, size, ObeyFrom, join, countEndingBelow, countStartingBy}
 use Rattle.ledger.specs.Ledger.{obeys, pairsOf, laidOut, capacity}
 use Rattle.claims.specs.Claim.{slotOf}
 use Rattle.claims.specs.declared.claim.Slot.{Slot}
@@ -39,7 +39,7 @@ module _ (l : List ℕ) (o : obeys l ≡ true) where
   pub even : length l ≡ 2 * capacity l
   even = omega (arith, obeys-even l o)
 
-  pub ruled : Ruled 0 (pairsOf l)
+  pub ruled : ObeyFrom 0 (pairsOf l)
   unfolding obeys
   ruled = rule-ruled 0 l o
 

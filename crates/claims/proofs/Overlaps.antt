@@ -9,7 +9,7 @@ use native.Mathlib.Decide.{decLt, decLe}
 use borrow.Author.Tests.{le-ltb}
 use lib.Dec.{ltb}
 use lib.ListN.{length, getD}
-use Rattle.ledger.specs.Pairs.{Pairs, none, pair, size, Ruled, overlaps, countEndingBelow, countStartingBy}
+use Rattle.ledger.specs.Pairs.{Pairs, none, pair, size, ObeyFrom, overlaps, countEndingBelow, countStartingBy}
 use Rattle.ledger.specs.Ledger.{obeys, pairsOf, capacity}
 use Rattle.ledger.proofs.LedgerLayout.{rule-ruled}
 use Rattle.ledger.proofs.LedgerOdd.{obeys-even}
@@ -27,13 +27,13 @@ shares-below s e (pair a b ps) = go (decLt b s) (shares-below s e ps)
     go (no q) i = rw (below-stops s a b ps (omega arith))
 
 -- those that start above the end share nothing
-shares-beyond : (s e lo : ℕ) (ps : Pairs) → Ruled lo ps → e ≤ lo → overlaps s e ps ≡ false
+shares-beyond : (s e lo : ℕ) (ps : Pairs) → ObeyFrom lo ps → e ≤ lo → overlaps s e ps ≡ false
 unfolding overlaps
 shares-beyond s e lo none c h = refl
 shares-beyond s e lo (pair a b ps) c h =
     rw (le-ltb a e (omega (arith, c .0)), and-false (ltb s b), shares-beyond s e (suc b) ps (c .2) (omega (arith, c .0, c .1)))
 
-shares-past : (s e lo : ℕ) (ps : Pairs) → Ruled lo ps → overlaps s e (rest (countStartingBy e ps) ps) ≡ false
+shares-past : (s e lo : ℕ) (ps : Pairs) → ObeyFrom lo ps → overlaps s e (rest (countStartingBy e ps) ps) ≡ false
 unfolding overlaps rest
 shares-past s e lo none c = unfold countStartingBy in refl
 shares-past s e lo (pair a b ps) c = go (decLe a e) (shares-past s e (suc b) ps (c .2))

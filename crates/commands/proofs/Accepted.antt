@@ -9,8 +9,8 @@ use borrow.Author.Tests.{lt-ltb, ltb-true, eq-eqb, eqb-true}
 use lib.Dec.{ltb, eqb}
 use lib.ListN.{length, getD, take, drop, replicate, length-append, length-drop, length-replicate, drop-of-length-le}
 use lib.Seq.{drop-at, drop-drop, drop-append-add}
-use Rattle.octets.specs.Text.{all, isLetter, isPrintable, isSpace, leading}
-use Rattle.commands.specs.Line.{takesNoArgument, textOf, endsInCrLf, verbOf, afterVerb, hasVerb, argumentAt, argumentFits, readOf, argumentOf, number, verb}
+use Rattle.octets.specs.Text.{all, isLetter, isPrintable, isSpace, leadingCount}
+use Rattle.commands.specs.Line.{takesNoArgument, textOf, endsInCrLf, verbOf, afterVerb, hasVerb, argumentStart, argumentAccepted, readOf, argumentOf, refusalNumber, verb}
 use Rattle.commands.specs.Accepted.{TakesNoArgument, CommandLine, AcceptedLines}
 use Rattle.commands.specs.Refused.{BeginsWithVerb}
 use Rattle.octets.proofs.Texts.{all-append, all-drop, leading-le, leading-rest}
@@ -26,11 +26,11 @@ regroup : (word spaces argument rest : List ℕ) → (word ++ (spaces ++ argumen
 regroup word spaces argument rest = simp append-assoc
 
 -- what is handed back of an accepted line is the end of its text
-handed : (line : List ℕ) → Passed line → argumentOf (readOf line) line ≡ drop (argumentAt (textOf line)) (textOf line)
+handed : (line : List ℕ) → Passed line → argumentOf (readOf line) line ≡ drop (argumentStart (textOf line)) (textOf line)
 unfolding argumentOf
 handed line p =
     let t = textOf line in
-    rw (passed-accepted line p) (part-is line t crLf (argumentAt t) (ends-whole line (p .ended)) (argument-within t))
+    rw (passed-accepted line p) (part-is line t crLf (argumentStart t) (ends-whole line (p .ended)) (argument-within t))
 
 -- ---- a line that is accepted
 
@@ -42,52 +42,52 @@ module _ (line : List ℕ) (p : Passed line) where
   v = verbOf text
 
   abbrev argument : List ℕ
-  argument = drop (argumentAt text) text
+  argument = drop (argumentStart text) text
 
-  begins : BeginsWithVerb text (take (leading isLetter text) text) (afterVerb text) v
+  begins : BeginsWithVerb text (take (leadingCount isLetter text) text) (afterVerb text) v
   begins = has-verb-begins text (p .verb-is)
 
-  whole : line ≡ take (leading isLetter text) text ++ (replicate (leading isSpace (afterVerb text)) 32 ++ (argument ++ crLf))
+  whole : line ≡ take (leadingCount isLetter text) text ++ (replicate (leadingCount isSpace (afterVerb text)) 32 ++ (argument ++ crLf))
   whole =
       ends-whole line (p .ended) ∙ ap (λ t. t ++ crLf) (text-whole text)
-      ∙ regroup (take (leading isLetter text) text) (replicate (leading isSpace (afterVerb text)) 32) argument crLf
+      ∙ regroup (take (leadingCount isLetter text) text) (replicate (leadingCount isSpace (afterVerb text)) 32) argument crLf
 
-  no-argument : TakesNoArgument v → (leading isSpace (afterVerb text) ≡ 0) × (argument ≡ [])
-  unfolding argumentFits
+  no-argument : TakesNoArgument v → (leadingCount isSpace (afterVerb text) ≡ 0) × (argument ≡ [])
+  unfolding argumentAccepted
   no-argument b =
       let n = eqb-true (length (afterVerb text)) 0 (rw (no-argument-true v b) at (p .argument-is)) in
       let s = leading-le isSpace (afterVerb text) in
-      (omega arith, drop-of-length-le text {i = argumentAt text} (omega (arith, after-length text, argument-past text)))
+      (omega arith, drop-of-length-le text {i = argumentStart text} (omega (arith, after-length text, argument-past text)))
 
-  with-argument : (TakesNoArgument v → ⊥) → (0 < leading isSpace (afterVerb text)) × (0 < length argument)
-  unfolding argumentFits
+  with-argument : (TakesNoArgument v → ⊥) → (0 < leadingCount isSpace (afterVerb text)) × (0 < length argument)
+  unfolding argumentAccepted
   with-argument b =
-      let n = ltb-true (argumentAt text) (length text) (rw (no-argument-false v b) at (p .argument-is)) in
+      let n = ltb-true (argumentStart text) (length text) (rw (no-argument-false v b) at (p .argument-is)) in
       let s = space-first (afterVerb text) (omega (arith, after-length text, argument-past text)) (begins .followed) in
-      (s, omega (arith, length-drop (argumentAt text) text))
+      (s, omega (arith, length-drop (argumentStart text) text))
 
   first : getD argument 0 0 ≢ 32
-  unfolding argumentAt afterVerb
-  first = first-no-space argument (ap (leading isSpace) (sym (drop-drop (leading isSpace (afterVerb text)) (leading isLetter text) text)) ∙ leading-rest isSpace (afterVerb text))
+  unfolding argumentStart afterVerb
+  first = first-no-space argument (ap (leadingCount isSpace) (sym (drop-drop (leadingCount isSpace (afterVerb text)) (leadingCount isLetter text) text)) ∙ leading-rest isSpace (afterVerb text))
 
-  command-line : CommandLine line (take (leading isLetter text) text) argument v (leading isSpace (afterVerb text))
+  command-line : CommandLine line (take (leadingCount isLetter text) text) argument v (leadingCount isSpace (afterVerb text))
   command-line = record {
     whole = whole;
     short = p .short;
-    printable = printable-at argument (all-drop isPrintable text (argumentAt text) (p .printable));
+    printable = printable-at argument (all-drop isPrintable text (argumentStart text) (p .printable));
     verb-is = begins .verb-is;
     no-argument = no-argument;
     with-argument = with-argument;
     first = first;
   }
 
-by-line : (line : List ℕ) → number (readOf line) ≡ 0
+by-line : (line : List ℕ) → refusalNumber (readOf line) ≡ 0
     → (word : List ℕ) × (spaces : ℕ) × CommandLine line word (argumentOf (readOf line) line) (verb (readOf line)) spaces
 unfolding verb
 by-line line e =
     let p = accepted-passed line e in
     let t = textOf line in
-    (take (leading isLetter t) t, leading isSpace (afterVerb t), rw (handed line p, passed-accepted line p) (command-line line p))
+    (take (leadingCount isLetter t) t, leadingCount isSpace (afterVerb t), rw (handed line p, passed-accepted line p) (command-line line p))
 
 -- ---- a command line
 
@@ -119,20 +119,20 @@ module _ (line word argument : List ℕ) (v spaces : ℕ) (k : CommandLine line 
   rest-length : length rest ≡ spaces + length argument
   rest-length = simp (length-append, length-replicate)
 
-  place-is : argumentAt joined ≡ length word + spaces
-  unfolding argumentAt
+  place-is : argumentStart joined ≡ length word + spaces
+  unfolding argumentStart
   place-is = rw (after-is joined word rest v begun) (omega (arith, run-is joined word rest v begun, spaces-over spaces argument, no-space argument (k .first)))
 
   joined-printable : all isPrintable joined ≡ true
   joined-printable = rw (all-append isPrintable word rest, all-append isPrintable (replicate spaces 32) argument, letters-printable word (k .verb-is .letters), spaces-printable spaces, each-printable argument (k .printable))
 
-  joined-argument : argumentFits joined ≡ true
-  unfolding argumentFits
+  joined-argument : argumentAccepted joined ≡ true
+  unfolding argumentAccepted
   joined-argument = rw (verb-is joined word rest v begun, after-is joined word rest v begun) (go (no-argument-dec v))
     where
-      go : Dec (TakesNoArgument v) → cond (takesNoArgument v) (eqb (length rest) 0) (ltb (argumentAt joined) (length joined)) ≡ true
+      go : Dec (TakesNoArgument v) → cond (takesNoArgument v) (eqb (length rest) 0) (ltb (argumentStart joined) (length joined)) ≡ true
       go (yes b) = rw (no-argument-true v b, eq-eqb (length rest) 0 (omega (arith, rest-length, k .no-argument b .0, ap length (k .no-argument b .1))))
-      go (no b) = rw (no-argument-false v b, lt-ltb (argumentAt joined) (length joined) (omega (arith, place-is, rest-length, length-append word rest, k .with-argument b .1)))
+      go (no b) = rw (no-argument-false v b, lt-ltb (argumentStart joined) (length joined) (omega (arith, place-is, rest-length, length-append word rest, k .with-argument b .1)))
 
   passed : Passed line
   passed = record {
@@ -140,17 +140,17 @@ module _ (line word argument : List ℕ) (v spaces : ℕ) (k : CommandLine line 
     ended = ap endsInCrLf line-is ∙ ended-ends joined;
     printable = ap (all isPrintable) text-is ∙ joined-printable;
     verb-is = ap hasVerb text-is ∙ begins-has-verb joined word rest v begun;
-    argument-is = ap argumentFits text-is ∙ joined-argument;
+    argument-is = ap argumentAccepted text-is ∙ joined-argument;
   }
 
-  joined-part : drop (argumentAt joined) joined ≡ argument
+  joined-part : drop (argumentStart joined) joined ≡ argument
   joined-part = rw (place-is, drop-append-add word rest spaces) (drop-at (replicate spaces 32) argument spaces (length-replicate spaces 32))
 
-  accepted : (number (readOf line) ≡ 0) × (verb (readOf line) ≡ v) × (argumentOf (readOf line) line ≡ argument)
-  unfolding number verb
+  accepted : (refusalNumber (readOf line) ≡ 0) × (verb (readOf line) ≡ v) × (argumentOf (readOf line) line ≡ argument)
+  unfolding refusalNumber verb
   accepted =
       let r = passed-accepted line passed in
-      (ap number r, ap verb r ∙ ap verbOf text-is ∙ verb-is joined word rest v begun, handed line passed ∙ ap (λ t. drop (argumentAt t) t) text-is ∙ joined-part)
+      (ap refusalNumber r, ap verb r ∙ ap verbOf text-is ∙ verb-is joined word rest v begun, handed line passed ∙ ap (λ t. drop (argumentStart t) t) text-is ∙ joined-part)
 
 pub accepted-lines : AcceptedLines
 accepted-lines = record { accepted-is = by-line; command-line-accepted = accepted }

@@ -9,7 +9,7 @@ use borrow.Author.Tests.{lt-ltb, ltb-true, eq-eqb, eqb-true}
 use lib.Dec.{ltb, eqb}
 use lib.ListN.{length, getD, take, take-append-drop}
 use lib.Seq.{take-at, drop-at}
-use Rattle.octets.specs.Text.{isLetter, leading}
+use Rattle.octets.specs.Text.{isLetter, leadingCount}
 use Rattle.commands.specs.Line.{upper, verbs, verbNumber, verbOf, afterVerb, hasVerb}
 use Rattle.commands.specs.Refused.{BeginsWithVerb}
 use Rattle.octets.proofs.Texts.{leading-append, all-leading}
@@ -17,8 +17,8 @@ use Rattle.commands.proofs.VerbTable.{number-from-is, own-number}
 
 -- ---- a space follows, or nothing does
 
-followed-first : (rest : List ℕ) → (rest ≡ []) ⊎ (getD rest 0 0 ≡ 32) → (leading isLetter rest ≡ 0) × (getD rest 0 32 ≡ 32)
-unfolding leading
+followed-first : (rest : List ℕ) → (rest ≡ []) ⊎ (getD rest 0 0 ≡ 32) → (leadingCount isLetter rest ≡ 0) × (getD rest 0 32 ≡ 32)
+unfolding leadingCount
 followed-first [] f = (refl, refl)
 followed-first (b ∷ bs) (inl e) = absurd (let z : _≡_ {A = ℕ} 0 1 = cc in omega arith)
 followed-first (b ∷ bs) (inr e) = rw e (refl, refl)
@@ -30,8 +30,8 @@ first-followed (b ∷ bs) e = inr e
 -- ---- a text that begins with a verb
 
 module _ (text word rest : List ℕ) (v : ℕ) (b : BeginsWithVerb text word rest v) where
-  pub run-is : leading isLetter text ≡ length word
-  run-is = ap (leading isLetter) (b .whole) ∙ omega (arith, leading-append isLetter word rest (b .verb-is .letters), followed-first rest (b .followed) .0)
+  pub run-is : leadingCount isLetter text ≡ length word
+  run-is = ap (leadingCount isLetter) (b .whole) ∙ omega (arith, leading-append isLetter word rest (b .verb-is .letters), followed-first rest (b .followed) .0)
 
   pub after-is : afterVerb text ≡ rest
   unfolding afterVerb
@@ -50,14 +50,14 @@ module _ (text word rest : List ℕ) (v : ℕ) (b : BeginsWithVerb text word res
 
 -- ---- and the other way round
 
-pub has-verb-begins : (text : List ℕ) → hasVerb text ≡ true → BeginsWithVerb text (take (leading isLetter text) text) (afterVerb text) (verbOf text)
+pub has-verb-begins : (text : List ℕ) → hasVerb text ≡ true → BeginsWithVerb text (take (leadingCount isLetter text) text) (afterVerb text) (verbOf text)
 unfolding hasVerb afterVerb verbOf verbNumber
 has-verb-begins text h =
-    let word = take (leading isLetter text) text in
+    let word = take (leadingCount isLetter text) text in
     let q = and-eq-true-iff (ltb 0 (verbOf text)) (eqb (getD (afterVerb text) 0 32) 32) .0 h in
     let n = number-from-is 1 verbs (map upper word) (ltb-true 0 (verbOf text) (q .0)) in
     record {
-      whole = sym (take-append-drop (leading isLetter text) text);
+      whole = sym (take-append-drop (leadingCount isLetter text) text);
       verb-is = record { letters = all-leading isLetter text; one-to-twelve = (n .0, omega arith); upper-case = n .2 };
       followed = first-followed (afterVerb text) (eqb-true (getD (afterVerb text) 0 32) 32 (q .1));
     }

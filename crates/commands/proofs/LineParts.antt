@@ -8,8 +8,8 @@ use borrow.Author.Tests.{le-leb, leb-true, eq-eqb, eqb-true}
 use lib.Dec.{leb, eqb}
 use lib.ListN.{length, getD, take, drop, replicate, length-append, length-drop, take-append-drop, drop-of-length-le}
 use lib.Seq.{drop-cons, drop-drop, drop-append-le, take-at, getD-append-add, getD-at}
-use Rattle.octets.specs.Text.{isLetter, isSpace, leading}
-use Rattle.commands.specs.Line.{textOf, endsInCrLf, afterVerb, argumentAt}
+use Rattle.octets.specs.Text.{isLetter, isSpace, leadingCount}
+use Rattle.commands.specs.Line.{textOf, endsInCrLf, afterVerb, argumentStart}
 use Rattle.commands.proofs.Spaces.{spaces-taken}
 
 abbrev pub crLf : List ℕ
@@ -67,11 +67,11 @@ part-is line text rest from e h = rw (e, drop-append-le from text rest h) (take-
 
 -- ---- verb, spaces, argument
 
-pub text-whole : (text : List ℕ) → text ≡ take (leading isLetter text) text ++ (replicate (leading isSpace (afterVerb text)) 32 ++ drop (argumentAt text) text)
-unfolding afterVerb argumentAt
+pub text-whole : (text : List ℕ) → text ≡ take (leadingCount isLetter text) text ++ (replicate (leadingCount isSpace (afterVerb text)) 32 ++ drop (argumentStart text) text)
+unfolding afterVerb argumentStart
 text-whole text =
-    let rest = drop (leading isLetter text) text in
-    let n = leading isSpace rest in
-    let end : drop n rest ≡ drop (leading isLetter text + n) text = drop-drop n (leading isLetter text) text in
+    let rest = drop (leadingCount isLetter text) text in
+    let n = leadingCount isSpace rest in
+    let end : drop n rest ≡ drop (leadingCount isLetter text + n) text = drop-drop n (leadingCount isLetter text) text in
     let parts : rest ≡ replicate n 32 ++ drop n rest = sym (take-append-drop n rest) ∙ ap (λ s. s ++ drop n rest) (spaces-taken rest) in
-    sym (take-append-drop (leading isLetter text) text) ∙ ap (λ r. take (leading isLetter text) text ++ r) (parts ∙ ap (λ r. replicate n 32 ++ r) end)
+    sym (take-append-drop (leadingCount isLetter text) text) ∙ ap (λ r. take (leadingCount isLetter text) text ++ r) (parts ∙ ap (λ r. replicate n 32 ++ r) end)

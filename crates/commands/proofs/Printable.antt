@@ -7,7 +7,7 @@ use mathlib.Core.List.{List}
 use native.Mathlib.Omega.{arith}
 use native.Mathlib.Decide.{decLt}
 use lib.ListN.{length, getD, replicate}
-use Rattle.octets.specs.Text.{between, isCapital, isLetter, isPrintable, all, leading}
+use Rattle.octets.specs.Text.{between, isCapital, isLetter, isPrintable, all, leadingCount}
 use Rattle.octets.proofs.Texts.{between-true, between-false, true-between, false-between, each-all, all-each, all-not, leading-whole, after-leading}
 use Rattle.commands.specs.Accepted.{Printable}
 
@@ -46,8 +46,8 @@ pub outside-unprintable : (text : List ℕ) (i : ℕ) → i < length text → Ou
 outside-unprintable text i h o = all-not isPrintable text i h (between-false 32 126 (getD text i 0) o)
 
 pub unprintable-at : (text : List ℕ) → all isPrintable text ≡ false → (i : ℕ) × (i < length text) × Outside (getD text i 0)
-unprintable-at text e = go (decLt (leading isPrintable text) (length text))
+unprintable-at text e = go (decLt (leadingCount isPrintable text) (length text))
   where
-    go : Dec (leading isPrintable text < length text) → (i : ℕ) × (i < length text) × Outside (getD text i 0)
-    go (yes h) = (leading isPrintable text, h, false-between 32 126 (getD text (leading isPrintable text) 0) (after-leading isPrintable text h))
+    go : Dec (leadingCount isPrintable text < length text) → (i : ℕ) × (i < length text) × Outside (getD text i 0)
+    go (yes h) = (leadingCount isPrintable text, h, false-between 32 126 (getD text (leadingCount isPrintable text) 0) (after-leading isPrintable text h))
     go (no h) = absurd (true≢false (sym (leading-whole isPrintable text (omega arith)) ∙ e))

@@ -9,8 +9,8 @@ use borrow.Author.Tests.{ltb-true, ltb-false, le-ltb, eqb-false, ne-eqb}
 use lib.Dec.{ltb}
 use lib.ListN.{length, take, replicate, length-append, length-replicate}
 use lib.Seq.{take-all}
-use Rattle.octets.specs.Text.{all, isLetter, isPrintable, isSpace, leading}
-use Rattle.commands.specs.Line.{lineLimit, textOf, endsInCrLf, verbOf, afterVerb, hasVerb, argumentAt, argumentFits, readOf, argumentOf, number, verb}
+use Rattle.octets.specs.Text.{all, isLetter, isPrintable, isSpace, leadingCount}
+use Rattle.commands.specs.Line.{lineLimit, textOf, endsInCrLf, verbOf, afterVerb, hasVerb, argumentStart, argumentAccepted, readOf, argumentOf, refusalNumber, verb}
 use Rattle.commands.specs.Accepted.{Printable, TakesNoArgument}
 use Rattle.commands.specs.Refused.{BeginsWithVerb, RefusedBy, by-31, by-32, by-33, by-34, by-35-missing, by-35-present, Refusals}
 use Rattle.commands.specs.declared.line.Line.the-variants.{Refused}
@@ -23,27 +23,27 @@ use Rattle.commands.proofs.BeginsWithVerb.{run-is, after-is, verb-is, b
 
 -- ---- the argument
 
-missing : (text word : List ℕ) (v spaces : ℕ) → BeginsWithVerb text word (replicate spaces 32) v → (TakesNoArgument v → ⊥) → argumentFits text ≡ false
-unfolding argumentFits argumentAt leading
+missing : (text word : List ℕ) (v spaces : ℕ) → BeginsWithVerb text word (replicate spaces 32) v → (TakesNoArgument v → ⊥) → argumentAccepted text ≡ false
+unfolding argumentAccepted argumentStart leadingCount
 missing text word v spaces b n =
     let rest : List ℕ = replicate spaces 32 in
     let r : length text ≡ length word + spaces = ap length (b .whole) ∙ simp (length-append, length-replicate) in
-    let s : leading isSpace rest ≡ spaces = omega (arith, rw (append-nil rest) at (spaces-over spaces [])) in
-    rw (verb-is text word rest v b, no-argument-false v n, after-is text word rest v b) (le-ltb (leading isLetter text + leading isSpace rest) (length text) (omega (arith, run-is text word rest v b)))
+    let s : leadingCount isSpace rest ≡ spaces = omega (arith, rw (append-nil rest) at (spaces-over spaces [])) in
+    rw (verb-is text word rest v b, no-argument-false v n, after-is text word rest v b) (le-ltb (leadingCount isLetter text + leadingCount isSpace rest) (length text) (omega (arith, run-is text word rest v b)))
 
-present : (text word rest : List ℕ) (v : ℕ) → BeginsWithVerb text word rest v → TakesNoArgument v → 0 < length rest → argumentFits text ≡ false
-unfolding argumentFits
+present : (text word rest : List ℕ) (v : ℕ) → BeginsWithVerb text word rest v → TakesNoArgument v → 0 < length rest → argumentAccepted text ≡ false
+unfolding argumentAccepted
 present text word rest v b p h = rw (verb-is text word rest v b, no-argument-true v p, after-is text word rest v b) (ne-eqb (length rest) 0 (omega arith))
 
 -- ---- the number of a row is the answer's
 
 module _ (line : List ℕ) where
   abbrev Answer : ℕ → Type 0
-  Answer k = (number (readOf line) ≡ k) × (verb (readOf line) ≡ 0) × (argumentOf (readOf line) line ≡ [])
+  Answer k = (refusalNumber (readOf line) ≡ k) × (verb (readOf line) ≡ 0) × (argumentOf (readOf line) line ≡ [])
 
   answer : (k : ℕ) → readOf line ≡ Refused k → Answer k
-  unfolding number verb argumentOf
-  answer k e = (ap number e, ap verb e, ap (λ a. argumentOf a line) e)
+  unfolding refusalNumber verb argumentOf
+  answer k e = (ap refusalNumber e, ap verb e, ap (λ a. argumentOf a line) e)
 
   not-ended : ((text : List ℕ) → line ≢ text ++ crLf) → endsInCrLf line ≡ false
   not-ended n = not-eq-not {b = false} .0 (λ e. n (textOf line) (ends-whole line e))
@@ -62,8 +62,8 @@ module _ (line : List ℕ) where
       plain : all isPrintable (textOf line) ≡ true
       plain = ap (all isPrintable) text-is ∙ each-printable text p
 
-      wrong : (word rest : List ℕ) (v : ℕ) → BeginsWithVerb text word rest v → argumentFits text ≡ false → Answer 35
-      wrong word rest v b a = answer 35 (reads-35 line l ends plain (ap hasVerb text-is ∙ begins-has-verb text word rest v b) (ap argumentFits text-is ∙ a))
+      wrong : (word rest : List ℕ) (v : ℕ) → BeginsWithVerb text word rest v → argumentAccepted text ≡ false → Answer 35
+      wrong word rest v b a = answer 35 (reads-35 line l ends plain (ap hasVerb text-is ∙ begins-has-verb text word rest v b) (ap argumentAccepted text-is ∙ a))
 
   refused-only : (k : ℕ) → RefusedBy line k → Answer k
   refused-only _ (by-31 l) = answer 31 (reads-31 line l)
@@ -96,18 +96,18 @@ module _ (line : List ℕ) where
     }
 
     -- nothing but spaces follows the verb
-    only-spaces : length text ≤ argumentAt text → afterVerb text ≡ replicate (leading isSpace (afterVerb text)) 32
-    unfolding argumentAt
+    only-spaces : length text ≤ argumentStart text → afterVerb text ≡ replicate (leadingCount isSpace (afterVerb text)) 32
+    unfolding argumentStart
     only-spaces h =
         let a = after-length text in
-        let w : length (afterVerb text) ≤ leading isSpace (afterVerb text) = omega arith in
-        sym (take-all (leading isSpace (afterVerb text)) (afterVerb text) w) ∙ spaces-taken (afterVerb text)
+        let w : length (afterVerb text) ≤ leadingCount isSpace (afterVerb text) = omega arith in
+        sym (take-all (leadingCount isSpace (afterVerb text)) (afterVerb text) w) ∙ spaces-taken (afterVerb text)
 
-    row-35 : hasVerb text ≡ true → argumentFits text ≡ false → Row
-    unfolding argumentFits
+    row-35 : hasVerb text ≡ true → argumentAccepted text ≡ false → Row
+    unfolding argumentAccepted
     row-35 s a = record { k = 35; positive = omega arith; reads = reads-35 line l e p s a; row = go (no-argument-dec (verbOf text)) }
       where
-        begins : BeginsWithVerb text (take (leading isLetter text) text) (afterVerb text) (verbOf text)
+        begins : BeginsWithVerb text (take (leadingCount isLetter text) text) (afterVerb text) (verbOf text)
         begins = has-verb-begins text s
 
         go : Dec (TakesNoArgument (verbOf text)) → RefusedBy line 35
@@ -115,13 +115,13 @@ module _ (line : List ℕ) where
             let n = eqb-false (length (afterVerb text)) 0 (rw (no-argument-true (verbOf text) b) at a) in
             by-35-present text _ _ _ l (ends-whole line e) (printable-at text p) begins b (omega arith)
         go (no b) =
-            let n = ltb-false (argumentAt text) (length text) (rw (no-argument-false (verbOf text) b) at a) in
-            by-35-missing text _ _ (leading isSpace (afterVerb text)) l (ends-whole line e) (printable-at text p) (rw (only-spaces n) at begins) b
+            let n = ltb-false (argumentStart text) (length text) (rw (no-argument-false (verbOf text) b) at a) in
+            by-35-missing text _ _ (leadingCount isSpace (afterVerb text)) l (ends-whole line e) (printable-at text p) (rw (only-spaces n) at begins) b
 
   judged : Passed line ⊎ Row
-  judged = go (ltb lineLimit (length line)) (endsInCrLf line) (all isPrintable (textOf line)) (hasVerb (textOf line)) (argumentFits (textOf line)) refl refl refl refl refl
+  judged = go (ltb lineLimit (length line)) (endsInCrLf line) (all isPrintable (textOf line)) (hasVerb (textOf line)) (argumentAccepted (textOf line)) refl refl refl refl refl
     where
-      go : (a b c d e : Bool) → ltb lineLimit (length line) ≡ a → endsInCrLf line ≡ b → all isPrintable (textOf line) ≡ c → hasVerb (textOf line) ≡ d → argumentFits (textOf line) ≡ e
+      go : (a b c d e : Bool) → ltb lineLimit (length line) ≡ a → endsInCrLf line ≡ b → all isPrintable (textOf line) ≡ c → hasVerb (textOf line) ≡ d → argumentAccepted (textOf line) ≡ e
           → Passed line ⊎ Row
       go true b c d e p q r s t =
           let l = ltb-true lineLimit (length line) p in
@@ -137,15 +137,15 @@ module _ (line : List ℕ) where
       go false true true true false p q r s t = inr (row-35 (ltb-false lineLimit (length line) p) q r s t)
       go false true true true true p q r s t = inl (record { short = ltb-false lineLimit (length line) p; ended = q; printable = r; verb-is = s; argument-is = t })
 
-  refused-is : 0 < number (readOf line) → RefusedBy line (number (readOf line))
-  unfolding number
+  refused-is : 0 < refusalNumber (readOf line) → RefusedBy line (refusalNumber (readOf line))
+  unfolding refusalNumber
   refused-is z = go judged
     where
-      go : Passed line ⊎ Row → RefusedBy line (number (readOf line))
-      go (inl p) = absurd (omega (arith, ap number (passed-accepted line p)))
+      go : Passed line ⊎ Row → RefusedBy line (refusalNumber (readOf line))
+      go (inl p) = absurd (omega (arith, ap refusalNumber (passed-accepted line p)))
       go (inr r) = rw (answer line (r .k) (r .reads) .0) (r .row)
 
-  pub accepted-passed : number (readOf line) ≡ 0 → Passed line
+  pub accepted-passed : refusalNumber (readOf line) ≡ 0 → Passed line
   accepted-passed z = go judged
     where
       go : Passed line ⊎ Row → Passed line

@@ -11,7 +11,7 @@ use borrow.Author.Tests.{eq-eqb, ne-eqb, eqb-true}
 use lib.Dec.{eqb}
 use lib.ListN.{length, getD, drop, drop-of-length-le}
 use lib.Seq.{drop-cons}
-use Rattle.commands.specs.Line.{verbs, takesNoArgument, equalTexts, numberFrom}
+use Rattle.commands.specs.Line.{verbs, takesNoArgument, equalTexts, verbNumberFrom}
 use Rattle.commands.specs.Accepted.{TakesNoArgument}
 
 -- ---- two words
@@ -48,31 +48,31 @@ equal-texts (a ∷ x) (b ∷ y) e =
 -- ---- the place in a table
 
 pub number-from-found : (vs : List (List ℕ)) (word : List ℕ) (v : ℕ) → v < length vs → equalTexts word (getD vs v []) ≡ true
-    → numberFrom (v + 1) (drop v vs) word ≡ v + 1
-unfolding numberFrom
+    → verbNumberFrom (v + 1) (drop v vs) word ≡ v + 1
+unfolding verbNumberFrom
 number-from-found vs word v h e = rw (drop-cons vs v [], e)
 
 pub number-from-next : (vs : List (List ℕ)) (word : List ℕ) (v : ℕ) → v < length vs → equalTexts word (getD vs v []) ≡ false
-    → numberFrom (v + 1) (drop v vs) word ≡ numberFrom (v + 1 + 1) (drop (v + 1) vs) word
-unfolding numberFrom
+    → verbNumberFrom (v + 1) (drop v vs) word ≡ verbNumberFrom (v + 1 + 1) (drop (v + 1) vs) word
+unfolding verbNumberFrom
 number-from-next vs word v h e = rw (drop-cons vs v [], e, add-one v, add-one (suc v))
 
 -- the number of a listed word is its place
-pub number-from-is : (n : ℕ) (vs : List (List ℕ)) (word : List ℕ) → 0 < numberFrom n vs word
-    → (n ≤ numberFrom n vs word) × (numberFrom n vs word < n + length vs) × (word ≡ getD vs (numberFrom n vs word - n) [])
-unfolding numberFrom
+pub number-from-is : (n : ℕ) (vs : List (List ℕ)) (word : List ℕ) → 0 < verbNumberFrom n vs word
+    → (n ≤ verbNumberFrom n vs word) × (verbNumberFrom n vs word < n + length vs) × (word ≡ getD vs (verbNumberFrom n vs word - n) [])
+unfolding verbNumberFrom
 number-from-is n [] word h = absurd (omega arith)
 number-from-is n (v ∷ vs) word h = go (equalTexts word v) refl (number-from-is (suc n) vs word)
   where
     Named : ℕ → List (List ℕ) → ℕ → Type 0
     Named n vs k = (n ≤ k) × (k < n + length vs) × (word ≡ getD vs (k - n) [])
 
-    go : (b : Bool) → equalTexts word v ≡ b → (0 < numberFrom (suc n) vs word → Named (suc n) vs (numberFrom (suc n) vs word)) → Named n (v ∷ vs) (numberFrom n (v ∷ vs) word)
+    go : (b : Bool) → equalTexts word v ≡ b → (0 < verbNumberFrom (suc n) vs word → Named (suc n) vs (verbNumberFrom (suc n) vs word)) → Named n (v ∷ vs) (verbNumberFrom n (v ∷ vs) word)
     go true e ih =
         let z : n - n ≡ 0 = omega arith in
         rw (e, z) (omega arith, omega arith, equal-texts word v e)
     go false e ih =
-        let k = numberFrom (suc n) vs word in
+        let k = verbNumberFrom (suc n) vs word in
         let r = ih (rw e at h) in
         let z : k - n ≡ suc (k - suc n) = omega arith in
         rw (e, z) (omega arith, omega arith, r .2)
@@ -98,9 +98,9 @@ pub four-letters : (v : ℕ) → v < 12 → length (getD verbs v []) ≡ 4
 unfolding allBelow
 four-letters v h = eqb-true (length (getD verbs v [])) 4 (each-below (λ v. eqb (length (getD verbs v [])) 4) 12 refl v h)
 
-pub own-number : (v : ℕ) → v < 12 → numberFrom 1 verbs (getD verbs v []) ≡ suc v
-unfolding allBelow numberFrom equalTexts
-own-number v h = eqb-true (numberFrom 1 verbs (getD verbs v [])) (suc v) (each-below (λ v. eqb (numberFrom 1 verbs (getD verbs v [])) (suc v)) 12 refl v h)
+pub own-number : (v : ℕ) → v < 12 → verbNumberFrom 1 verbs (getD verbs v []) ≡ suc v
+unfolding allBelow verbNumberFrom equalTexts
+own-number v h = eqb-true (verbNumberFrom 1 verbs (getD verbs v [])) (suc v) (each-below (λ v. eqb (verbNumberFrom 1 verbs (getD verbs v [])) (suc v)) 12 refl v h)
 
 -- ---- PASV and SPAS
 

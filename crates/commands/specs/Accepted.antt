@@ -6,7 +6,7 @@ use mathlib.Core.Bool.{true}
 use mathlib.Core.List.{List, [], _∷_, _++_, map}
 use lib.ListN.{length, getD, replicate}
 use Rattle.octets.specs.Text.{isLetter, all}
-use Rattle.commands.specs.Line.{upper, verbs, readOf, argumentOf, number, verb}
+use Rattle.commands.specs.Line.{upper, verbs, readOf, argumentOf, refusalNumber, verb}
 
 -- every byte is one of 32 to 126
 abbrev pub Printable : List ℕ → Type 0
@@ -36,8 +36,8 @@ pub record CommandLine (line word argument : List ℕ) (v spaces : ℕ) : Type 0
 
 pub record AcceptedLines : Type 0 where
   -- a line that is accepted is a command line, and its argument is what is handed back
-  pub accepted-is : (line : List ℕ) → number (readOf line) ≡ 0
+  pub accepted-is : (line : List ℕ) → refusalNumber (readOf line) ≡ 0
       → (word : List ℕ) × (spaces : ℕ) × CommandLine line word (argumentOf (readOf line) line) (verb (readOf line)) spaces
   -- a command line is accepted, with its verb and its argument
   pub command-line-accepted : (line word argument : List ℕ) (v spaces : ℕ) → CommandLine line word argument v spaces
-      → (number (readOf line) ≡ 0) × (verb (readOf line) ≡ v) × (argumentOf (readOf line) line ≡ argument)
+      → (refusalNumber (readOf line) ≡ 0) × (verb (readOf line) ≡ v) × (argumentOf (readOf line) line ≡ argument)

@@ -4,7 +4,7 @@ use mathlib.Core.Bool.{Bool, true, false, cond, _&&_, _||_, not}
 use mathlib.Core.List.{List, [], _∷_, map}
 use lib.Dec.{leb, ltb, eqb}
 use lib.ListN.{length, getD, take, drop}
-use Rattle.octets.specs.Text.{isSmall, isLetter, isSpace, isPrintable, all, leading}
+use Rattle.octets.specs.Text.{isSmall, isLetter, isSpace, isPrintable, all, leadingCount}
 use Rattle.commands.specs.declared.line.Line.{Line}
 use Rattle.commands.specs.declared.line.Line.the-variants.{Command, Refused}
 
@@ -46,12 +46,12 @@ equalTexts (x ∷ xs) [] = false
 equalTexts (x ∷ xs) (y ∷ ys) = eqb x y && equalTexts xs ys
 
 -- the number of the word among the verbs, the first having the number n; 0 where it is not listed
-unfoldable pub numberFrom : ℕ → List (List ℕ) → List ℕ → ℕ
-numberFrom n [] word = 0
-numberFrom n (v ∷ vs) word = cond (equalTexts word v) n (numberFrom (suc n) vs word)
+unfoldable pub verbNumberFrom : ℕ → List (List ℕ) → List ℕ → ℕ
+verbNumberFrom n [] word = 0
+verbNumberFrom n (v ∷ vs) word = cond (equalTexts word v) n (verbNumberFrom (suc n) vs word)
 
 unfoldable pub verbNumber : List ℕ → ℕ
-verbNumber word = numberFrom 1 verbs (map upper word)
+verbNumber word = verbNumberFrom 1 verbs (map upper word)
 
 -- ---- the parts of a line
 
@@ -64,29 +64,29 @@ endsInCrLf line = leb 2 (length line) && (eqb (getD line (length line - 2) 0) 13
 
 -- the verb is all the letters that the text begins with
 unfoldable pub verbOf : List ℕ → ℕ
-verbOf text = verbNumber (take (leading isLetter text) text)
+verbOf text = verbNumber (take (leadingCount isLetter text) text)
 
 unfoldable pub afterVerb : List ℕ → List ℕ
-afterVerb text = drop (leading isLetter text) text
+afterVerb text = drop (leadingCount isLetter text) text
 
 -- the verb is listed, and a space follows it or nothing does
 unfoldable pub hasVerb : List ℕ → Bool
 hasVerb text = ltb 0 (verbOf text) && eqb (getD (afterVerb text) 0 32) 32
 
 -- the place of the first byte after the verb that is no space
-unfoldable pub argumentAt : List ℕ → ℕ
-argumentAt text = leading isLetter text + leading isSpace (afterVerb text)
+unfoldable pub argumentStart : List ℕ → ℕ
+argumentStart text = leadingCount isLetter text + leadingCount isSpace (afterVerb text)
 
 -- PASV and SPAS end the text; after another verb there is an argument
-unfoldable pub argumentFits : List ℕ → Bool
-argumentFits text = cond (takesNoArgument (verbOf text)) (eqb (length (afterVerb text)) 0) (ltb (argumentAt text) (length text))
+unfoldable pub argumentAccepted : List ℕ → Bool
+argumentAccepted text = cond (takesNoArgument (verbOf text)) (eqb (length (afterVerb text)) 0) (ltb (argumentStart text) (length text))
 
 -- what a text of printable bytes says
 unfoldable pub readTextOf : List ℕ → Line
 readTextOf text =
     cond (not (hasVerb text)) (Refused 34)
-    (cond (not (argumentFits text)) (Refused 35)
-    (Command (verbOf text) (argumentAt text) (length text)))
+    (cond (not (argumentAccepted text)) (Refused 35)
+    (Command (verbOf text) (argumentStart text) (length text)))
 
 -- ---- the line's reading
 
@@ -97,12 +97,12 @@ refusalOf line =
     (cond (not (endsInCrLf line)) 32
     (cond (not (all isPrintable (textOf line))) 33
     (cond (not (hasVerb (textOf line))) 34
-    (cond (not (argumentFits (textOf line))) 35 0))))
+    (cond (not (argumentAccepted (textOf line))) 35 0))))
 
 unfoldable pub readOf : List ℕ → Line
 readOf line =
     cond (ltb 0 (refusalOf line)) (Refused (refusalOf line))
-    (Command (verbOf (textOf line)) (argumentAt (textOf line)) (length (textOf line)))
+    (Command (verbOf (textOf line)) (argumentStart (textOf line)) (length (textOf line)))
 
 -- the argument that an answer names: the line from the first place up to the second, and none where it is refused
 unfoldable pub argumentOf : Line → List ℕ → List ℕ
@@ -110,9 +110,9 @@ argumentOf (Command v from to) line = take (to - from) (drop from line)
 argumentOf (Refused k) line = []
 
 -- document 01's number for each case, 0 where nothing is refused, and the verb
-unfoldable pub number : Line → ℕ
-number (Command v from to) = 0
-number (Refused k) = k
+unfoldable pub refusalNumber : Line → ℕ
+refusalNumber (Command v from to) = 0
+refusalNumber (Refused k) = k
 
 unfoldable pub verb : Line → ℕ
 verb (Command v from to) = v

@@ -4,7 +4,7 @@ use mathlib.Core.Path.{_≡_}
 use mathlib.Core.Logic.{_⊎_, _≢_}
 use mathlib.Core.List.{List, [], _∷_, _++_}
 use lib.ListN.{length, getD, replicate}
-use Rattle.commands.specs.Line.{readOf, argumentOf, number, verb}
+use Rattle.commands.specs.Line.{readOf, argumentOf, refusalNumber, verb}
 use Rattle.commands.specs.Accepted.{Printable, IsVerb, TakesNoArgument}
 
 -- the text begins with the verb v; a space follows or nothing does, so the word is all the letters that the text begins with
@@ -33,6 +33,6 @@ pub data RefusedBy (line : List ℕ) : ℕ → Type 0 where
 
 pub record Refusals : Type 0 where
   -- a line is refused by no number but its row's; with `AcceptedLines` every line has a row or is accepted
-  pub refused-is : (line : List ℕ) → 0 < number (readOf line) → RefusedBy line (number (readOf line))
+  pub refused-is : (line : List ℕ) → 0 < refusalNumber (readOf line) → RefusedBy line (refusalNumber (readOf line))
   -- and by the number of its row, with no verb and no part of it handed back
-  pub refused-only : (line : List ℕ) (k : ℕ) → RefusedBy line k → (number (readOf line) ≡ k) × (verb (readOf line) ≡ 0) × (argumentOf (readOf line) line ≡ [])
+  pub refused-only : (line : List ℕ) (k : ℕ) → RefusedBy line k → (refusalNumber (readOf line) ≡ k) × (verb (readOf line) ≡ 0) × (argumentOf (readOf line) line ≡ [])

@@ -1,6 +1,6 @@
 // Command lines.
 use octets::text;
-use octets::text::Kind;
+use octets::text::ByteKind;
 ghost use Prim.Native.Nat.{_<_};
 ghost use mathlib.Core.Path.{_≡_};
 ghost use mathlib.Core.List.{[], map};
@@ -107,7 +107,7 @@ fn read_text(text: &[u8]) -> Line
     ensures { λ r. ⌜ r ≡ readTextOf (now (text .entry)) ⌝ }
 {
     let to = text.len();
-    let n = text::leading(Kind::Letter, text);
+    let n = text::leading(ByteKind::Letter, text);
     let verb = verb_number(&text[..n]);
     if verb == 0 {
         return Line::Refused(34);
@@ -124,7 +124,7 @@ fn read_text(text: &[u8]) -> Line
     if takes_no_argument(verb) {
         return Line::Refused(35);
     }
-    let from = n + text::leading(Kind::Space, &text[n..]);
+    let from = n + text::leading(ByteKind::Space, &text[n..]);
     if from == to {
         return Line::Refused(35);
     }
@@ -142,7 +142,7 @@ pub fn read(line: &[u8]) -> Line
         return Line::Refused(32);
     }
     let to = n - 2;
-    if text::leading(Kind::Printable, &line[..to]) < to {
+    if text::leading(ByteKind::Printable, &line[..to]) < to {
         return Line::Refused(33);
     }
     read_text(&line[..to])

@@ -7,12 +7,12 @@ use native.Mathlib.Omega.{arith}
 use native.Mathlib.Decide.{decLt, ℕ-discrete}
 use lib.ListN.{length, take, drop}
 use lib.Seq.{take-at}
-use Rattle.octets.specs.Digits.{Below}
+use Rattle.octets.specs.Digits.{AllBelow}
 use Rattle.answers.specs.declared.written.Written.the-variants.{Bytes}
 use Rattle.answers.proofs.WrittenBy.{written}
 use Rattle.eblock.specs.Descriptor.{has, eodc}
-use Rattle.eblock.specs.Header.{headerLength, descriptorOf, secondOf, thirdOf, headerBytes, refusalOf, meant, readOf, secondField, writeNumber, writeOf, writeAfter}
-use Rattle.eblock.specs.RoundTrip.{Rewrites, RoundTrip}
+use Rattle.eblock.specs.Header.{headerLength, descriptorOf, secondOf, thirdOf, headerBytes, refusalOf, meant, readOf, secondField, writeRefusal, writeOf, writeAfter}
+use Rattle.eblock.specs.RoundTrip.{WritesBack, RoundTrip}
 use Rattle.eblock.specs.declared.header.Header.{Header}
 use Rattle.eblock.specs.declared.header.Header.the-variants.{Data, Eodc, Refused}
 use Rattle.eblock.proofs.HeaderAnswers.{reads-21, reads-refused, reads-meant, meant-count, meant-data, number-0, accepts}
@@ -52,7 +52,7 @@ stored : (d len third : ℕ) (out : List ℕ) → refusalOf d third ≡ 0 → he
 unfolding writeOf writeAfter
 stored d len third out r l =
     let bytes = headerBytes d (secondField d len) third in
-    let w = written (writeNumber d third out) headerLength bytes out (number-0 d third out r l) in
+    let w = written (writeRefusal d third out) headerLength bytes out (number-0 d third out r l) in
     (sym (w .0), sym (w .1) ∙ rw (length-bytesOf d (secondField d len) third))
 
 reads-written : (d len third : ℕ) (out : List ℕ) → len < 2 ^ 64 → third < 2 ^ 64 → writeOf d third out ≡ Bytes headerLength
@@ -80,18 +80,18 @@ accepted h a e n = go (ℕ-discrete (length h) headerLength) (decLt 0 (refusalOf
     go (yes l) (no r) = record { long = l; none = omega arith; fields = reads-meant h l (omega arith) }
 
 -- the writer on the fields of bytes that are accepted, with what it puts into the second field
-rewrites : (h : List ℕ) → Below 256 h → Accepted h → (len : ℕ) → secondField (descriptorOf h) len ≡ secondOf h
-    → (out : List ℕ) → headerLength ≤ length out → Rewrites h (descriptorOf h) len (thirdOf h) out
+rewrites : (h : List ℕ) → AllBelow 256 h → Accepted h → (len : ℕ) → secondField (descriptorOf h) len ≡ secondOf h
+    → (out : List ℕ) → headerLength ≤ length out → WritesBack h (descriptorOf h) len (thirdOf h) out
 rewrites h b a len s out g =
     let w = stored (descriptorOf h) len (thirdOf h) out (a .none) g in
     record { accepted = w .0; same = w .1 ∙ rw (s, bytes-of-fields h b (a .long)) }
 
-read-data : (h : List ℕ) → Below 256 h → (d len offset : ℕ) → readOf h ≡ Data d len offset → (out : List ℕ) → headerLength ≤ length out → Rewrites h d len offset out
+read-data : (h : List ℕ) → AllBelow 256 h → (d len offset : ℕ) → readOf h ≡ Data d len offset → (out : List ℕ) → headerLength ≤ length out → WritesBack h d len offset out
 unfolding secondField
 read-data h b d len offset e out g =
     go (has eodc (descriptorOf h)) refl (accepted h (Data d len offset) e (λ k r. let z : _≡_ {A = ℕ} 0 1 = cc in omega arith))
   where
-    go : (c : Bool) → has eodc (descriptorOf h) ≡ c → Accepted h → Rewrites h d len offset out
+    go : (c : Bool) → has eodc (descriptorOf h) ≡ c → Accepted h → WritesBack h d len offset out
     go true c a =
         let f = a .fields ∙ meant-count (descriptorOf h) (secondOf h) (thirdOf h) c in
         let z : _≡_ {A = ℕ} 0 1 = cc (f, e) in absurd (omega (arith, z))
@@ -102,12 +102,12 @@ read-data h b d len offset e out g =
         let o₁ : thirdOf h ≡ offset = cc (f, e) in
         rw (← d₁, ← l₁, ← o₁) (rewrites h b a (secondOf h) (rw c) out g)
 
-read-count : (h : List ℕ) → Below 256 h → (d n : ℕ) → readOf h ≡ Eodc d n → secondOf h ≡ 0 → (len : ℕ) (out : List ℕ) → headerLength ≤ length out → Rewrites h d len n out
+read-count : (h : List ℕ) → AllBelow 256 h → (d n : ℕ) → readOf h ≡ Eodc d n → secondOf h ≡ 0 → (len : ℕ) (out : List ℕ) → headerLength ≤ length out → WritesBack h d len n out
 unfolding secondField
 read-count h b d n e u len out g =
     go (has eodc (descriptorOf h)) refl (accepted h (Eodc d n) e (λ k r. let z : _≡_ {A = ℕ} 0 1 = cc in omega arith))
   where
-    go : (c : Bool) → has eodc (descriptorOf h) ≡ c → Accepted h → Rewrites h d len n out
+    go : (c : Bool) → has eodc (descriptorOf h) ≡ c → Accepted h → WritesBack h d len n out
     go false c a =
         let f = a .fields ∙ meant-data (descriptorOf h) (secondOf h) (thirdOf h) c in
         let z : _≡_ {A = ℕ} 0 1 = cc (f, e) in absurd (omega (arith, z))

@@ -6,15 +6,15 @@ use mathlib.Core.Logic.{_⊎_, _≢_}
 use mathlib.Core.Bool.{true, false}
 use mathlib.Core.List.{List, [], _∷_, _++_}
 use lib.ListN.{length}
-use Rattle.octets.specs.Digits.{toBig}
+use Rattle.octets.specs.Digits.{toBigEndian}
 use Rattle.answers.specs.Written.{Refuses, Writes}
 use Rattle.eblock.specs.Descriptor.{has, faultOf}
-use Rattle.eblock.specs.Header.{descriptorOf, secondOf, thirdOf, readOf, writeOf, writeAfter, number, values}
+use Rattle.eblock.specs.Header.{descriptorOf, secondOf, thirdOf, readOf, writeOf, writeAfter, refusalNumber, values}
 use Rattle.eblock.specs.declared.header.Header.the-variants.{Data, Eodc}
 
 -- the reader's answer to these bytes
 pub record Reads (h : List ℕ) (k : ℕ) (vs : List ℕ) : Type 0 where
-  pub number-is : number (readOf h) ≡ k
+  pub number-is : refusalNumber (readOf h) ≡ k
   pub values-are : values (readOf h) ≡ vs
 
 pub record ReadRows : Type 0 where
@@ -43,6 +43,6 @@ pub record WriteRows : Type 0 where
       → Refuses (writeOf d third out) (writeAfter d len third out) out 55
   -- else the 17 bytes, 0 in the second field with bit 64 and the length without it; the bytes after them are unchanged
   pub writes-count : (d len third : ℕ) (out : List ℕ) → faultOf d ≡ 0 → has 64 d ≡ true → 0 < third → third ≤ 64 → 17 ≤ length out
-      → Writes (writeOf d third out) (writeAfter d len third out) out (d ∷ (toBig 256 8 0 ++ toBig 256 8 third)) 17
+      → Writes (writeOf d third out) (writeAfter d len third out) out (d ∷ (toBigEndian 256 8 0 ++ toBigEndian 256 8 third)) 17
   pub writes-data : (d len third : ℕ) (out : List ℕ) → faultOf d ≡ 0 → has 64 d ≡ false → 17 ≤ length out
-      → Writes (writeOf d third out) (writeAfter d len third out) out (d ∷ (toBig 256 8 len ++ toBig 256 8 third)) 17
+      → Writes (writeOf d third out) (writeAfter d len third out) out (d ∷ (toBigEndian 256 8 len ++ toBigEndian 256 8 third)) 17

@@ -8,8 +8,8 @@ use Rattle.octets.specs.Cases.{AllHold}
 use Rattle.eblock.specs.Header.{headerBytes}
 use Rattle.transfer.specs.Transfer.{Verdict, guess, result, broken, verdictOf, storedOf}
 use Rattle.transfer.specs.Receive.{Answer, refused, took}
-use Rattle.transfer.specs.Calls.{Call, receive, begun, answersOf, after}
-use Rattle.transfer.specs.Example.{first, second, third}
+use Rattle.transfer.specs.Calls.{Call, receive, startedWorld, answersOf, after}
+use Rattle.transfer.specs.Example.{firstCall, secondCall, thirdCall}
 
 -- from a file of so many zero bytes and a ledger of so many pairs, the calls are answered so and leave this
 pub record Case : Type 0 where
@@ -25,55 +25,55 @@ pub record Case : Type 0 where
 
 abbrev pub Holds : Case → Type 0
 Holds k =
-    let w = begun (replicate (k .bytes) 0) (replicate (2 * k .pairs) 7) in
+    let w = startedWorld (replicate (k .bytes) 0) (replicate (2 * k .pairs) 7) in
     let v = after w (k .calls) in
     (answersOf w (k .calls) ≡ k .answers)
     × (verdictOf v ≡ k .shows)
     × (v .t .fault ≡ k .fault)
     × (v .t .on ≡ k .on)
     × (storedOf v ≡ k .stored)
-    × (v .lent .claimed ≡ k .claimed)
+    × (v .lent .ledger ≡ k .claimed)
 
 -- a case that ends in a fault, or goes on
-abbrev breaks : ℕ → ℕ → List Call → List Answer → ℕ → ℕ → ℕ → List ℕ → Case
-breaks f r ks said k c n l =
+abbrev withFault : ℕ → ℕ → List Call → List Answer → ℕ → ℕ → ℕ → List ℕ → Case
+withFault f r ks said k c n l =
     record { bytes = f; pairs = r; calls = ks; answers = said; shows = broken; fault = k; on = c; stored = n; claimed = l }
 
-abbrev goesOn : ℕ → ℕ → List Call → List Answer → Verdict → ℕ → List ℕ → Case
-goesOn f r ks said v n l = record { bytes = f; pairs = r; calls = ks; answers = said; shows = v; fault = 0; on = 0; stored = n; claimed = l }
+abbrev withoutFault : ℕ → ℕ → List Call → List Answer → Verdict → ℕ → List ℕ → Case
+withoutFault f r ks said v n l = record { bytes = f; pairs = r; calls = ks; answers = said; shows = v; fault = 0; on = 0; stored = n; claimed = l }
 
 abbrev pub cases : List Case
 cases =
     -- the screen line's example, call by call
-    goesOn 8 1 (first ∷ []) (took 21 ∷ []) guess 4 (0 ∷ 4 ∷ [])
-    ∷ goesOn 8 1 (first ∷ second ∷ []) (took 21 ∷ took 21 ∷ []) guess 8 (0 ∷ 8 ∷ [])
-    ∷ goesOn 8 1 (first ∷ second ∷ third ∷ []) (took 21 ∷ took 21 ∷ took 17 ∷ []) result 8 (0 ∷ 8 ∷ [])
+    withoutFault 8 1 (firstCall ∷ []) (took 21 ∷ []) guess 4 (0 ∷ 4 ∷ [])
+    ∷ withoutFault 8 1 (firstCall ∷ secondCall ∷ []) (took 21 ∷ took 21 ∷ []) guess 8 (0 ∷ 8 ∷ [])
+    ∷ withoutFault 8 1 (firstCall ∷ secondCall ∷ thirdCall ∷ []) (took 21 ∷ took 21 ∷ took 17 ∷ []) result 8 (0 ∷ 8 ∷ [])
     -- after RESULT every call is 3, 1 and 2 before it
-    ∷ goesOn 8 1 (first ∷ second ∷ third ∷ receive 5 [] ∷ receive 64 [] ∷ []) (took 21 ∷ took 21 ∷ took 17 ∷ refused 3 ∷ refused 2 ∷ []) result 8 (0 ∷ 8 ∷ [])
+    ∷ withoutFault 8 1 (firstCall ∷ secondCall ∷ thirdCall ∷ receive 5 [] ∷ receive 64 [] ∷ []) (took 21 ∷ took 21 ∷ took 17 ∷ refused 3 ∷ refused 2 ∷ []) result 8 (0 ∷ 8 ∷ [])
     -- an empty range far past F
-    ∷ goesOn 8 0 (receive 0 (headerBytes 0 0 100) ∷ []) (took 17 ∷ []) guess 0 []
+    ∷ withoutFault 8 0 (receive 0 (headerBytes 0 0 100) ∷ []) (took 17 ∷ []) guess 0 []
     -- offset and length of which the sum does not fit 64 bits
-    ∷ breaks 8 1 (receive 0 (headerBytes 0 18446744073709551615 18446744073709551615) ∷ []) (took 17 ∷ []) 16 0 0 (0 ∷ 0 ∷ [])
+    ∷ withFault 8 1 (receive 0 (headerBytes 0 18446744073709551615 18446744073709551615) ∷ []) (took 17 ∷ []) 16 0 0 (0 ∷ 0 ∷ [])
     -- bytes 0 to 3 claimed: 6 to 7 lacks a pair
-    ∷ breaks 8 1 (receive 0 (headerBytes 0 4 0) ∷ receive 1 (headerBytes 0 2 6) ∷ []) (took 17 ∷ took 17 ∷ []) 18 1 0 (0 ∷ 4 ∷ [])
+    ∷ withFault 8 1 (receive 0 (headerBytes 0 4 0) ∷ receive 1 (headerBytes 0 2 6) ∷ []) (took 17 ∷ took 17 ∷ []) 18 1 0 (0 ∷ 4 ∷ [])
     -- past F and sharing bytes: 16; sharing bytes where pairs are lacking: 17
-    ∷ breaks 8 1 (receive 0 (headerBytes 0 4 0) ∷ receive 1 (headerBytes 0 6 3) ∷ []) (took 17 ∷ took 17 ∷ []) 16 1 0 (0 ∷ 4 ∷ [])
-    ∷ breaks 8 2 (receive 0 (headerBytes 0 2 0) ∷ receive 1 (headerBytes 0 2 6) ∷ receive 2 (headerBytes 0 3 4) ∷ []) (took 17 ∷ took 17 ∷ took 17 ∷ []) 17 2 0 (0 ∷ 2 ∷ 6 ∷ 8 ∷ [])
+    ∷ withFault 8 1 (receive 0 (headerBytes 0 4 0) ∷ receive 1 (headerBytes 0 6 3) ∷ []) (took 17 ∷ took 17 ∷ []) 16 1 0 (0 ∷ 4 ∷ [])
+    ∷ withFault 8 2 (receive 0 (headerBytes 0 2 0) ∷ receive 1 (headerBytes 0 2 6) ∷ receive 2 (headerBytes 0 3 4) ∷ []) (took 17 ∷ took 17 ∷ took 17 ∷ []) 17 2 0 (0 ∷ 2 ∷ 6 ∷ 8 ∷ [])
     -- counts: 0, 65, 64, fewer than are used, a second one
-    ∷ breaks 8 1 (receive 3 (headerBytes 64 0 0) ∷ []) (took 17 ∷ []) 15 3 0 (0 ∷ 0 ∷ [])
-    ∷ breaks 8 1 (receive 3 (headerBytes 64 0 65) ∷ []) (took 17 ∷ []) 15 3 0 (0 ∷ 0 ∷ [])
-    ∷ goesOn 8 1 (receive 3 (headerBytes 64 0 64) ∷ []) (took 17 ∷ []) guess 0 (0 ∷ 0 ∷ [])
-    ∷ breaks 8 1 (receive 0 (0 ∷ []) ∷ receive 1 (headerBytes 64 0 1) ∷ []) (took 1 ∷ took 17 ∷ []) 15 1 0 (0 ∷ 0 ∷ [])
-    ∷ breaks 8 1 (receive 0 (headerBytes 64 0 2 ++ headerBytes 64 0 2) ∷ []) (took 34 ∷ []) 14 0 0 (0 ∷ 0 ∷ [])
+    ∷ withFault 8 1 (receive 3 (headerBytes 64 0 0) ∷ []) (took 17 ∷ []) 15 3 0 (0 ∷ 0 ∷ [])
+    ∷ withFault 8 1 (receive 3 (headerBytes 64 0 65) ∷ []) (took 17 ∷ []) 15 3 0 (0 ∷ 0 ∷ [])
+    ∷ withoutFault 8 1 (receive 3 (headerBytes 64 0 64) ∷ []) (took 17 ∷ []) guess 0 (0 ∷ 0 ∷ [])
+    ∷ withFault 8 1 (receive 0 (0 ∷ []) ∷ receive 1 (headerBytes 64 0 1) ∷ []) (took 1 ∷ took 17 ∷ []) 15 1 0 (0 ∷ 0 ∷ [])
+    ∷ withFault 8 1 (receive 0 (headerBytes 64 0 2 ++ headerBytes 64 0 2) ∷ []) (took 34 ∷ []) 14 0 0 (0 ∷ 0 ∷ [])
     -- n = 2, two used: a byte on a third is not taken
-    ∷ breaks 8 1 (receive 0 (headerBytes 64 0 2) ∷ receive 1 (0 ∷ []) ∷ receive 2 (0 ∷ []) ∷ []) (took 17 ∷ took 1 ∷ took 0 ∷ []) 19 2 0 (0 ∷ 0 ∷ [])
+    ∷ withFault 8 1 (receive 0 (headerBytes 64 0 2) ∷ receive 1 (0 ∷ []) ∷ receive 2 (0 ∷ []) ∷ []) (took 17 ∷ took 1 ∷ took 0 ∷ []) 19 2 0 (0 ∷ 0 ∷ [])
     -- where a channel ends, the rest of the piece is left; offered again it is 4, and an empty piece is accepted
-    ∷ goesOn 8 1 (receive 0 (headerBytes 8 0 0 ++ (1 ∷ [])) ∷ receive 0 (1 ∷ []) ∷ receive 0 [] ∷ []) (took 17 ∷ refused 4 ∷ took 0 ∷ []) guess 0 (0 ∷ 0 ∷ [])
+    ∷ withoutFault 8 1 (receive 0 (headerBytes 8 0 0 ++ (1 ∷ [])) ∷ receive 0 (1 ∷ []) ∷ receive 0 [] ∷ []) (took 17 ∷ refused 4 ∷ took 0 ∷ []) guess 0 (0 ∷ 0 ∷ [])
     -- channel 63 is the last; 64 is none
-    ∷ goesOn 8 1 (receive 63 (headerBytes 72 0 1) ∷ []) (took 17 ∷ []) result 0 (0 ∷ 0 ∷ [])
-    ∷ goesOn 8 1 (receive 64 (0 ∷ []) ∷ []) (refused 2 ∷ []) guess 0 (0 ∷ 0 ∷ [])
+    ∷ withoutFault 8 1 (receive 63 (headerBytes 72 0 1) ∷ []) (took 17 ∷ []) result 0 (0 ∷ 0 ∷ [])
+    ∷ withoutFault 8 1 (receive 64 (0 ∷ []) ∷ []) (refused 2 ∷ []) guess 0 (0 ∷ 0 ∷ [])
     -- a ledger of 4,096 pairs, 8,192 entries
-    ∷ goesOn 8 4096 (receive 0 (headerBytes 0 4 4) ∷ []) (took 17 ∷ []) guess 0 (4 ∷ 8 ∷ replicate 8190 0)
+    ∷ withoutFault 8 4096 (receive 0 (headerBytes 0 4 4) ∷ []) (took 17 ∷ []) guess 0 (4 ∷ 8 ∷ replicate 8190 0)
     ∷ []
 
 abbrev pub CallCases : Type 0

@@ -9,9 +9,9 @@ use Rattle.transfer.specs.Channel.{putCount}
 use Rattle.transfer.specs.Transfer.{usedOf, World, world}
 use Rattle.transfer.specs.Header.{endsChannel, payloadLength, HeaderRequest, counts, claims, nothing, faulty, requestOf}
 use Rattle.transfer.specs.Judgement.{HeaderAsks, by-descriptor, by-14, by-15, for-count, for-nothing, by-16, for-claim}
-use Rattle.transfer.specs.Receive.{Outcome, stopWithFault, beginPayload, applyHeader, judgeHeader}
+use Rattle.transfer.specs.Receive.{Outcome, stopWithFault, expectPayload, applyRequest, applyHeader}
 use Rattle.transfer.proofs.JudgementByTransfer.{asked}
-use Rattle.headers.specs.ClaimRange.{claimOrFault}
+use Rattle.headers.specs.ClaimOrFault.{claimOrFault}
 
 -- a range that a header asks for is not empty, and is as long as the payload
 module _ (F known used : ℕ) (h : List ℕ) where
@@ -38,19 +38,19 @@ module _ (t : Transfer) (file l : List ℕ) (c : ℕ) (h : List ℕ) where
   abbrev AsksFor : HeaderRequest → Type 0
   AsksFor a = a ≡ requestOf (t .len) (t .count) (usedOf t) h
 
-  pub apply-fault : (k : ℕ) → AsksFor (faulty k) → stopWithFault (world t file l) c k ≡ judgeHeader (world t file l) c h
-  unfolding judgeHeader applyHeader
+  pub apply-fault : (k : ℕ) → AsksFor (faulty k) → stopWithFault (world t file l) c k ≡ applyHeader (world t file l) c h
+  unfolding applyHeader applyRequest
   apply-fault k q = rw (sym q)
 
   module _ (v : Outcome World) (last : Bool) (is : last ≡ endsChannel h) where
-    pub apply-count : (n : ℕ) → AsksFor (counts n) → v ≡ beginPayload (world (putCount t n) file l) c 0 0 last → v ≡ judgeHeader (world t file l) c h
-    unfolding judgeHeader applyHeader
+    pub apply-count : (n : ℕ) → AsksFor (counts n) → v ≡ expectPayload (world (putCount t n) file l) c 0 0 last → v ≡ applyHeader (world t file l) c h
+    unfolding applyHeader applyRequest
     apply-count n q e = rw (sym q) (rw is at e)
 
-    pub apply-nothing : AsksFor nothing → v ≡ beginPayload (world t file l) c 0 0 last → v ≡ judgeHeader (world t file l) c h
-    unfolding judgeHeader applyHeader
+    pub apply-nothing : AsksFor nothing → v ≡ expectPayload (world t file l) c 0 0 last → v ≡ applyHeader (world t file l) c h
+    unfolding applyHeader applyRequest
     apply-nothing q e = rw (sym q) (rw is at e)
 
-    pub apply-claim : (s e : ℕ) → AsksFor (claims s e) → v ≡ claimOrFault (world t file l) c s e last → v ≡ judgeHeader (world t file l) c h
-    unfolding judgeHeader applyHeader claimOrFault
+    pub apply-claim : (s e : ℕ) → AsksFor (claims s e) → v ≡ claimOrFault (world t file l) c s e last → v ≡ applyHeader (world t file l) c h
+    unfolding applyHeader applyRequest claimOrFault
     apply-claim s e q w = rw (sym q) (rw (is, range-asked (t .len) (t .count) (usedOf t) h s e q .1) at w)

@@ -1,3 +1,3 @@
 pub mod ClaimNumber
-pub mod ClaimRange
+pub mod ClaimOrFault
 pub mod ApplyHeader

@@ -1,3 +1,3 @@
 pub mod Request
-pub mod ClaimRange
+pub mod ClaimOrFault
 pub mod ClaimNumber

@@ -3,8 +3,8 @@ use Rattle.transfer.specs.Header.{HeaderRequest, counts, claims, nothing, fault
 use Rattle.headers.specs.declared.judge.Request.{Request}
 use Rattle.headers.specs.declared.judge.Request.the-variants.{Counts, Claims, Nothing, Faulty}
 
-abbrev pub headerRequest : Request → HeaderRequest
-headerRequest (Counts n) = counts n
-headerRequest (Claims s e) = claims s e
-headerRequest Nothing = nothing
-headerRequest (Faulty k) = faulty k
+abbrev pub toHeaderRequest : Request → HeaderRequest
+toHeaderRequest (Counts n) = counts n
+toHeaderRequest (Claims s e) = claims s e
+toHeaderRequest Nothing = nothing
+toHeaderRequest (Faulty k) = faulty k

@@ -18,11 +18,11 @@ ghost use Rattle.claims.specs.Claim.{claimNumber};
 ghost use Rattle.ledger.specs.Ledger.{obeys};
 ghost use Rattle.transfer.specs.declared.state.Transfer.{Transfer};
 ghost use Rattle.transfer.specs.Transfer.{world};
-ghost use Rattle.transfer.specs.Receive.{judgeHeader};
+ghost use Rattle.transfer.specs.Receive.{applyHeader};
 ghost use Rattle.channels.specs.ChannelState.{writeBack};
 ghost use Rattle.channels.specs.OtherChannels.{CountsOthers};
 ghost use Rattle.channels.specs.NextState.{continuesOrStops};
-ghost use Rattle.headers.specs.ClaimRange.{claimOrFault};
+ghost use Rattle.headers.specs.ClaimOrFault.{claimOrFault};
 
 // The number of the fault of a range that is so judged, 0 where there is none.
 fn fault_of(check: ClaimCheck) -> u64
@@ -36,7 +36,7 @@ fn fault_of(check: ClaimCheck) -> u64
 }
 
 // A range that a header asks for: its fault, or it is claimed in the ledger and its payload opened.
-fn claim_range(
+fn claim_or_fault(
     x: ChannelState,
     c: usize,
     o: OtherChannels,
@@ -52,10 +52,10 @@ fn claim_range(
     match check {
         ClaimCheck::Free(slot) => {
             claim::put(ledger, slot, start, end);
-            next_state::open(x, c, o, start, end - start, last)
+            next_state::expect_payload(x, c, o, start, end - start, last)
         }
         _ => NextState {
-            channel: channel_state::with_fault(x, c, fault_of(check)),
+            channel: channel_state::cleared_with_fault(x, c, fault_of(check)),
             continues: false,
         },
     }
@@ -69,20 +69,20 @@ pub fn apply_header(
     head: &[u8; 17],
     ledger: &mut [u64],
 ) -> NextState
-    ensures { λ r. ⌜ (x .state ≡ 1 → obeys (now (ledger .entry)) ≡ true → (t : Transfer) (file : List ℕ) → CountsOthers t c o → length (now (ledger .entry)) ≡ 2 * t .pairs → continuesOrStops (r .continues) (world (writeBack t c (r .channel)) file (now (ledger .exit))) ≡ judgeHeader (world (writeBack t c x) file (now (ledger .entry))) c (now (head .entry))) ⌝ }
+    ensures { λ r. ⌜ (x .state ≡ 1 → obeys (now (ledger .entry)) ≡ true → (t : Transfer) (file : List ℕ) → CountsOthers t c o → length (now (ledger .entry)) ≡ 2 * t .pairs → continuesOrStops (r .continues) (world (writeBack t c (r .channel)) file (now (ledger .exit))) ≡ applyHeader (world (writeBack t c x) file (now (ledger .entry))) c (now (head .entry))) ⌝ }
 {
     let last = descriptor::has(descriptor::END_OF_DATA, head[0]);
     match judge::judge_header(o.len, x.count, o.used, head) {
         Request::Faulty(k) => NextState {
-            channel: channel_state::with_fault(x, c, k as u64),
+            channel: channel_state::cleared_with_fault(x, c, k as u64),
             continues: false,
         },
         Request::Counts(n) => {
             let mut y = x;
             y.count = n;
-            next_state::open(y, c, o, 0, 0, last)
+            next_state::expect_payload(y, c, o, 0, 0, last)
         }
-        Request::Nothing => next_state::open(x, c, o, 0, 0, last),
-        Request::Claims { start, end } => claim_range(x, c, o, start, end, last, ledger),
+        Request::Nothing => next_state::expect_payload(x, c, o, 0, 0, last),
+        Request::Claims { start, end } => claim_or_fault(x, c, o, start, end, last, ledger),
     }
 }

@@ -10,7 +10,7 @@ ghost use lib.Dec.{ltb, eqb};
 ghost use lib.ListN.{length};
 ghost use Rattle.eblock.specs.Header.{countLimit};
 ghost use Rattle.transfer.specs.Header.{counts, claims, nothing, faulty, requestOf};
-ghost use Rattle.headers.specs.Request.{headerRequest};
+ghost use Rattle.headers.specs.Request.{toHeaderRequest};
 
 // What a header asks for: a count, a range, or neither; or the number of its fault.
 pub enum Request {
@@ -22,7 +22,7 @@ pub enum Request {
 
 // A count, where the known one or 0 and the other channels used are given; this one is used with them.
 fn judge_count(known: u64, others: u64, count: u64) -> Request
-    ensures { λ r. ⌜ headerRequest r ≡ cond (ltb 0 known) (faulty 14) (cond (eqb count 0 || (ltb countLimit count || ltb count (others + 1))) (faulty 15) (counts count)) ⌝ }
+    ensures { λ r. ⌜ toHeaderRequest r ≡ cond (ltb 0 known) (faulty 14) (cond (eqb count 0 || (ltb countLimit count || ltb count (others + 1))) (faulty 15) (counts count)) ⌝ }
 {
     if 0 < known {
         return Request::Faulty(14);
@@ -41,7 +41,7 @@ fn judge_count(known: u64, others: u64, count: u64) -> Request
 
 // A payload of length bytes from the place offset on, in a file of len bytes.
 fn judge_payload(len: u64, length: u64, offset: u64) -> Request
-    ensures { λ r. ⌜ headerRequest r ≡ cond (eqb length 0) nothing (cond (ltb len (offset + length)) (faulty 16) (claims offset (offset + length))) ⌝ }
+    ensures { λ r. ⌜ toHeaderRequest r ≡ cond (eqb length 0) nothing (cond (ltb len (offset + length)) (faulty 16) (claims offset (offset + length))) ⌝ }
 {
     if length == 0 {
         return Request::Nothing;
@@ -58,7 +58,7 @@ fn judge_payload(len: u64, length: u64, offset: u64) -> Request
 // Judged by the transfer alone: a file of len bytes, the known count or 0, and the other channels used; this one is used with them.
 pub fn judge_header(len: u64, known: u64, others: u64, head: &[u8]) -> Request
     requires { ⌜ length (now head) ≡ 17 ⌝ }
-    ensures { λ r. ⌜ headerRequest r ≡ requestOf len known (others + 1) (now (head .entry)) ⌝ }
+    ensures { λ r. ⌜ toHeaderRequest r ≡ requestOf len known (others + 1) (now (head .entry)) ⌝ }
 {
     let d = head[0];
     let k = descriptor::fault(d);

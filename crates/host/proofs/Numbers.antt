@@ -1,15 +1,15 @@
 -- `Numbers` holds.
 use mathlib.Core.Path.{_≡_, refl}
-use Rattle.eblock.specs.Header.{number as headerNumber}
+use Rattle.eblock.specs.Header.{refusalNumber as headerNumber}
 use Rattle.eblock.specs.declared.header.Header.{Header}
 use Rattle.eblock.specs.declared.header.Header.the-variants.{Data, Eodc, Refused as NotRead}
 use Rattle.answers.specs.Written.{writtenNumber, writtenBytes}
 use Rattle.answers.specs.declared.written.Written.{Written}
 use Rattle.answers.specs.declared.written.Written.the-variants.{Bytes, Refused as NotWritten}
-use Rattle.commands.specs.Line.{number as lineNumber, verb}
+use Rattle.commands.specs.Line.{refusalNumber as lineNumber, verb}
 use Rattle.commands.specs.declared.line.Line.{Line}
 use Rattle.commands.specs.declared.line.Line.the-variants.{Command, Refused as NoCommand}
-use Rattle.hostlists.specs.HostList.{number as listNumber}
+use Rattle.hostlists.specs.HostList.{refusalNumber as listNumber}
 use Rattle.hostlists.specs.declared.list.Hosts.{Hosts}
 use Rattle.hostlists.specs.declared.list.Hosts.the-variants.{Count, Refused as NoList}
 use Rattle.host.specs.Header.{fieldsOf}

@@ -1,12 +1,12 @@
 -- The field `refused` of what a host has is document 01's number of the answer, 0 where nothing is refused; a writer's `length` is how many bytes it wrote.
 use mathlib.Core.Path.{_≡_}
-use Rattle.eblock.specs.Header.{number as headerNumber}
+use Rattle.eblock.specs.Header.{refusalNumber as headerNumber}
 use Rattle.eblock.specs.declared.header.Header.{Header}
 use Rattle.answers.specs.Written.{writtenNumber, writtenBytes}
 use Rattle.answers.specs.declared.written.Written.{Written}
-use Rattle.commands.specs.Line.{number as lineNumber, verb}
+use Rattle.commands.specs.Line.{refusalNumber as lineNumber, verb}
 use Rattle.commands.specs.declared.line.Line.{Line}
-use Rattle.hostlists.specs.HostList.{number as listNumber}
+use Rattle.hostlists.specs.HostList.{refusalNumber as listNumber}
 use Rattle.hostlists.specs.declared.list.Hosts.{Hosts}
 use Rattle.host.specs.Header.{fieldsOf}
 use Rattle.host.specs.Written.{writtenOf}

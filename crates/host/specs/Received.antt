@@ -4,10 +4,10 @@ use Rattle.transfer.specs.Transfer.{World, Verdict, guess, result, broken, verd
 use Rattle.transfer.specs.Receive.{Answer, refused, took}
 use Rattle.host.specs.declared.calls.Received.{Received}
 
-abbrev pub wordNumber : Verdict → ℕ
-wordNumber guess = 0
-wordNumber result = 1
-wordNumber broken = 2
+abbrev pub verdictCode : Verdict → ℕ
+verdictCode guess = 0
+verdictCode result = 1
+verdictCode broken = 2
 
 -- none where the call is refused
 abbrev pub takenIn : Answer → ℕ
@@ -15,11 +15,11 @@ takenIn (took n) = n
 takenIn (refused k) = 0
 
 -- 0 where it is not refused
-abbrev pub numberIn : Answer → ℕ
-numberIn (took n) = 0
-numberIn (refused k) = k
+abbrev pub refusalIn : Answer → ℕ
+refusalIn (took n) = 0
+refusalIn (refused k) = k
 
 -- the answer, and the world that the call leaves; the verdict is that of this world, by a refusal too
 abbrev pub receivedBy : Answer × World → Received
 receivedBy x =
-    record { transfer = x .1 .t; taken = takenIn (x .0); verdict = wordNumber (verdictOf (x .1)); refused = numberIn (x .0) }
+    record { transfer = x .1 .t; taken = takenIn (x .0); verdict = verdictCode (verdictOf (x .1)); refused = refusalIn (x .0) }

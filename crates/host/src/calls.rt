@@ -9,12 +9,12 @@ use transfer::state::Transfer;
 use verdicts::verdict::Verdict;
 ghost use mathlib.Core.Path.{_≡_};
 ghost use mathlib.Core.List.{[]};
-ghost use Rattle.transfer.specs.Transfer.{world, startNumber, startOf, startAfter, verdictOf};
+ghost use Rattle.transfer.specs.Transfer.{world, startRefusal, startOf, startAfter, verdictOf};
 ghost use Rattle.transfer.specs.Receive.{receiveOf};
-ghost use Rattle.verdicts.specs.Verdict.{verdictIs};
-ghost use Rattle.receiver.specs.Stored.{storedCut};
+ghost use Rattle.verdicts.specs.Verdict.{toVerdict};
+ghost use Rattle.receiver.specs.Stored.{storedSaturating};
 ghost use Rattle.screen.specs.Screen.{screenOf, screenAfter};
-ghost use Rattle.host.specs.Received.{wordNumber, receivedBy};
+ghost use Rattle.host.specs.Received.{verdictCode, receivedBy};
 ghost use Rattle.host.specs.Written.{writtenOf};
 
 #[repr(C)]
@@ -35,7 +35,7 @@ pub struct Received {
 
 #[no_mangle]
 pub extern "C" fn cob_start(len: u64, ledger: &mut [u64]) -> Started
-    ensures { λ r. ⌜ (r .refused ≡ startNumber (now (ledger .entry))) × (r .transfer ≡ startOf len (now (ledger .entry))) × (now (ledger .exit) ≡ startAfter (now (ledger .entry))) ⌝ }
+    ensures { λ r. ⌜ (r .refused ≡ startRefusal (now (ledger .entry))) × (r .transfer ≡ startOf len (now (ledger .entry))) × (now (ledger .exit) ≡ startAfter (now (ledger .entry))) ⌝ }
 {
     let started = start::start(len, ledger);
     let receiver = started.receiver;
@@ -46,8 +46,8 @@ pub extern "C" fn cob_start(len: u64, ledger: &mut [u64]) -> Started
     }
 }
 
-fn word_number(v: Verdict) -> u8
-    ensures { λ r. ⌜ r ≡ wordNumber (verdictIs v) ⌝ }
+fn verdict_code(v: Verdict) -> u8
+    ensures { λ r. ⌜ r ≡ verdictCode (toVerdict v) ⌝ }
 {
     match v {
         Verdict::Guess => 0,
@@ -64,14 +64,14 @@ pub extern "C" fn cob_receive(
     file: &mut [u8],
     ledger: &mut [u64],
 ) -> Received
-    ensures { λ r. ⌜ (let left = receiveOf (world transfer (now (file .entry)) (now (ledger .entry))) channel (now (piece .entry)) in (r ≡ receivedBy left) × (now (file .exit) ≡ left .1 .lent .file) × (now (ledger .exit) ≡ left .1 .lent .claimed)) ⌝ }
+    ensures { λ r. ⌜ (let left = receiveOf (world transfer (now (file .entry)) (now (ledger .entry))) channel (now (piece .entry)) in (r ≡ receivedBy left) × (now (file .exit) ≡ left .1 .lent .file) × (now (ledger .exit) ≡ left .1 .lent .ledger)) ⌝ }
 {
     let receiver = Receiver { transfer: transfer };
     let received = receiver.receive(channel, piece, file, ledger);
     let after = received.receiver;
     let t = after.transfer;
     let verdict = received.verdict;
-    let word = word_number(verdict);
+    let word = verdict_code(verdict);
     let answer = received.answer;
     match answer {
         Answer::Took(n) => Received {
@@ -92,15 +92,15 @@ pub extern "C" fn cob_receive(
 // The verdict looks at neither file nor ledger.
 #[no_mangle]
 pub extern "C" fn cob_verdict(transfer: Transfer) -> u8
-    ensures { λ r. ⌜ r ≡ wordNumber (verdictOf (world transfer [] [])) ⌝ }
+    ensures { λ r. ⌜ r ≡ verdictCode (verdictOf (world transfer [] [])) ⌝ }
 {
     let receiver = Receiver { transfer: transfer };
-    word_number(receiver.verdict())
+    verdict_code(receiver.verdict())
 }
 
 #[no_mangle]
 pub extern "C" fn cob_stored(transfer: Transfer, ledger: &[u64]) -> u64
-    ensures { λ r. ⌜ r ≡ storedCut transfer (now (ledger .entry)) ⌝ }
+    ensures { λ r. ⌜ r ≡ storedSaturating transfer (now (ledger .entry)) ⌝ }
 {
     let receiver = Receiver { transfer: transfer };
     receiver.stored(ledger)

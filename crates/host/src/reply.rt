@@ -2,7 +2,7 @@
 use replies::reply;
 use replies::reply::Class;
 ghost use mathlib.Core.Path.{_≡_};
-ghost use Rattle.replies.specs.Reply.{classOf, number, digit};
+ghost use Rattle.replies.specs.Reply.{classOf, refusalNumber, firstDigit};
 
 #[repr(C)]
 pub struct Reply {
@@ -22,7 +22,7 @@ fn accepted(n: u8) -> Reply
 
 #[no_mangle]
 pub extern "C" fn cob_reply_class(code: u16) -> Reply
-    ensures { λ r. ⌜ (r .digit ≡ digit (classOf code)) × (r .refused ≡ number (classOf code)) ⌝ }
+    ensures { λ r. ⌜ (r .digit ≡ firstDigit (classOf code)) × (r .refused ≡ refusalNumber (classOf code)) ⌝ }
 {
     let class = reply::class_of(code);
     match class {

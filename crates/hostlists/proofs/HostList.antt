@@ -13,21 +13,21 @@ use Rattle.hostports.specs.declared.host_port.ParsedHostPort.the-variants.{Host
 use Rattle.hostlists.specs.declared.list.Hosts.{Hosts}
 use Rattle.hostlists.specs.declared.list.Hosts.the-variants.{Count, Refused}
 use Rattle.hostports.specs.HostPort.{hostPortAt}
-use Rattle.hostlists.specs.HostList.{hostLimit, space, count, ParsedList, parsed, trouble, prepend, hostPortThen, listAt, hostsOf, answerOf, hostPorts, StoreResult, clearAfter, entriesOf, fillOf, fillAfter}
+use Rattle.hostlists.specs.HostList.{hostLimit, space, count, ParsedList, parsed, trouble, prepend, hostPortThen, listAt, hostsOf, answerOf, hostPorts, StoreResult, clearedFrom, entriesOf, fillOf, fillAfter}
 
 -- ---- clearing a list from an entry on
 
 -- the part from an entry on, which came back as zeros
 pub cleared-part : (list ys : List ℕ) (from : ℕ) → ys ≡ replicate (length (take (length list - from) (drop from list))) 0
-    → putMid from (length list - from) list ys ≡ clearAfter from list
-unfolding clearAfter
+    → putMid from (length list - from) list ys ≡ clearedFrom from list
+unfolding clearedFrom
 cleared-part list ys from e =
     let h : length (drop from list) ≤ length list - from = simp length-drop (omega arith) in
     let n : length (take (length list - from) (drop from list)) ≡ length list - from = simp (length-take, length-drop) (omega arith) in
     rw (e, n, drop-of-length-le (drop from list) h, append-nil)
 
-pub cleared-none : (list : List ℕ) (from : ℕ) → length list ≤ from → list ≡ clearAfter from list
-unfolding clearAfter
+pub cleared-none : (list : List ℕ) (from : ℕ) → length list ≤ from → list ≡ clearedFrom from list
+unfolding clearedFrom
 cleared-none list from h =
     let z : length list - from ≡ 0 = omega arith in
     rw (z, take-all from list h, append-nil)
@@ -116,8 +116,8 @@ fills-short text list h = (rw (lt-ltb (length list) hostLimit h), rw (lt-ltb (le
 
 -- a list that the text's host-ports were stored in, cleared after them
 pub fills : (text list kept : List ℕ) (r : Hosts) (n : ℕ) → hostLimit ≤ length list → length kept ≡ length list → StoreResult text r kept → count r ≡ n
-    → (r ≡ fillOf text list) × (clearAfter n kept ≡ fillAfter text list)
-unfolding fillOf fillAfter clearAfter
+    → (r ≡ fillOf text list) × (clearedFrom n kept ≡ fillAfter text list)
+unfolding fillOf fillAfter clearedFrom
 fills text list kept r n h e s c =
     let m : n ≡ length (hostPorts (hostsOf text)) = sym c ∙ ap count (s .answers) ∙ count-is (hostsOf text) in (
       rw (le-ltb (length list) hostLimit h) (s .answers),

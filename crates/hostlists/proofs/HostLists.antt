@@ -8,8 +8,8 @@ use borrow.Author.Tests.{lt-ltb, le-ltb}
 use mathlib.Core.Bool.{false}
 use lib.Dec.{ltb}
 use lib.ListN.{length, replicate}
-use Rattle.hostports.specs.HostPorts.{HostPortText}
-use Rattle.hostlists.specs.HostList.{hostLimit, ParsedList, parsed, trouble, hostsOf, answerOf, entriesOf, fillOf, fillAfter, number, count}
+use Rattle.hostports.specs.HostPorts.{HostPortNumerals}
+use Rattle.hostlists.specs.HostList.{hostLimit, ParsedList, parsed, trouble, hostsOf, answerOf, entriesOf, fillOf, fillAfter, refusalNumber, count}
 use Rattle.hostlists.specs.HostLists.{withSpaces, values, ListText, LongerText, TooShort, HostLists, Filling}
 use Rattle.hostlists.proofs.HostListsRead.{reads-list, spaceAfterEach, space-after-each, reads-longer, ReadList, ReadLonger, Read, read-list}
 
@@ -23,7 +23,7 @@ reads : (text : List ℕ) (l : ListText text) → hostsOf text ≡ parsed (value
 unfolding hostsOf
 reads text l = go (l .hosts) (l .one-or-more) (l .at-most-64) (l .says)
   where
-    go : (hosts : List HostPortText) → 1 ≤ length hosts → length hosts ≤ 64 → text ≡ withSpaces hosts → hostsOf text ≡ parsed (values hosts)
+    go : (hosts : List HostPortNumerals) → 1 ≤ length hosts → length hosts ≤ 64 → text ≡ withSpaces hosts → hostsOf text ≡ parsed (values hosts)
     go [] a b e = absurd (omega arith)
     go (h ∷ hs) a b e = reads-list hostLimit text 0 h hs (omega arith) e
 
@@ -36,14 +36,14 @@ longer : (text : List ℕ) → LongerText text → hostsOf text ≡ trouble 42
 unfolding hostsOf
 longer text l = go (l .hosts) (l .are-64) (l .says)
   where
-    go : (hosts : List HostPortText) → length hosts ≡ 64 → text ≡ withSpaces hosts ++ (32 ∷ l .further ∷ l .rest) → hostsOf text ≡ trouble 42
+    go : (hosts : List HostPortNumerals) → length hosts ≡ 64 → text ≡ withSpaces hosts ++ (32 ∷ l .further ∷ l .rest) → hostsOf text ≡ trouble 42
     go [] a e = absurd (omega arith)
     go (h ∷ hs) a e = reads-longer hostLimit text 0 (h ∷ hs) (l .further) (l .rest) (omega arith) (e ∙ sym (space-after-each h hs (l .further ∷ l .rest)))
 
 longer-text : (text : List ℕ) → ReadLonger hostLimit text 0 → LongerText text
 longer-text text r = go (r .hs) (r .are) (r .there)
   where
-    go : (hosts : List HostPortText) → length hosts ≡ hostLimit → text ≡ spaceAfterEach hosts (r .further ∷ r .rest) → LongerText text
+    go : (hosts : List HostPortNumerals) → length hosts ≡ hostLimit → text ≡ spaceAfterEach hosts (r .further ∷ r .rest) → LongerText text
     go [] a e = absurd (omega arith)
     go (h ∷ hs) a e = record { hosts = h ∷ hs; further = r .further; rest = r .rest; are-64 = omega arith; says = e ∙ space-after-each h hs (r .further ∷ r .rest) }
 
@@ -73,7 +73,7 @@ others text no-list no-longer = go (hostsOf text) refl
     go (parsed vs) e = absurd (no-list (only text vs e .0))
     go (trouble k) e = one k (which text k e)
 
-length-values : (hs : List HostPortText) → length (values hs) ≡ length hs
+length-values : (hs : List HostPortNumerals) → length (values hs) ≡ length hs
 unfolding values
 length-values [] = refl
 length-values (h ∷ hs) = rw (length-values hs)
@@ -99,8 +99,8 @@ host-lists =
 
 -- ---- what filling a lent list answers and leaves
 
-short : (text list : List ℕ) → TooShort list → (number (fillOf text list) ≡ 43) × (count (fillOf text list) ≡ 0) × (fillAfter text list ≡ list)
-unfolding fillOf fillAfter number count
+short : (text list : List ℕ) → TooShort list → (refusalNumber (fillOf text list) ≡ 43) × (count (fillOf text list) ≡ 0) × (fillAfter text list ≡ list)
+unfolding fillOf fillAfter refusalNumber count
 short text list h =
     let test = lt-ltb (length list) hostLimit h in
     (rw test, rw test, rw test)
@@ -109,15 +109,15 @@ module _ (text list : List ℕ) (h : TooShort list → ⊥) where
   long-enough : ltb (length list) hostLimit ≡ false
   long-enough = le-ltb (length list) hostLimit (omega arith)
 
-  refused : (k : ℕ) → hostsOf text ≡ trouble k → (number (fillOf text list) ≡ k) × (count (fillOf text list) ≡ 0) × (fillAfter text list ≡ replicate (length list) 0)
-  unfolding fillOf fillAfter number count answerOf entriesOf
+  refused : (k : ℕ) → hostsOf text ≡ trouble k → (refusalNumber (fillOf text list) ≡ k) × (count (fillOf text list) ≡ 0) × (fillAfter text list ≡ replicate (length list) 0)
+  unfolding fillOf fillAfter refusalNumber count answerOf entriesOf
   refused k e = (rw (long-enough, e), rw (long-enough, e), rw (long-enough, e))
 
   accepted : (l : ListText text)
-      → (number (fillOf text list) ≡ 0)
+      → (refusalNumber (fillOf text list) ≡ 0)
       × (count (fillOf text list) ≡ length (l .hosts))
       × (fillAfter text list ≡ values (l .hosts) ++ replicate (length list - length (l .hosts)) 0)
-  unfolding fillOf fillAfter number count answerOf entriesOf
+  unfolding fillOf fillAfter refusalNumber count answerOf entriesOf
   accepted l =
       let e = reads text l in
       let n = length-values (l .hosts) in

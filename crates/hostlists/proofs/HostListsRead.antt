@@ -11,7 +11,7 @@ use lib.Dec.{eqb}
 use lib.ListN.{length, getD, drop, length-append, length-drop, drop-of-length-le}
 use lib.Seq.{drop-cons, getD-drop}
 use Rattle.hostports.specs.HostPort.{hostPortAt}
-use Rattle.hostports.specs.HostPorts.{HostPortText, written, WrittenAt}
+use Rattle.hostports.specs.HostPorts.{HostPortNumerals, hostPortText, WrittenAt}
 use Rattle.hostports.specs.declared.host_port.ParsedHostPort.{ParsedHostPort}
 use Rattle.hostports.specs.declared.host_port.ParsedHostPort.the-variants.{HostPort, Malformed}
 use Rattle.hostports.proofs.HostPorts.{host-ports}
@@ -31,72 +31,72 @@ ends-there text at part h e = omega (arith, length-drop at text, ap length e)
 place-inside : (text : List ℕ) (at b : ℕ) (rest : List ℕ) → drop at text ≡ b ∷ rest → at < length text
 place-inside text at b rest e = omega (arith, length-drop at text, ap length e)
 
-written-some : (h : HostPortText) → 1 ≤ length (written h)
-unfolding written
+written-some : (h : HostPortNumerals) → 1 ≤ length (hostPortText h)
+unfolding hostPortText
 written-some h = simp length-append (omega arith)
 
 -- ---- from the host-ports to what is read
 
-module _ (n : ℕ) (text : List ℕ) (at : ℕ) (h : HostPortText) where
+module _ (n : ℕ) (text : List ℕ) (at : ℕ) (h : HostPortNumerals) where
   -- the last host-port of a text
-  last-reads : drop at text ≡ written h → listAt (suc n) text at ≡ parsed (value h ∷ [])
+  last-reads : drop at text ≡ hostPortText h → listAt (suc n) text at ≡ parsed (value h ∷ [])
   last-reads e =
-      let found = host-ports .written-reads text at h (record { rest = []; there = e ∙ sym (append-nil (written h)); no-digit = tt }) in
-      list-ends n text at _ _ found (ends-there text at (written h) (written-some h) e)
+      let found = host-ports .written-reads text at h (record { rest = []; there = e ∙ sym (append-nil (hostPortText h)); no-digit = tt }) in
+      list-ends n text at _ _ found (ends-there text at (hostPortText h) (written-some h) e)
 
-  module _ (rest : List ℕ) (e : drop at text ≡ written h ++ 32 ∷ rest) where
+  module _ (rest : List ℕ) (e : drop at text ≡ hostPortText h ++ 32 ∷ rest) where
     -- a space after a host-port, and what comes after the space
-    space-there : drop (at + length (written h)) text ≡ 32 ∷ rest
-    space-there = after text at (written h) (32 ∷ rest) e
+    space-there : drop (at + length (hostPortText h)) text ≡ 32 ∷ rest
+    space-there = after text at (hostPortText h) (32 ∷ rest) e
 
-    after-space : drop (at + length (written h) + 1) text ≡ rest
-    after-space = after text (at + length (written h)) (32 ∷ []) rest space-there
+    after-space : drop (at + length (hostPortText h) + 1) text ≡ rest
+    after-space = after text (at + length (hostPortText h)) (32 ∷ []) rest space-there
 
-    one-reads : listAt (suc n) text at ≡ prepend (value h) (listAt n text (at + length (written h) + 1))
+    one-reads : listAt (suc n) text at ≡ prepend (value h) (listAt n text (at + length (hostPortText h) + 1))
     one-reads =
-        let place = at + length (written h) in
+        let place = at + length (hostPortText h) in
         let found = host-ports .written-reads text at h (record { rest = 32 ∷ rest; there = e; no-digit = refl }) in
         let inside : place < length text = place-inside text place 32 rest space-there in
         let byte : getD text place 0 ≡ 32 = rw (← add-zero place, ← getD-drop place text 0 0, space-there) in
         list-goes-on n text at _ _ found (λ z. omega arith) byte
 
-pub reads-list : (n : ℕ) (text : List ℕ) (at : ℕ) (h : HostPortText) (hs : List HostPortText) → length hs < n → drop at text ≡ withSpaces (h ∷ hs) → listAt n text at ≡ parsed (values (h ∷ hs))
+pub reads-list : (n : ℕ) (text : List ℕ) (at : ℕ) (h : HostPortNumerals) (hs : List HostPortNumerals) → length hs < n → drop at text ≡ withSpaces (h ∷ hs) → listAt n text at ≡ parsed (values (h ∷ hs))
 unfolding withSpaces values prepend
 reads-list zero text at h hs l e = absurd (omega arith)
 reads-list (suc n) text at h [] l e = last-reads n text at h e
-reads-list (suc n) text at h (i ∷ hs) l e = one-reads n text at h (withSpaces (i ∷ hs)) e ∙ rw (reads-list n text (at + length (written h) + 1) i hs (omega arith) (after-space n text at h (withSpaces (i ∷ hs)) e))
+reads-list (suc n) text at h (i ∷ hs) l e = one-reads n text at h (withSpaces (i ∷ hs)) e ∙ rw (reads-list n text (at + length (hostPortText h) + 1) i hs (omega arith) (after-space n text at h (withSpaces (i ∷ hs)) e))
 
 -- host-ports with a space after each, and a rest
-unfoldable pub spaceAfterEach : List HostPortText → List ℕ → List ℕ
+unfoldable pub spaceAfterEach : List HostPortNumerals → List ℕ → List ℕ
 spaceAfterEach [] rest = rest
-spaceAfterEach (h ∷ hs) rest = written h ++ 32 ∷ spaceAfterEach hs rest
+spaceAfterEach (h ∷ hs) rest = hostPortText h ++ 32 ∷ spaceAfterEach hs rest
 
-pub space-after-each : (h : HostPortText) (hs : List HostPortText) (rest : List ℕ) → spaceAfterEach (h ∷ hs) rest ≡ withSpaces (h ∷ hs) ++ (32 ∷ rest)
+pub space-after-each : (h : HostPortNumerals) (hs : List HostPortNumerals) (rest : List ℕ) → spaceAfterEach (h ∷ hs) rest ≡ withSpaces (h ∷ hs) ++ (32 ∷ rest)
 unfolding spaceAfterEach withSpaces
 space-after-each h [] rest = refl
-space-after-each h (i ∷ hs) rest = ap (λ (l : List ℕ). written h ++ 32 ∷ l) (space-after-each i hs rest) ∙ sym (append-assoc (written h) (32 ∷ withSpaces (i ∷ hs)) (32 ∷ rest))
+space-after-each h (i ∷ hs) rest = ap (λ (l : List ℕ). hostPortText h ++ 32 ∷ l) (space-after-each i hs rest) ∙ sym (append-assoc (hostPortText h) (32 ∷ withSpaces (i ∷ hs)) (32 ∷ rest))
 
-pub reads-longer : (n : ℕ) (text : List ℕ) (at : ℕ) (hs : List HostPortText) (b : ℕ) (rest : List ℕ) → length hs ≡ n → drop at text ≡ spaceAfterEach hs (b ∷ rest) → listAt n text at ≡ trouble 42
+pub reads-longer : (n : ℕ) (text : List ℕ) (at : ℕ) (hs : List HostPortNumerals) (b : ℕ) (rest : List ℕ) → length hs ≡ n → drop at text ≡ spaceAfterEach hs (b ∷ rest) → listAt n text at ≡ trouble 42
 unfolding spaceAfterEach prepend
 reads-longer zero text at [] b rest l e = list-full 0 text at refl (λ z. omega (arith, place-inside text at b rest e))
 reads-longer (suc n) text at [] b rest l e = absurd (omega arith)
 reads-longer zero text at (h ∷ hs) b rest l e = absurd (omega arith)
 reads-longer (suc n) text at (h ∷ hs) b rest l e =
     one-reads n text at h (spaceAfterEach hs (b ∷ rest)) e
-    ∙ rw (reads-longer n text (at + length (written h) + 1) hs b rest (omega arith) (after-space n text at h (spaceAfterEach hs (b ∷ rest)) e))
+    ∙ rw (reads-longer n text (at + length (hostPortText h) + 1) hs b rest (omega arith) (after-space n text at h (spaceAfterEach hs (b ∷ rest)) e))
 
 -- ---- from what is read to the host-ports
 
 -- what a text says from a place on, with room for n host-ports: host-ports that are written there, 41, or 42 after n host-ports
 pub record ReadList (n : ℕ) (text : List ℕ) (at : ℕ) (vs : List ℕ) : Type 0 where
-  pub h : HostPortText
-  pub hs : List HostPortText
+  pub h : HostPortNumerals
+  pub hs : List HostPortNumerals
   pub room : length hs < n
   pub there : drop at text ≡ withSpaces (h ∷ hs)
   pub are-values : vs ≡ values (h ∷ hs)
 
 pub record ReadLonger (n : ℕ) (text : List ℕ) (at : ℕ) : Type 0 where
-  pub hs : List HostPortText
+  pub hs : List HostPortNumerals
   pub further : ℕ
   pub rest : List ℕ
   pub are : length hs ≡ n
@@ -107,23 +107,23 @@ Read n text at (parsed vs) = ReadList n text at vs
 Read n text at (trouble k) = (k ≡ 41) ⊎ ((k ≡ 42) × ReadLonger n text at)
 
 -- a host-port and a space come before
-read-prepend : (n : ℕ) (text : List ℕ) (at next : ℕ) (h : HostPortText) (r : ParsedList) → drop at text ≡ written h ++ 32 ∷ drop next text → Read n text next r → Read (suc n) text at (prepend (value h) r)
+read-prepend : (n : ℕ) (text : List ℕ) (at next : ℕ) (h : HostPortNumerals) (r : ParsedList) → drop at text ≡ hostPortText h ++ 32 ∷ drop next text → Read n text next r → Read (suc n) text at (prepend (value h) r)
 unfolding prepend withSpaces values spaceAfterEach
 read-prepend n text at next h (parsed vs) e m = record { h = h; hs = m .h ∷ m .hs; room = omega arith; there = e ∙ rw (m .there); are-values = rw (m .are-values) }
 read-prepend n text at next h (trouble k) e (inl z) = inl z
 read-prepend n text at next h (trouble k) e (inr m) = inr (m .0, record { hs = h ∷ m .1 .hs; further = m .1 .further; rest = m .1 .rest; are = omega arith; there = e ∙ rw (m .1 .there) })
 
 -- a host-port that is read, and what comes after it
-read-found : (n : ℕ) (text : List ℕ) (at : ℕ) (h : HostPortText) (on : ℕ → ParsedList) → WrittenAt text at h → ((place : ℕ) → place ≤ length text → Read n text place (on place))
-    → Read (suc n) text at (hostPortThen text (HostPort (value h) (at + length (written h))) on)
+read-found : (n : ℕ) (text : List ℕ) (at : ℕ) (h : HostPortNumerals) (on : ℕ → ParsedList) → WrittenAt text at h → ((place : ℕ) → place ≤ length text → Read n text place (on place))
+    → Read (suc n) text at (hostPortThen text (HostPort (value h) (at + length (hostPortText h))) on)
 unfolding hostPortThen withSpaces values
 read-found n text at h on w more = go (eqb next (length text)) refl (eqb (getD text next 0) space) refl
   where
     next : ℕ
-    next = at + length (written h)
+    next = at + length (hostPortText h)
 
     here : drop next text ≡ w .rest
-    here = after text at (written h) (w .rest) (w .there)
+    here = after text at (hostPortText h) (w .rest) (w .there)
 
     go : (t : Bool) → eqb next (length text) ≡ t → (u : Bool) → eqb (getD text next 0) space ≡ u
         → Read (suc n) text at (cond t (parsed (value h ∷ [])) (cond u (prepend (value h) (on (next + 1))) (trouble 41)))

@@ -58,8 +58,8 @@ hostPorts (parsed vs) = vs
 hostPorts (trouble k) = []
 
 -- what clearing from an entry on leaves
-unfoldable pub clearAfter : ℕ → List ℕ → List ℕ
-clearAfter from list = take from list ++ replicate (length list - from) 0
+unfoldable pub clearedFrom : ℕ → List ℕ → List ℕ
+clearedFrom from list = take from list ++ replicate (length list - from) 0
 
 -- the n entries of a list: the host-ports, then zeros
 unfoldable pub entriesOf : ℕ → ParsedList → List ℕ
@@ -79,9 +79,9 @@ pub record StoreResult (text : List ℕ) (answer : Hosts) (list : List ℕ) : Ty
   pub after : take (length (hostPorts (hostsOf text))) list ≡ hostPorts (hostsOf text)
 
 -- document 01's number for each case, 0 where nothing is refused
-unfoldable pub number : Hosts → ℕ
-number (Count n) = 0
-number (Refused k) = k
+unfoldable pub refusalNumber : Hosts → ℕ
+refusalNumber (Count n) = 0
+refusalNumber (Refused k) = k
 
 -- how many host-ports there are, 0 where the text is refused
 unfoldable pub count : Hosts → ℕ

@@ -4,33 +4,33 @@ use mathlib.Core.Path.{_≡_}
 use mathlib.Core.Logic.{_⊎_}
 use mathlib.Core.List.{List, [], _∷_, _++_}
 use lib.ListN.{length, replicate}
-use Rattle.hostports.specs.HostPorts.{HostPortText, written, address, port}
-use Rattle.hostlists.specs.HostList.{parsed, trouble, hostsOf, fillOf, fillAfter, number, count}
+use Rattle.hostports.specs.HostPorts.{HostPortNumerals, hostPortText, address, port}
+use Rattle.hostlists.specs.HostList.{parsed, trouble, hostsOf, fillOf, fillAfter, refusalNumber, count}
 
 -- host-ports as they are written, one space between
-unfoldable pub withSpaces : List HostPortText → List ℕ
+unfoldable pub withSpaces : List HostPortNumerals → List ℕ
 withSpaces [] = []
-withSpaces (h ∷ []) = written h
-withSpaces (h ∷ i ∷ hs) = written h ++ 32 ∷ withSpaces (i ∷ hs)
+withSpaces (h ∷ []) = hostPortText h
+withSpaces (h ∷ i ∷ hs) = hostPortText h ++ 32 ∷ withSpaces (i ∷ hs)
 
 -- what a host-port becomes, and what each of a list does
-abbrev pub value : HostPortText → ℕ
+abbrev pub value : HostPortNumerals → ℕ
 value h = address h * 65536 + port h
 
-unfoldable pub values : List HostPortText → List ℕ
+unfoldable pub values : List HostPortNumerals → List ℕ
 values [] = []
 values (h ∷ hs) = value h ∷ values hs
 
 -- a text that is a list: 1 to 64 host-ports, one space between
 pub record ListText (text : List ℕ) : Type 0 where
-  pub hosts : List HostPortText
+  pub hosts : List HostPortNumerals
   pub one-or-more : 1 ≤ length hosts
   pub at-most-64 : length hosts ≤ 64
   pub says : text ≡ withSpaces hosts
 
 -- a text with a space and a further byte after its 64th host-port
 pub record LongerText (text : List ℕ) : Type 0 where
-  pub hosts : List HostPortText
+  pub hosts : List HostPortNumerals
   pub further : ℕ
   pub rest : List ℕ
   pub are-64 : length hosts ≡ 64
@@ -57,14 +57,14 @@ TooShort list = length list < 64
 -- what filling a lent list answers, and what it leaves there: 43 first, then what the text is
 pub record Filling : Type 0 where
   -- 43: a list lent with fewer than 64 entries stays as it is
-  pub number-43 : (text list : List ℕ) → TooShort list → (number (fillOf text list) ≡ 43) × (count (fillOf text list) ≡ 0) × (fillAfter text list ≡ list)
+  pub number-43 : (text list : List ℕ) → TooShort list → (refusalNumber (fillOf text list) ≡ 43) × (count (fillOf text list) ≡ 0) × (fillAfter text list ≡ list)
   -- 41 and 42: the whole list is zero
   pub number-41 : (text list : List ℕ) → (TooShort list → ⊥) → (ListText text → ⊥) → (LongerText text → ⊥)
-      → (number (fillOf text list) ≡ 41) × (count (fillOf text list) ≡ 0) × (fillAfter text list ≡ replicate (length list) 0)
+      → (refusalNumber (fillOf text list) ≡ 41) × (count (fillOf text list) ≡ 0) × (fillAfter text list ≡ replicate (length list) 0)
   pub number-42 : (text list : List ℕ) → (TooShort list → ⊥) → LongerText text
-      → (number (fillOf text list) ≡ 42) × (count (fillOf text list) ≡ 0) × (fillAfter text list ≡ replicate (length list) 0)
+      → (refusalNumber (fillOf text list) ≡ 42) × (count (fillOf text list) ≡ 0) × (fillAfter text list ≡ replicate (length list) 0)
   -- else how many host-ports there are, and the list has them and then zeros
   pub number-0 : (text list : List ℕ) → (TooShort list → ⊥) → (l : ListText text)
-      → (number (fillOf text list) ≡ 0)
+      → (refusalNumber (fillOf text list) ≡ 0)
       × (count (fillOf text list) ≡ length (l .hosts))
       × (fillAfter text list ≡ values (l .hosts) ++ replicate (length list - length (l .hosts)) 0)

@@ -5,7 +5,7 @@ use octets::entries;
 ghost use mathlib.Core.Path.{_≡_};
 ghost use Prim.Native.Nat.{_≤_};
 ghost use lib.ListN.{length};
-ghost use Rattle.hostlists.specs.HostList.{hostLimit, StoreResult, clearAfter, fillOf, fillAfter};
+ghost use Rattle.hostlists.specs.HostList.{hostLimit, StoreResult, clearedFrom, fillOf, fillAfter};
 
 // The most host-ports of a list, and the fewest entries that may be lent.
 pub const HOST_LIMIT: usize = 64;
@@ -48,7 +48,7 @@ fn store(text: &[u8], list: &mut [u64]) -> Hosts
 
 // Zero in every entry from one on.
 fn clear(list: &mut [u64], from: usize)
-    ensures { λ _. ⌜ now (list .exit) ≡ clearAfter from (now (list .entry)) ⌝ }
+    ensures { λ _. ⌜ now (list .exit) ≡ clearedFrom from (now (list .entry)) ⌝ }
 {
     if from < list.len() {
         entries::clear(&mut list[from..]);

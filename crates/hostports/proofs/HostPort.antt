@@ -10,8 +10,8 @@ use borrow.Author.Tests.{le-leb, lt-leb, leb-true, eq-eqb, ne-eqb}
 use lib.Dec.{leb, eqb}
 use lib.ListN.{length, getD, take, drop, length-drop, drop-of-length-le}
 use lib.Seq.{length-take-le, take-all}
-use Rattle.octets.specs.Decimal.{numberOf, readOf}
-use Rattle.octets.specs.Text.{isDigit, leading}
+use Rattle.octets.specs.Decimal.{decimalValue, readOf}
+use Rattle.octets.specs.Text.{isDigit, leadingCount}
 use Rattle.octets.specs.declared.decimal.Number.{Number as Read}
 use Rattle.octets.specs.declared.decimal.Number.the-variants.{Value, Nothing}
 use Rattle.octets.proofs.Texts.{leading-le, all-leading}
@@ -28,28 +28,28 @@ rest-is text at = take-all (length text - at) (drop at text) (simp length-drop (
 -- ---- one number
 
 pub number-past : (text : List ℕ) (at : ℕ) → length text ≤ at → numberAt text at ≡ NoNumber
-unfolding numberAt leading
+unfolding numberAt leadingCount
 number-past text at h = rw (drop-of-length-le text h)
 
-pub number-long : (text : List ℕ) (at : ℕ) → digitLimit < leading isDigit (drop at text) → numberAt text at ≡ NoNumber
+pub number-long : (text : List ℕ) (at : ℕ) → digitLimit < leadingCount isDigit (drop at text) → numberAt text at ≡ NoNumber
 unfolding numberAt
-number-long text at h = rw (lt-leb (leading isDigit (drop at text)) digitLimit h, and-false (leb 1 (leading isDigit (drop at text))))
+number-long text at h = rw (lt-leb (leadingCount isDigit (drop at text)) digitLimit h, and-false (leb 1 (leadingCount isDigit (drop at text))))
 
 -- what reading digits answers, with the place after them
 abbrev pub parsedOf : ℕ → Read → ParsedNumber
 parsedOf next (Value n) = Number n next
 parsedOf next Nothing = NoNumber
 
-pub number-short : (text : List ℕ) (at : ℕ) → let k = leading isDigit (drop at text) in k ≤ digitLimit → numberAt text at ≡ parsedOf (at + k) (readOf (take k (drop at text)) valueLimit)
+pub number-short : (text : List ℕ) (at : ℕ) → let k = leadingCount isDigit (drop at text) in k ≤ digitLimit → numberAt text at ≡ parsedOf (at + k) (readOf (take k (drop at text)) valueLimit)
 unfolding numberAt readOf
 number-short text at h =
     rw (le-leb k digitLimit h, length-take-le k (drop at text) (leading-le isDigit (drop at text)), all-leading isDigit (drop at text)) (go (leb 1 k && leb n valueLimit))
   where
     k : ℕ
-    k = leading isDigit (drop at text)
+    k = leadingCount isDigit (drop at text)
 
     n : ℕ
-    n = numberOf (take k (drop at text))
+    n = decimalValue (take k (drop at text))
 
     go : (b : Bool) → cond b (Number n (at + k)) NoNumber ≡ parsedOf (at + k) (cond b (Value n) Nothing)
     go true = refl
@@ -104,10 +104,10 @@ unfolding numberAt
 within-number text at = go (leb 1 k && (leb k digitLimit && leb n valueLimit)) refl
   where
     k : ℕ
-    k = leading isDigit (drop at text)
+    k = leadingCount isDigit (drop at text)
 
     n : ℕ
-    n = numberOf (take k (drop at text))
+    n = decimalValue (take k (drop at text))
 
     go : (b : Bool) → leb 1 k && (leb k digitLimit && leb n valueLimit) ≡ b → NumberWithin text (cond b (Number n (at + k)) NoNumber)
     go false e = tt

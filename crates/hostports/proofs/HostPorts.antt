@@ -4,22 +4,22 @@ use mathlib.Core.Path.{_≡_, refl, subst}
 use mathlib.Core.List.{List}
 use Rattle.hostports.specs.declared.host_port.ParsedHostPort.{ParsedHostPort}
 use Rattle.hostports.specs.declared.host_port.ParsedHostPort.the-variants.{HostPort, Malformed}
-use Rattle.hostports.specs.HostPort.{hostPortAt, number, valueOf, placeAfter}
-use Rattle.hostports.specs.HostPorts.{HostPortText, WrittenAt, HostPorts}
+use Rattle.hostports.specs.HostPort.{hostPortAt, refusalNumber, valueOf, placeAfter}
+use Rattle.hostports.specs.HostPorts.{HostPortNumerals, WrittenAt, HostPorts}
 use Rattle.hostports.proofs.HostPort.{Within, within-host-port}
 use Rattle.hostports.proofs.HostPortsWritten.{six-written}
 use Rattle.hostports.proofs.HostPortsRead.{six-read}
 
-numbered-0 : (s : ParsedHostPort) (v next : ℕ) → s ≡ HostPort v next → (number s ≡ 0) × (valueOf s ≡ v) × (placeAfter s ≡ next)
-unfolding number valueOf placeAfter
+numbered-0 : (s : ParsedHostPort) (v next : ℕ) → s ≡ HostPort v next → (refusalNumber s ≡ 0) × (valueOf s ≡ v) × (placeAfter s ≡ next)
+unfolding refusalNumber valueOf placeAfter
 numbered-0 s v next e = (rw e, rw e, rw e)
 
-numbered-41 : (text : List ℕ) (at : ℕ) → ((h : HostPortText) → WrittenAt text at h → ⊥)
-    → (number (hostPortAt text at) ≡ 41) × (valueOf (hostPortAt text at) ≡ 0) × (placeAfter (hostPortAt text at) ≡ 0)
-unfolding number valueOf placeAfter
+numbered-41 : (text : List ℕ) (at : ℕ) → ((h : HostPortNumerals) → WrittenAt text at h → ⊥)
+    → (refusalNumber (hostPortAt text at) ≡ 41) × (valueOf (hostPortAt text at) ≡ 0) × (placeAfter (hostPortAt text at) ≡ 0)
+unfolding refusalNumber valueOf placeAfter
 numbered-41 text at none = go (hostPortAt text at) refl
   where
-    go : (s : ParsedHostPort) → hostPortAt text at ≡ s → (number s ≡ 41) × (valueOf s ≡ 0) × (placeAfter s ≡ 0)
+    go : (s : ParsedHostPort) → hostPortAt text at ≡ s → (refusalNumber s ≡ 41) × (valueOf s ≡ 0) × (placeAfter s ≡ 0)
     go Malformed e = (refl, refl, refl)
     go (HostPort v next) e = let f = six-read text at v next e in absurd (none (f .0) (f .1))
 

@@ -9,36 +9,36 @@ use borrow.Author.Tests.{ltb-true, ltb-false, leb-true, eqb-true}
 use lib.Dec.{leb, ltb, eqb}
 use lib.ListN.{length, getD, take, drop, take-append-drop, List·getD-eq-default}
 use lib.Seq.{length-take-le, drop-cons}
-use Rattle.octets.specs.Decimal.{numberOf}
-use Rattle.octets.specs.Text.{isDigit, leading}
+use Rattle.octets.specs.Decimal.{decimalValue}
+use Rattle.octets.specs.Text.{isDigit, leadingCount}
 use Rattle.octets.proofs.Texts.{leading-le, all-leading, leading-rest}
 use Rattle.hostports.specs.declared.host_port.ParsedNumber.{ParsedNumber}
 use Rattle.hostports.specs.declared.host_port.ParsedNumber.the-variants.{Number, Malformed as NoNumber}
 use Rattle.hostports.specs.declared.host_port.ParsedHostPort.the-variants.{HostPort, Malformed}
 use Rattle.hostports.specs.HostPort.{comma, digitLimit, valueLimit, numberAt, andThen, moreAt, hostPortAt}
-use Rattle.hostports.specs.HostPorts.{Numeral, NoDigit, HostPortText, written, address, port, WrittenAt}
+use Rattle.hostports.specs.HostPorts.{Numeral, StartsWithNoDigit, HostPortNumerals, hostPortText, address, port, WrittenAt}
 use Rattle.hostports.proofs.HostPort.{more-done}
 use Rattle.hostports.proofs.HostPortsWritten.{after, commaThen, after-more, written-rest, written-place}
 
 -- after the digits that a text begins with there is no digit
-none-leads : (rest : List ℕ) → leading isDigit rest ≡ 0 → NoDigit rest
-unfolding leading
+none-leads : (rest : List ℕ) → leadingCount isDigit rest ≡ 0 → StartsWithNoDigit rest
+unfolding leadingCount
 none-leads [] h = tt
 none-leads (b ∷ bs) h = go (isDigit b) refl h
   where
-    go : (t : Bool) → isDigit b ≡ t → cond t (suc (leading isDigit bs)) 0 ≡ 0 → isDigit b ≡ false
+    go : (t : Bool) → isDigit b ≡ t → cond t (suc (leadingCount isDigit bs)) 0 ≡ 0 → isDigit b ≡ false
     go true e h = absurd (omega arith)
     go false e h = e
 
-run-stops : (text : List ℕ) → NoDigit (drop (leading isDigit text) text)
-run-stops text = none-leads (drop (leading isDigit text) text) (leading-rest isDigit text)
+run-stops : (text : List ℕ) → StartsWithNoDigit (drop (leadingCount isDigit text) text)
+run-stops text = none-leads (drop (leadingCount isDigit text) text) (leading-rest isDigit text)
 
 -- a number that is read is written there, with no digit after it
 pub record NumeralAt (text : List ℕ) (at v next : ℕ) : Type 0 where
   pub a : Numeral
   pub rest : List ℕ
   pub there : drop at text ≡ a .text ++ rest
-  pub no-digit : NoDigit rest
+  pub no-digit : StartsWithNoDigit rest
   pub says : v ≡ a .value
   pub place : next ≡ at + length (a .text)
 
@@ -53,13 +53,13 @@ unfolding numberAt
 number-read text at v next = go (leb 1 k && (leb k digitLimit && leb n valueLimit)) refl
   where
     k : ℕ
-    k = leading isDigit (drop at text)
+    k = leadingCount isDigit (drop at text)
 
     digits : List ℕ
     digits = take k (drop at text)
 
     n : ℕ
-    n = numberOf digits
+    n = decimalValue digits
 
     go : (t : Bool) → leb 1 k && (leb k digitLimit && leb n valueLimit) ≡ t → cond t (Number n (at + k)) NoNumber ≡ Number v next → NumeralAt text at v next
     go false e h = absurd (let z : _≡_ {A = ℕ} 0 1 = cc in omega arith)
@@ -84,7 +84,7 @@ record MoreAt (n : ℕ) (text : List ℕ) (v at w next : ℕ) : Type 0 where
   a : Numeral
   rest : List ℕ
   there : drop at text ≡ commaThen a rest
-  no-digit : NoDigit rest
+  no-digit : StartsWithNoDigit rest
   on : moreAt n text (v * 256 + a .value) (at + 1 + length (a .text)) ≡ HostPort w next
 
 -- a byte that is not 0 is in the text
@@ -122,12 +122,12 @@ given x f = f x
 
 -- six numbers, commas between, are written where they are read
 pub six-read : (text : List ℕ) (at v next : ℕ) → hostPortAt text at ≡ HostPort v next
-    → (h : HostPortText) × WrittenAt text at h × (v ≡ address h * 65536 + port h) × (next ≡ at + length (written h))
+    → (h : HostPortNumerals) × WrittenAt text at h × (v ≡ address h * 65536 + port h) × (next ≡ at + length (hostPortText h))
 unfolding hostPortAt andThen
 six-read text at v next = go (numberAt text at) refl
   where
     go : (s : ParsedNumber) → numberAt text at ≡ s → andThen s (moreAt 5 text) ≡ HostPort v next
-        → (h : HostPortText) × WrittenAt text at h × (v ≡ address h * 65536 + port h) × (next ≡ at + length (written h))
+        → (h : HostPortNumerals) × WrittenAt text at h × (v ≡ address h * 65536 + port h) × (next ≡ at + length (hostPortText h))
     go NoNumber e g = absurd (never v next g)
     go (Number u place) e g =
         given (number-read text at u place e) (λ m₀.
@@ -136,7 +136,7 @@ six-read text at v next = go (numberAt text at) refl
         given (more-read 2 text _ _ v next (m₂ .on)) (λ m₃.
         given (more-read 1 text _ _ v next (m₃ .on)) (λ m₄.
         given (more-read 0 text _ _ v next (m₄ .on)) (λ m₅.
-        let h : HostPortText = record { a = m₀ .a; b = m₁ .a; c = m₂ .a; d = m₃ .a; e = m₄ .a; f = m₅ .a } in
+        let h : HostPortNumerals = record { a = m₀ .a; b = m₁ .a; c = m₂ .a; d = m₃ .a; e = m₄ .a; f = m₅ .a } in
         let p₁ = at + length (h .a .text) in
         let p₂ = p₁ + 1 + length (h .b .text) in
         let p₃ = p₂ + 1 + length (h .c .text) in
@@ -146,6 +146,6 @@ six-read text at v next = go (numberAt text at) refl
         let r₂ : m₂ .rest ≡ commaThen (h .d) (m₃ .rest) = sym (after-more text p₂ (h .c) (m₂ .rest) (m₂ .there)) ∙ m₃ .there in
         let r₃ : m₃ .rest ≡ commaThen (h .e) (m₄ .rest) = sym (after-more text p₃ (h .d) (m₃ .rest) (m₃ .there)) ∙ m₄ .there in
         let r₄ : m₄ .rest ≡ commaThen (h .f) (m₅ .rest) = sym (after-more text p₄ (h .e) (m₄ .rest) (m₄ .there)) ∙ m₅ .there in
-        let there : drop at text ≡ written h ++ m₅ .rest = m₀ .there ∙ rw (r₀, r₁, r₂, r₃, r₄) (sym (written-rest h (m₅ .rest))) in
+        let there : drop at text ≡ hostPortText h ++ m₅ .rest = m₀ .there ∙ rw (r₀, r₁, r₂, r₃, r₄) (sym (written-rest h (m₅ .rest))) in
         let end = same-host-port _ _ v next (sym (more-done text _ _) ∙ m₅ .on) in
         (h, record { rest = m₅ .rest; there = there; no-digit = m₅ .no-digit }, omega (arith, end .0), sym (end .1) ∙ written-place h at)))))))

@@ -8,27 +8,27 @@ use native.Mathlib.Nat.{add-zero}
 use borrow.Author.Tests.{le-leb}
 use lib.ListN.{length, getD, drop, length-append}
 use lib.Seq.{take-append-seam, drop-append-seam, drop-drop, getD-drop}
-use Rattle.octets.specs.Text.{isDigit, all, leading}
+use Rattle.octets.specs.Text.{isDigit, all, leadingCount}
 use Rattle.octets.proofs.Texts.{leading-append}
 use Rattle.hostports.specs.declared.host_port.ParsedNumber.the-variants.{Number}
 use Rattle.hostports.specs.declared.host_port.ParsedHostPort.the-variants.{HostPort}
 use Rattle.hostports.specs.HostPort.{digitLimit, valueLimit, numberAt, moreAt, hostPortAt}
-use Rattle.hostports.specs.HostPorts.{Numeral, NoDigit, HostPortText, written, address, port, WrittenAt}
+use Rattle.hostports.specs.HostPorts.{Numeral, StartsWithNoDigit, HostPortNumerals, hostPortText, address, port, WrittenAt}
 use Rattle.hostports.proofs.HostPort.{first-number, one-more, more-done}
 
-run-none : (rest : List ℕ) → NoDigit rest → leading isDigit rest ≡ 0
-unfolding leading
+run-none : (rest : List ℕ) → StartsWithNoDigit rest → leadingCount isDigit rest ≡ 0
+unfolding leadingCount
 run-none [] h = refl
 run-none (b ∷ bs) h = rw h
 
-run-all : (digits rest : List ℕ) → all isDigit digits ≡ true → NoDigit rest → leading isDigit (digits ++ rest) ≡ length digits
+run-all : (digits rest : List ℕ) → all isDigit digits ≡ true → StartsWithNoDigit rest → leadingCount isDigit (digits ++ rest) ≡ length digits
 run-all digits rest h g = omega (arith, leading-append isDigit digits rest h, run-none rest g)
 
 -- a text with a part at a place has after that part what follows there
 pub after : (text : List ℕ) (at : ℕ) (part rest : List ℕ) → drop at text ≡ part ++ rest → drop (at + length part) text ≡ rest
 after text at part rest e = sym (drop-drop (length part) at text) ∙ rw e (drop-append-seam part rest)
 
-number-written : (text : List ℕ) (at : ℕ) (a : Numeral) (rest : List ℕ) → drop at text ≡ a .text ++ rest → NoDigit rest → numberAt text at ≡ Number (a .value) (at + length (a .text))
+number-written : (text : List ℕ) (at : ℕ) (a : Numeral) (rest : List ℕ) → drop at text ≡ a .text ++ rest → StartsWithNoDigit rest → numberAt text at ≡ Number (a .value) (at + length (a .text))
 unfolding numberAt
 number-written text at a rest e g =
     rw (
@@ -52,25 +52,25 @@ module _ (text : List ℕ) (at : ℕ) (a : Numeral) (rest : List ℕ) (e : drop 
   pub after-more : drop (at + 1 + length (a .text)) text ≡ rest
   after-more = after text (at + 1) (a .text) rest after-comma
 
-  more-written : (n v : ℕ) → NoDigit rest → moreAt (suc n) text v at ≡ moreAt n text (v * 256 + a .value) (at + 1 + length (a .text))
+  more-written : (n v : ℕ) → StartsWithNoDigit rest → moreAt (suc n) text v at ≡ moreAt n text (v * 256 + a .value) (at + 1 + length (a .text))
   more-written n v g =
       let here : getD text at 0 ≡ 44 = rw (← add-zero at, ← getD-drop at text 0 0, e) in
       one-more n text v at (a .value) (at + 1 + length (a .text)) here (number-written text (at + 1) a rest after-comma g)
 
 -- the first number, and the five after it
-pub written-rest : (h : HostPortText) (rest : List ℕ)
-    → written h ++ rest ≡ h .a .text ++ commaThen (h .b) (commaThen (h .c) (commaThen (h .d) (commaThen (h .e) (commaThen (h .f) rest))))
-unfolding written
+pub written-rest : (h : HostPortNumerals) (rest : List ℕ)
+    → hostPortText h ++ rest ≡ h .a .text ++ commaThen (h .b) (commaThen (h .c) (commaThen (h .d) (commaThen (h .e) (commaThen (h .f) rest))))
+unfolding hostPortText
 written-rest h rest = simp append-assoc
 
 -- the place after six numbers
-pub written-place : (h : HostPortText) (at : ℕ)
-    → at + length (h .a .text) + 1 + length (h .b .text) + 1 + length (h .c .text) + 1 + length (h .d .text) + 1 + length (h .e .text) + 1 + length (h .f .text) ≡ at + length (written h)
-unfolding written
+pub written-place : (h : HostPortNumerals) (at : ℕ)
+    → at + length (h .a .text) + 1 + length (h .b .text) + 1 + length (h .c .text) + 1 + length (h .d .text) + 1 + length (h .e .text) + 1 + length (h .f .text) ≡ at + length (hostPortText h)
+unfolding hostPortText
 written-place h at = simp length-append (omega arith)
 
 -- six numbers are read one after the other
-pub six-written : (text : List ℕ) (at : ℕ) (h : HostPortText) → WrittenAt text at h → hostPortAt text at ≡ HostPort (address h * 65536 + port h) (at + length (written h))
+pub six-written : (text : List ℕ) (at : ℕ) (h : HostPortNumerals) → WrittenAt text at h → hostPortAt text at ≡ HostPort (address h * 65536 + port h) (at + length (hostPortText h))
 six-written text at h w =
     let s₅ = commaThen (h .f) (w .rest) in
     let s₄ = commaThen (h .e) s₅ in

@@ -4,8 +4,8 @@ use mathlib.Core.Bool.{cond, _&&_}
 use mathlib.Core.List.{List}
 use lib.Dec.{leb, eqb}
 use lib.ListN.{getD, take, drop}
-use Rattle.octets.specs.Decimal.{numberOf}
-use Rattle.octets.specs.Text.{isDigit, leading}
+use Rattle.octets.specs.Decimal.{decimalValue}
+use Rattle.octets.specs.Text.{isDigit, leadingCount}
 use Rattle.hostports.specs.declared.host_port.ParsedNumber.{ParsedNumber}
 use Rattle.hostports.specs.declared.host_port.ParsedNumber.the-variants.{Number, Malformed as NoNumber}
 use Rattle.hostports.specs.declared.host_port.ParsedHostPort.{ParsedHostPort}
@@ -25,8 +25,8 @@ valueLimit = 255
 -- one number at a place: 1 to 3 digits, at most 255; its value and the place after it
 unfoldable pub numberAt : List ℕ → ℕ → ParsedNumber
 numberAt text at =
-    let k = leading isDigit (drop at text) in
-    let n = numberOf (take k (drop at text)) in
+    let k = leadingCount isDigit (drop at text) in
+    let n = decimalValue (take k (drop at text)) in
     cond (leb 1 k && (leb k digitLimit && leb n valueLimit)) (Number n (at + k)) NoNumber
 
 -- what a number makes with what comes after it: nothing well formed where it is none
@@ -45,9 +45,9 @@ unfoldable pub hostPortAt : List ℕ → ℕ → ParsedHostPort
 hostPortAt text at = andThen (numberAt text at) (moreAt 5 text)
 
 -- document 01's number for each case, 0 where nothing is refused
-unfoldable pub number : ParsedHostPort → ℕ
-number (HostPort v next) = 0
-number Malformed = 41
+unfoldable pub refusalNumber : ParsedHostPort → ℕ
+refusalNumber (HostPort v next) = 0
+refusalNumber Malformed = 41
 
 -- the values of each case: the host-port, and the place after it; 0 where there is none
 unfoldable pub valueOf : ParsedHostPort → ℕ

@@ -1,7 +1,7 @@
 // One host-port at a place of a text, and the reader that holds the text.
 use octets::decimal;
 use octets::text;
-use octets::text::Kind;
+use octets::text::ByteKind;
 ghost use mathlib.Core.Path.{_≡_};
 ghost use Rattle.hostports.specs.HostPort.{numberAt, hostPortAt};
 
@@ -27,7 +27,7 @@ fn number_at(text: &[u8], at: usize) -> ParsedNumber
         return ParsedNumber::Malformed;
     }
     let rest = &text[at..];
-    let k = text::leading(Kind::Digit, rest);
+    let k = text::leading(ByteKind::Digit, rest);
     if 3 < k {
         return ParsedNumber::Malformed;
     }

@@ -9,10 +9,10 @@ use native.Mathlib.Decide.{ℕ-discrete}
 use borrow.Author.Tests.{ne-eqb}
 use lib.Dec.{leb, ltb, eqb}
 use lib.ListN.{length}
-use Rattle.ledger.specs.Ledger.{zeros, rule, obeys}
+use Rattle.ledger.specs.Ledger.{allZero, obeysFrom, obeys}
 
-rule-odd : (lo : ℕ) (l : List ℕ) → length l % 2 ≢ 0 → rule lo l ≡ false
-unfolding rule
+rule-odd : (lo : ℕ) (l : List ℕ) → length l % 2 ≢ 0 → obeysFrom lo l ≡ false
+unfolding obeysFrom
 rule-odd lo [] n = absurd (n refl)
 rule-odd lo (a ∷ []) n = refl
 rule-odd lo (a ∷ b ∷ rest) n = go (eqb b 0) (rule-odd (suc b) rest odd)
@@ -20,9 +20,9 @@ rule-odd lo (a ∷ b ∷ rest) n = go (eqb b 0) (rule-odd (suc b) rest odd)
     odd : length rest % 2 ≢ 0
     odd q = n (omega arith)
 
-    go : (t : Bool) → rule (suc b) rest ≡ false
-        → cond t (eqb a 0 && (zeros rest && eqb (length rest % 2) 0)) (leb lo a && (ltb a b && rule (suc b) rest)) ≡ false
-    go true i = rw (ne-eqb (length rest % 2) 0 odd, and-false (zeros rest)) (and-false (eqb a 0))
+    go : (t : Bool) → obeysFrom (suc b) rest ≡ false
+        → cond t (eqb a 0 && (allZero rest && eqb (length rest % 2) 0)) (leb lo a && (ltb a b && obeysFrom (suc b) rest)) ≡ false
+    go true i = rw (ne-eqb (length rest % 2) 0 odd, and-false (allZero rest)) (and-false (eqb a 0))
     go false i = rw (i, and-false (ltb a b)) (and-false (leb lo a))
 
 pub odd-breaks : (l : List ℕ) → length l % 2 ≢ 0 → obeys l ≡ false

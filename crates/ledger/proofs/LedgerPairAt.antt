@@ -10,7 +10,7 @@ use lib.Dec.{leb, ltb, eqb}
 use lib.ListN.{length, getD, drop, length-drop}
 use lib.Seq.{drop-cons}
 use Rattle.ledger.specs.Pairs.{none, pair, endsAtMost}
-use Rattle.ledger.specs.Ledger.{zeros, rule, pairsOf, mayFollow}
+use Rattle.ledger.specs.Ledger.{allZero, obeysFrom, pairsOf, mayFollow}
 
 pub two-of : (l : List ℕ) (i : ℕ) → i + 1 < length l → drop i l ≡ getD l i 0 ∷ getD l (i + 1) 0 ∷ drop (i + 2) l
 two-of l i h =
@@ -54,51 +54,51 @@ pub follows-less : (end a b : ℕ) → mayFollow end a b ≡ true → a < b
 follows-less end a b h = ltb-true a b (and-eq-true-iff (eqb end 0 || ltb end a) (ltb a b) .0 h .1)
 
 unfoldable pub sound : ℕ → ℕ → List ℕ → Bool
-sound lo f l = rule lo l && endsAtMost f (pairsOf l)
+sound lo f l = obeysFrom lo l && endsAtMost f (pairsOf l)
 
 module _ (lo f : ℕ) (l : List ℕ) (i : ℕ) (h : i + 1 < length l) where
-  pub sound-unused : getD l (i + 1) 0 ≡ 0 → sound lo f (drop i l) ≡ (zeros (drop i l) && eqb (length (drop i l) % 2) 0)
-  unfolding sound rule zeros endsAtMost
+  pub sound-unused : getD l (i + 1) 0 ≡ 0 → sound lo f (drop i l) ≡ (allZero (drop i l) && eqb (length (drop i l) % 2) 0)
+  unfolding sound obeysFrom allZero endsAtMost
   sound-unused e =
       let r = drop (i + 2) l in
       let m : suc (suc (length r)) % 2 ≡ length r % 2 = omega arith in
       rw (pairs-unused l i h e, two-of l i h, eq-eqb (getD l (i + 1) 0) 0 e, m)
-      (and-true (eqb (getD l i 0) 0 && (zeros r && eqb (length r % 2) 0)) ∙ sym (and-assoc (eqb (getD l i 0) 0) (zeros r) (eqb (length r % 2) 0)))
+      (and-true (eqb (getD l i 0) 0 && (allZero r && eqb (length r % 2) 0)) ∙ sym (and-assoc (eqb (getD l i 0) 0) (allZero r) (eqb (length r % 2) 0)))
 
   module _ (n : getD l (i + 1) 0 ≡ 0 → ⊥) where
     pub sound-not : (leb lo (getD l i 0) && ltb (getD l i 0) (getD l (i + 1) 0)) ≡ false → sound lo f (drop i l) ≡ false
-    unfolding sound rule
+    unfolding sound obeysFrom
     sound-not e =
         rw (
           pairs-used l i h n,
           two-of l i h,
           ne-eqb (getD l (i + 1) 0) 0 n,
-          ← and-assoc (leb lo (getD l i 0)) (ltb (getD l i 0) (getD l (i + 1) 0)) (rule (suc (getD l (i + 1) 0)) (drop (i + 2) l)),
+          ← and-assoc (leb lo (getD l i 0)) (ltb (getD l i 0) (getD l (i + 1) 0)) (obeysFrom (suc (getD l (i + 1) 0)) (drop (i + 2) l)),
           e,
         )
 
     pub sound-above : f < getD l (i + 1) 0 → sound lo f (drop i l) ≡ false
     unfolding sound endsAtMost
-    sound-above e = rw (pairs-used l i h n, lt-leb (getD l (i + 1) 0) f e) (and-false (rule lo (drop i l)))
+    sound-above e = rw (pairs-used l i h n, lt-leb (getD l (i + 1) 0) f e) (and-false (obeysFrom lo (drop i l)))
 
     pub sound-on : (leb lo (getD l i 0) && ltb (getD l i 0) (getD l (i + 1) 0)) ≡ true → getD l (i + 1) 0 ≤ f
         → sound lo f (drop i l) ≡ sound (suc (getD l (i + 1) 0)) f (drop (i + 2) l)
-    unfolding sound rule endsAtMost
+    unfolding sound obeysFrom endsAtMost
     sound-on e g =
         rw (
           pairs-used l i h n,
           two-of l i h,
           ne-eqb (getD l (i + 1) 0) 0 n,
-          ← and-assoc (leb lo (getD l i 0)) (ltb (getD l i 0) (getD l (i + 1) 0)) (rule (suc (getD l (i + 1) 0)) (drop (i + 2) l)),
+          ← and-assoc (leb lo (getD l i 0)) (ltb (getD l i 0) (getD l (i + 1) 0)) (obeysFrom (suc (getD l (i + 1) 0)) (drop (i + 2) l)),
           e,
           le-leb (getD l (i + 1) 0) f g,
         )
 
 pub sound-over : (lo f : ℕ) (l : List ℕ) (i : ℕ) → i ≤ length l → length l ≤ i + 1 → sound lo f (drop i l) ≡ eqb i (length l)
-unfolding sound rule endsAtMost
+unfolding sound obeysFrom endsAtMost
 sound-over lo f l i h g = rw (pairs-over l i g) (go (drop i l) (length-drop i l))
   where
-    go : (r : List ℕ) → length r ≡ length l - i → rule lo r && true ≡ eqb i (length l)
+    go : (r : List ℕ) → length r ≡ length l - i → obeysFrom lo r && true ≡ eqb i (length l)
     go [] k = sym (eq-eqb i (length l) (omega arith))
     go (a ∷ []) k = sym (ne-eqb i (length l) (omega arith))
     go (a ∷ b ∷ r) k = absurd (omega arith)

@@ -9,8 +9,8 @@ use native.Mathlib.Decide.{ℕ-discrete}
 use borrow.Author.Tests.{lt-ltb, le-leb, ne-eqb, eqb-true}
 use lib.Dec.{eqb}
 use lib.ListN.{length, getD}
-use Rattle.ledger.specs.Pairs.{Pairs, none, pair, size, inRange, contains, Ruled}
-use Rattle.ledger.specs.Ledger.{zeros, rule, obeys, pairsOf, laidOut, Contains}
+use Rattle.ledger.specs.Pairs.{Pairs, none, pair, size, inRange, contains, ObeyFrom}
+use Rattle.ledger.specs.Ledger.{allZero, obeysFrom, obeys, pairsOf, laidOut, Contains}
 use Rattle.ledger.specs.Ledgers.{Obeys}
 use Rattle.ledger.proofs.PairsPlaces.{inRange-in, inRange-le, Where, under, within, past, stand, holds-le}
 use Rattle.ledger.proofs.PairsUnique.{ruled-unique}
@@ -27,14 +27,14 @@ odd-on k = omega arith
 
 -- ---- zeros
 
-pub zeros-at : (l : List ℕ) (j : ℕ) → zeros l ≡ true → getD l j 0 ≡ 0
-unfolding zeros
+pub zeros-at : (l : List ℕ) (j : ℕ) → allZero l ≡ true → getD l j 0 ≡ 0
+unfolding allZero
 zeros-at [] j h = refl
-zeros-at (x ∷ xs) zero h = eqb-true x 0 (and-eq-true-iff (eqb x 0) (zeros xs) .0 h .0)
-zeros-at (x ∷ xs) (suc j) h = zeros-at xs j (and-eq-true-iff (eqb x 0) (zeros xs) .0 h .1)
+zeros-at (x ∷ xs) zero h = eqb-true x 0 (and-eq-true-iff (eqb x 0) (allZero xs) .0 h .0)
+zeros-at (x ∷ xs) (suc j) h = zeros-at xs j (and-eq-true-iff (eqb x 0) (allZero xs) .0 h .1)
 
-pub at-zeros : (l : List ℕ) → ((j : ℕ) → getD l j 0 ≡ 0) → zeros l ≡ true
-unfolding zeros
+pub at-zeros : (l : List ℕ) → ((j : ℕ) → getD l j 0 ≡ 0) → allZero l ≡ true
+unfolding allZero
 at-zeros [] h = refl
 at-zeros (x ∷ xs) h = rw (h 0, at-zeros xs (λ j. h (suc j)))
 
@@ -42,8 +42,8 @@ at-zeros (x ∷ xs) h = rw (h 0, at-zeros xs (λ j. h (suc j)))
 
 words-test : (lo r u : ℕ) (l : List ℕ) → length l ≡ 2 * r → u ≤ r → (0 < u → lo ≤ getD l 0 0)
     → ((i : ℕ) → i < u → getD l (2 * i) 0 < getD l (2 * i + 1) 0) → ((i : ℕ) → suc i < u → getD l (2 * i + 1) 0 < getD l (2 * suc i) 0)
-    → ((j : ℕ) → 2 * u ≤ j → getD l j 0 ≡ 0) → rule lo l ≡ true
-unfolding rule
+    → ((j : ℕ) → 2 * u ≤ j → getD l j 0 ≡ 0) → obeysFrom lo l ≡ true
+unfolding obeysFrom
 words-test lo r u [] n h f o a z = refl
 words-test lo r u (x ∷ []) n h f o a z = absurd (omega arith)
 words-test lo r zero (x ∷ y ∷ l) n h f o a z =
@@ -59,13 +59,13 @@ words-test lo (suc r) (suc u) (x ∷ y ∷ l) n h f o a z =
 
 -- ---- from the test to the rule in words
 
-start-end : (lo i : ℕ) (ps : Pairs) → Ruled lo ps → i < size ps → startAt i ps < endAt i ps
+start-end : (lo i : ℕ) (ps : Pairs) → ObeyFrom lo ps → i < size ps → startAt i ps < endAt i ps
 unfolding startAt endAt size
 start-end lo i none c h = absurd (omega arith)
 start-end lo zero (pair a b ps) c h = c .1
 start-end lo (suc i) (pair a b ps) c h = start-end (suc b) i ps (c .2) (omega arith)
 
-end-start : (lo i : ℕ) (ps : Pairs) → Ruled lo ps → suc i < size ps → endAt i ps < startAt (suc i) ps
+end-start : (lo i : ℕ) (ps : Pairs) → ObeyFrom lo ps → suc i < size ps → endAt i ps < startAt (suc i) ps
 unfolding startAt endAt size
 end-start lo i none c h = absurd (omega arith)
 end-start lo zero (pair a b none) c h = absurd (omega arith)
@@ -116,13 +116,13 @@ test-is-rule r l n =
 
 -- ---- the places
 
-places-held : (p lo : ℕ) (l : List ℕ) → rule lo l ≡ true → contains p (pairsOf l) ≡ 1 → Contains p l
+places-held : (p lo : ℕ) (l : List ℕ) → obeysFrom lo l ≡ true → contains p (pairsOf l) ≡ 1 → Contains p l
 unfolding pairsOf contains
 places-held p lo [] h g = absurd (omega arith)
 places-held p lo (a ∷ []) h g = absurd (omega arith)
 places-held p lo (a ∷ b ∷ rest) h g = go (rule-first lo a b rest h) (places-held p (suc b) rest) g
   where
-    go : First lo a b rest → (rule (suc b) rest ≡ true → contains p (pairsOf rest) ≡ 1 → Contains p rest) → contains p (cond (eqb b 0) none (pair a b (pairsOf rest))) ≡ 1 → Contains p (a ∷ b ∷ rest)
+    go : First lo a b rest → (obeysFrom (suc b) rest ≡ true → contains p (pairsOf rest) ≡ 1 → Contains p rest) → contains p (cond (eqb b 0) none (pair a b (pairsOf rest))) ≡ 1 → Contains p (a ∷ b ∷ rest)
     go (unused x y z) i k = absurd (omega (arith, rw y at k))
     go (used x y z) i k = at (stand a b p) (rw (ne-eqb b 0 (λ q. omega arith)) at k)
       where
@@ -135,14 +135,14 @@ places-held p lo (a ∷ b ∷ rest) h g = go (rule-first lo a b rest h) (places-
             let j = i z (omega arith) in
             (suc (j .0), rw (even-on (j .0)) (j .1), rw (odd-on (j .0)) (j .2))
 
-held-places : (p lo k : ℕ) (l : List ℕ) → rule lo l ≡ true → getD l (2 * k) 0 ≤ p → p < getD l (2 * k + 1) 0 → contains p (pairsOf l) ≡ 1
+held-places : (p lo k : ℕ) (l : List ℕ) → obeysFrom lo l ≡ true → getD l (2 * k) 0 ≤ p → p < getD l (2 * k + 1) 0 → contains p (pairsOf l) ≡ 1
 unfolding pairsOf contains
 held-places p lo k [] h x y = absurd (omega arith)
-held-places p lo k (a ∷ []) h x y = absurd (unfold rule in false≢true h)
+held-places p lo k (a ∷ []) h x y = absurd (unfold obeysFrom in false≢true h)
 held-places p lo k (a ∷ b ∷ rest) h x y = go (rule-first lo a b rest h) k x y (λ j. held-places p (suc b) j rest)
   where
     go : First lo a b rest → (k : ℕ) → getD (a ∷ b ∷ rest) (2 * k) 0 ≤ p → p < getD (a ∷ b ∷ rest) (2 * k + 1) 0
-        → ((j : ℕ) → rule (suc b) rest ≡ true → getD rest (2 * j) 0 ≤ p → p < getD rest (2 * j + 1) 0 → contains p (pairsOf rest) ≡ 1)
+        → ((j : ℕ) → obeysFrom (suc b) rest ≡ true → getD rest (2 * j) 0 ≤ p → p < getD rest (2 * j + 1) 0 → contains p (pairsOf rest) ≡ 1)
         → contains p (cond (eqb b 0) none (pair a b (pairsOf rest))) ≡ 1
     go (unused u v w) zero x y i = absurd (omega arith)
     go (unused u v w) (suc k) x y i = absurd (omega (arith, rw (odd-on k) at y, zeros-at rest (2 * k + 1) w))

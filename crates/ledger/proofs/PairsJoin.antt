@@ -6,7 +6,7 @@ use native.Mathlib.Omega.{arith}
 use native.Mathlib.Decide.{decLt}
 use borrow.Author.Tests.{lt-ltb, le-ltb, le-leb, leb-true}
 use lib.Dec.{leb, ltb}
-use Rattle.ledger.specs.Pairs.{Pairs, none, pair, size, inRange, contains, Ruled, join, endsAtMost}
+use Rattle.ledger.specs.Pairs.{Pairs, none, pair, size, inRange, contains, ObeyFrom, join, endsAtMost}
 use Rattle.ledger.proofs.PairsPlaces.{inRange-in, inRange-under, inRange-past, Where, under, within, past, stand, ruled-down}
 
 -- ---- where a range is relative to a pair
@@ -53,7 +53,7 @@ inRange-union s e a b p h₁ h₂ h₃ h₄ = go (stand s e p) (stand a b p)
 
 -- ---- the union
 
-pub join-holds : (s e lo p : ℕ) (ps : Pairs) → s < e → Ruled lo ps → contains p (join s e ps) ≡ max (inRange s e p) (contains p ps)
+pub join-holds : (s e lo p : ℕ) (ps : Pairs) → s < e → ObeyFrom lo ps → contains p (join s e ps) ≡ max (inRange s e p) (contains p ps)
 unfolding contains join
 join-holds s e lo p none h c = refl
 join-holds s e lo p (pair a b ps) h c =
@@ -67,15 +67,15 @@ join-holds s e lo p (pair a b ps) h c =
     go (behind x z y w) i₁ i₂ = rw (y, w) (omega arith)
     go (touching x z y w) i₁ i₂ = rw (y, w) (omega (arith, inRange-union s e a b p (omega arith) (omega arith) (omega arith) (omega arith)))
 
-pub join-ruled : (s e lo : ℕ) (ps : Pairs) → s < e → lo ≤ s → Ruled lo ps → Ruled lo (join s e ps)
+pub join-ruled : (s e lo : ℕ) (ps : Pairs) → s < e → lo ≤ s → ObeyFrom lo ps → ObeyFrom lo (join s e ps)
 unfolding join
 join-ruled s e lo none h k c = (k, h, tt)
 join-ruled s e lo (pair a b ps) h k c =
     go (stands s e a b) (λ q. join-ruled s e (suc b) ps h q (c .2))
     (join-ruled (min s a) (max e b) lo ps (omega arith) (omega arith) (ruled-down lo (suc b) ps (omega arith) (c .2)))
   where
-    go : Stands s e a b → (suc b ≤ s → Ruled (suc b) (join s e ps)) → Ruled lo (join (min s a) (max e b) ps)
-        → Ruled lo (cond (ltb e a) (pair s e (pair a b ps)) (cond (ltb b s) (pair a b (join s e ps)) (join (min s a) (max e b) ps)))
+    go : Stands s e a b → (suc b ≤ s → ObeyFrom (suc b) (join s e ps)) → ObeyFrom lo (join (min s a) (max e b) ps)
+        → ObeyFrom lo (cond (ltb e a) (pair s e (pair a b ps)) (cond (ltb b s) (pair a b (join s e ps)) (join (min s a) (max e b) ps)))
     go (before x y) i₁ i₂ = rw y (k, h, (x, c .1, c .2))
     go (behind x z y w) i₁ i₂ = rw (y, w) (c .0, c .1, i₁ z)
     go (touching x z y w) i₁ i₂ = rw (y, w) i₂

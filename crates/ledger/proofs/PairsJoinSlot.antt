@@ -6,7 +6,7 @@ use native.Mathlib.Omega.{arith}
 use native.Mathlib.Decide.{decLt, decLe}
 use borrow.Author.Tests.{lt-ltb, le-ltb, le-leb, lt-leb, leb-true}
 use lib.Dec.{leb, ltb}
-use Rattle.ledger.specs.Pairs.{Pairs, none, pair, size, Ruled, join, endsAtMost, countEndingBelow, countStartingBy}
+use Rattle.ledger.specs.Pairs.{Pairs, none, pair, size, ObeyFrom, join, endsAtMost, countEndingBelow, countStartingBy}
 use Rattle.ledger.proofs.PairsJoin.{Stands, before, behind, touching, stands, join-before, join-behind, join-touching}
 
 -- ---- parts of pairs
@@ -34,7 +34,7 @@ endAt k none = 0
 endAt zero (pair a b ps) = b
 endAt (suc k) (pair a b ps) = endAt k ps
 
-endAt-above : (lo k : ℕ) (ps : Pairs) → Ruled (suc lo) ps → k < size ps → lo < endAt k ps
+endAt-above : (lo k : ℕ) (ps : Pairs) → ObeyFrom (suc lo) ps → k < size ps → lo < endAt k ps
 unfolding endAt size
 endAt-above lo k none c h = absurd (omega arith)
 endAt-above lo zero (pair a b ps) c h = omega (arith, c .0, c .1)
@@ -67,7 +67,7 @@ countStartingBy-le e (pair a b ps) = go (decLe a e) (countStartingBy-le e ps)
     go (yes h) i = omega (arith, countStartingBy-on e a b ps h)
     go (no h) i = omega (arith, countStartingBy-stops e a b ps (omega arith))
 
-pub below-le : (s e lo : ℕ) (ps : Pairs) → s < e → Ruled lo ps → countEndingBelow s ps ≤ countStartingBy e ps
+pub below-le : (s e lo : ℕ) (ps : Pairs) → s < e → ObeyFrom lo ps → countEndingBelow s ps ≤ countStartingBy e ps
 below-le s e lo none h c = unfold countEndingBelow in omega arith
 below-le s e lo (pair a b ps) h c = go (decLt b s) (below-le s e (suc b) ps h (c .2))
   where
@@ -76,7 +76,7 @@ below-le s e lo (pair a b ps) h c = go (decLt b s) (below-le s e (suc b) ps h (c
     go (no k) i = omega (arith, below-stops s a b ps (omega arith))
 
 -- an end that lies before the pairs changes nothing
-countStartingBy-max : (e b : ℕ) (ps : Pairs) → Ruled (suc b) ps → countStartingBy (max e b) ps ≡ countStartingBy e ps
+countStartingBy-max : (e b : ℕ) (ps : Pairs) → ObeyFrom (suc b) ps → countStartingBy (max e b) ps ≡ countStartingBy e ps
 countStartingBy-max e b none c = unfold countStartingBy in refl
 countStartingBy-max e b (pair x y ps) c = go (decLe x e) (countStartingBy-max (max e b) y ps (c .2)) (countStartingBy-max e y ps (c .2))
   where
@@ -97,13 +97,13 @@ pub reached-some : (e k : ℕ) (ps : Pairs) → 0 < k → reached e k ps ≡ max
 reached-some e zero ps h = absurd (omega arith)
 reached-some e (suc k) ps h = let q : suc k - 1 ≡ k = omega arith in rw q
 
-reached-step : (e a b k : ℕ) (ps : Pairs) → Ruled (suc b) ps → k ≤ size ps → reached (max e b) k ps ≡ reached e (suc k) (pair a b ps)
+reached-step : (e a b k : ℕ) (ps : Pairs) → ObeyFrom (suc b) ps → k ≤ size ps → reached (max e b) k ps ≡ reached e (suc k) (pair a b ps)
 unfolding endAt
 reached-step e a b zero ps c h = omega arith
 reached-step e a b (suc k) ps c h = omega (arith, endAt-above b k ps c (omega arith))
 
 -- a range that reaches the place before the pairs takes in those that start by its end
-absorb : (s e b : ℕ) (ps : Pairs) → s ≤ b → b ≤ e → s < e → Ruled (suc b) ps → join s e ps ≡ pair s (reached e (countStartingBy e ps) ps) (rest (countStartingBy e ps) ps)
+absorb : (s e b : ℕ) (ps : Pairs) → s ≤ b → b ≤ e → s < e → ObeyFrom (suc b) ps → join s e ps ≡ pair s (reached e (countStartingBy e ps) ps) (rest (countStartingBy e ps) ps)
 unfolding rest
 absorb s e b none h g k c = unfold join countStartingBy in refl
 absorb s e b (pair x y ps) h g k c = go (decLe x e)
@@ -131,7 +131,7 @@ unfolding endAt
 reached-on e a b k zero ps h = absurd (omega arith)
 reached-on e a b k (suc m) ps h = refl
 
-pub join-is : (s e lo : ℕ) (ps : Pairs) → s < e → Ruled lo ps → let at = countEndingBelow s ps in let past = countStartingBy e ps in
+pub join-is : (s e lo : ℕ) (ps : Pairs) → s < e → ObeyFrom lo ps → let at = countEndingBelow s ps in let past = countStartingBy e ps in
     join s e ps ≡ splice at ps (pair (begun s at past ps) (ended e at past ps) (rest past ps))
 unfolding splice rest startAt
 join-is s e lo none h c = unfold join countEndingBelow countStartingBy in refl
@@ -178,7 +178,7 @@ countStartingBy-rest e (suc k) (pair a b ps) h = go (decLe a e) (countStartingBy
 
 -- ---- what a slot decides
 
-pub endAt-used : (k lo : ℕ) (ps : Pairs) → Ruled lo ps → k < size ps → 0 < endAt k ps
+pub endAt-used : (k lo : ℕ) (ps : Pairs) → ObeyFrom lo ps → k < size ps → 0 < endAt k ps
 unfolding endAt size
 endAt-used k lo none c h = absurd (omega arith)
 endAt-used zero lo (pair a b ps) c h = omega (arith, c .1)
@@ -191,7 +191,7 @@ endAt-unused zero (pair a b ps) h = absurd (omega arith)
 endAt-unused (suc k) (pair a b ps) h = endAt-unused k ps (omega arith)
 
 -- every pair starts by an end that none is above
-pub countStartingBy-all : (f lo : ℕ) (ps : Pairs) → Ruled lo ps → endsAtMost f ps ≡ true → countStartingBy f ps ≡ size ps
+pub countStartingBy-all : (f lo : ℕ) (ps : Pairs) → ObeyFrom lo ps → endsAtMost f ps ≡ true → countStartingBy f ps ≡ size ps
 unfolding size endsAtMost
 countStartingBy-all f lo none c h = unfold countStartingBy in refl
 countStartingBy-all f lo (pair a b ps) c h =

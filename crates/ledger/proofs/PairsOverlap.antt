@@ -7,7 +7,7 @@ use native.Mathlib.Omega.{arith}
 use native.Mathlib.Decide.{decLe, decLt}
 use borrow.Author.Tests.{lt-ltb, le-ltb, le-leb, ltb-false, leb-true}
 use lib.Dec.{leb, ltb}
-use Rattle.ledger.specs.Pairs.{Pairs, none, pair, total, inRange, contains, Ruled, join, overlaps, inside, endsAtMost}
+use Rattle.ledger.specs.Pairs.{Pairs, none, pair, total, inRange, contains, ObeyFrom, join, overlaps, inside, endsAtMost}
 use Rattle.ledger.specs.Ledgers.{countBelow}
 use Rattle.ledger.proofs.PairsPlaces.{inRange-in, inRange-past, inRange-le, Where, under, within, past, stand, holds-le, holds-below}
 use Rattle.ledger.proofs.PairsJoin.{join-holds, join-ruled, join-ends}
@@ -40,7 +40,7 @@ shares-none s e p (pair a b ps) h = at (ltb s b) (ltb a e) (overlaps s e ps) ref
     at true false false x y z q i = meet (inl (ltb-false a e y)) (i z)
     at false v false x y z q i = meet (inr (ltb-false s b x)) (i z)
 
-pub none-shares : (s e lo : ℕ) (ps : Pairs) → s < e → Ruled lo ps → ((p : ℕ) → inRange s e p + contains p ps ≤ 1) → overlaps s e ps ≡ false
+pub none-shares : (s e lo : ℕ) (ps : Pairs) → s < e → ObeyFrom lo ps → ((p : ℕ) → inRange s e p + contains p ps ≤ 1) → overlaps s e ps ≡ false
 unfolding overlaps contains
 none-shares s e lo none h c d = refl
 none-shares s e lo (pair a b ps) h c d = go (none-shares s e (suc b) ps h (c .2) (λ p. omega (arith, d p))) (decLt s b) (decLt a e)
@@ -52,7 +52,7 @@ none-shares s e lo (pair a b ps) h c d = go (none-shares s e (suc b) ps h (c .2)
         absurd (omega (arith, d (max s a), inRange-in s e (max s a) (omega arith) (omega arith), inRange-in a b (max s a) (omega arith) (omega (arith, c .1))))
 
 -- a place that a range shares with the pairs
-pub shares-some : (s e lo : ℕ) (ps : Pairs) → s < e → Ruled lo ps → overlaps s e ps ≡ true → (p : ℕ) × (s ≤ p) × (p < e) × (contains p ps ≡ 1)
+pub shares-some : (s e lo : ℕ) (ps : Pairs) → s < e → ObeyFrom lo ps → overlaps s e ps ≡ true → (p : ℕ) × (s ≤ p) × (p < e) × (contains p ps ≡ 1)
 unfolding overlaps contains
 shares-some s e lo none h c q = absurd (true≢false (sym q))
 shares-some s e lo (pair a b ps) h c q = go (decLt s b) (decLt a e) q (λ y. shares-some s e (suc b) ps h (c .2) y)
@@ -65,7 +65,7 @@ shares-some s e lo (pair a b ps) h c q = go (decLt s b) (decLt a e) q (λ y. sha
 
 -- ---- lying inside one pair is that every place is held
 
-pub held-inside : (s e lo : ℕ) (ps : Pairs) → s < e → Ruled lo ps → ((p : ℕ) → s ≤ p → p < e → contains p ps ≡ 1) → inside s e ps ≡ true
+pub held-inside : (s e lo : ℕ) (ps : Pairs) → s < e → ObeyFrom lo ps → ((p : ℕ) → s ≤ p → p < e → contains p ps ≡ 1) → inside s e ps ≡ true
 unfolding inside contains
 held-inside s e lo none h c d = absurd (omega (arith, d s (omega arith) h))
 held-inside s e lo (pair a b ps) h c d = go (stand a b s) (λ k. held-inside s e (suc b) ps h (c .2) k)
@@ -107,7 +107,7 @@ counted-is a b (suc f) h = go (stand a b f) (counted-is a b f h)
     go (within x y w) i = omega arith
     go (past x y w) i = omega arith
 
-held-split : (a b f lo : ℕ) (ps : Pairs) → b < lo → Ruled lo ps → countBelow f (pair a b ps) ≡ counted a b f + countBelow f ps
+held-split : (a b f lo : ℕ) (ps : Pairs) → b < lo → ObeyFrom lo ps → countBelow f (pair a b ps) ≡ counted a b f + countBelow f ps
 unfolding countBelow counted contains
 held-split a b zero lo ps g c = refl
 held-split a b (suc f) lo ps g c = go (stand a b f) (held-split a b f lo ps g c)
@@ -123,7 +123,7 @@ unfolding countBelow contains
 none-held zero = refl
 none-held (suc f) = omega (arith, none-held f)
 
-pub total-held : (f lo : ℕ) (ps : Pairs) → Ruled lo ps → endsAtMost f ps ≡ true → total ps ≡ countBelow f ps
+pub total-held : (f lo : ℕ) (ps : Pairs) → ObeyFrom lo ps → endsAtMost f ps ≡ true → total ps ≡ countBelow f ps
 unfolding total endsAtMost
 total-held f lo none c h = sym (none-held f)
 total-held f lo (pair a b ps) c h =
@@ -146,7 +146,7 @@ unfolding countBelow counted
 held-sum s e zero ps qs h = refl
 held-sum s e (suc f) ps qs h = omega (arith, h f, held-sum s e f ps qs h)
 
-pub join-total : (s e lo : ℕ) (ps : Pairs) → s < e → lo ≤ s → Ruled lo ps → ((p : ℕ) → inRange s e p + contains p ps ≤ 1) → total (join s e ps) ≡ (e - s) + total ps
+pub join-total : (s e lo : ℕ) (ps : Pairs) → s < e → lo ≤ s → ObeyFrom lo ps → ((p : ℕ) → inRange s e p + contains p ps ≤ 1) → total (join s e ps) ≡ (e - s) + total ps
 join-total s e lo ps h g c d =
     let f = max e (top ps) in
     let b = top-ends f ps (omega arith) in

@@ -7,7 +7,7 @@ use native.Mathlib.Omega.{arith}
 use native.Mathlib.Decide.{decLe, decLt}
 use borrow.Author.Tests.{lt-ltb, le-ltb, le-leb, lt-leb}
 use lib.Dec.{leb}
-use Rattle.ledger.specs.Pairs.{Pairs, none, pair, inRange, contains, Ruled}
+use Rattle.ledger.specs.Pairs.{Pairs, none, pair, inRange, contains, ObeyFrom}
 
 -- ---- one range
 
@@ -60,12 +60,12 @@ unfolding contains
 holds-le p none = omega arith
 holds-le p (pair a b ps) = omega (arith, inRange-le a b p, holds-le p ps)
 
-pub ruled-down : (lo m : ℕ) (ps : Pairs) → lo ≤ m → Ruled m ps → Ruled lo ps
+pub ruled-down : (lo m : ℕ) (ps : Pairs) → lo ≤ m → ObeyFrom m ps → ObeyFrom lo ps
 ruled-down lo m none h c = tt
 ruled-down lo m (pair a b ps) h c = (omega arith, c .1, c .2)
 
 -- pairs from lo on hold nothing below it
-pub holds-below : (lo p : ℕ) (ps : Pairs) → Ruled lo ps → p < lo → contains p ps ≡ 0
+pub holds-below : (lo p : ℕ) (ps : Pairs) → ObeyFrom lo ps → p < lo → contains p ps ≡ 0
 unfolding contains
 holds-below lo p none c h = refl
 holds-below lo p (pair a b ps) c h = omega (arith, inRange-under a b p (omega arith), holds-below (suc b) p ps (c .2) (omega arith))

@@ -3,16 +3,16 @@ use Prim.Native.Nat.{ℕ, suc, _<_}
 use mathlib.Core.Path.{_≡_, refl, sym, subst}
 use native.Mathlib.Omega.{arith}
 use native.Mathlib.Decide.{decLt}
-use Rattle.ledger.specs.Pairs.{Pairs, none, pair, contains, Ruled}
+use Rattle.ledger.specs.Pairs.{Pairs, none, pair, contains, ObeyFrom}
 use Rattle.ledger.proofs.PairsPlaces.{inRange-in, inRange-under, inRange-past, holds-below}
 
-pub ruled-unique : (lo : ℕ) (ps qs : Pairs) → Ruled lo ps → Ruled lo qs → ((p : ℕ) → contains p ps ≡ contains p qs) → ps ≡ qs
+pub ruled-unique : (lo : ℕ) (ps qs : Pairs) → ObeyFrom lo ps → ObeyFrom lo qs → ((p : ℕ) → contains p ps ≡ contains p qs) → ps ≡ qs
 unfolding contains
 ruled-unique lo none none c d h = refl
 ruled-unique lo none (pair a b qs) c d h = absurd (omega (arith, h a, inRange-in a b a (omega arith) (d .1)))
 ruled-unique lo (pair a b ps) none c d h = absurd (omega (arith, h a, inRange-in a b a (omega arith) (c .1)))
 ruled-unique lo (pair a b ps) (pair a′ b′ qs) c d h =
-    cc (starts, ends, ruled-unique (suc b) ps qs (c .2) (subst (λ (x : ℕ). Ruled (suc x) qs) (sym ends) (d .2)) tails)
+    cc (starts, ends, ruled-unique (suc b) ps qs (c .2) (subst (λ (x : ℕ). ObeyFrom (suc x) qs) (sym ends) (d .2)) tails)
   where
     starts : a ≡ a′
     starts = go (decLt a a′) (decLt a′ a)

@@ -21,25 +21,25 @@ lengthWrong ledger = not (eqb (length ledger % 2) 0) || ltb entryLimit (length l
 abbrev pub capacity : List ℕ → ℕ
 capacity ledger = length ledger / 2
 
-unfoldable pub zeros : List ℕ → Bool
-zeros [] = true
-zeros (x ∷ xs) = eqb x 0 && zeros xs
+unfoldable pub allZero : List ℕ → Bool
+allZero [] = true
+allZero (x ∷ xs) = eqb x 0 && allZero xs
 
 -- the ledger rule from the place lo on: used pairs first, each with start < end and its end less than the next start; then zeros.
 -- A pair is used unless both entries are 0. The zeros are pairs too: an odd number of entries breaks the rule.
-unfoldable pub rule : ℕ → List ℕ → Bool
-rule lo [] = true
-rule lo (a ∷ []) = false
-rule lo (a ∷ b ∷ rest) =
-    let following = rule (suc b) rest in
-    cond (eqb b 0) (eqb a 0 && (zeros rest && eqb (length rest % 2) 0)) (leb lo a && (ltb a b && following))
+unfoldable pub obeysFrom : ℕ → List ℕ → Bool
+obeysFrom lo [] = true
+obeysFrom lo (a ∷ []) = false
+obeysFrom lo (a ∷ b ∷ rest) =
+    let following = obeysFrom (suc b) rest in
+    cond (eqb b 0) (eqb a 0 && (allZero rest && eqb (length rest % 2) 0)) (leb lo a && (ltb a b && following))
 
 -- the pair (a, b) may come after one that ends at `end`, 0 where there is none before it
 abbrev pub mayFollow : ℕ → ℕ → ℕ → Bool
 mayFollow end a b = (eqb end 0 || ltb end a) && ltb a b
 
 unfoldable pub obeys : List ℕ → Bool
-obeys ledger = rule 0 ledger
+obeys ledger = obeysFrom 0 ledger
 
 -- the number by which a ledger that is to be written is refused: 53 for its length, 1 for its rule, 0 where it is accepted
 unfoldable pub ledgerRefusal : List ℕ → ℕ

@@ -5,7 +5,7 @@ use mathlib.Core.Logic.{_↔_, _≢_}
 use mathlib.Core.Bool.{true, false}
 use mathlib.Core.List.{List}
 use lib.ListN.{length, getD}
-use Rattle.ledger.specs.Pairs.{Pairs, size, total, inRange, contains, Ruled, join, overlaps, inside, endsAtMost}
+use Rattle.ledger.specs.Pairs.{Pairs, size, total, inRange, contains, ObeyFrom, join, overlaps, inside, endsAtMost}
 use Rattle.ledger.specs.Ledger.{lengthWrong, obeys, pairsOf, Contains}
 
 -- the ledger rule in document 01's words, for a ledger of r pairs
@@ -34,14 +34,14 @@ pub record Ledgers : Type 0 where
   -- of all ledgers of its length that obey the rule it is the only one with its places
   pub only-one : (r : ℕ) (l m : List ℕ) → length l ≡ 2 * r → length m ≡ 2 * r → obeys l ≡ true → obeys m ≡ true → ((p : ℕ) → Contains p l ↔ Contains p m) → l ≡ m
   -- its number of bytes is the number of places that it holds
-  pub bytes-are-places : (f : ℕ) (ps : Pairs) → Ruled 0 ps → endsAtMost f ps ≡ true → total ps ≡ countBelow f ps
+  pub bytes-are-places : (f : ℕ) (ps : Pairs) → ObeyFrom 0 ps → endsAtMost f ps ≡ true → total ps ≡ countBelow f ps
   -- a range joined to it: the union, by the rule, and as few pairs as that has
-  pub join-union : (s e p : ℕ) (ps : Pairs) → s < e → Ruled 0 ps → contains p (join s e ps) ≡ max (inRange s e p) (contains p ps)
-  pub join-obeys : (s e : ℕ) (ps : Pairs) → s < e → Ruled 0 ps → Ruled 0 (join s e ps)
+  pub join-union : (s e p : ℕ) (ps : Pairs) → s < e → ObeyFrom 0 ps → contains p (join s e ps) ≡ max (inRange s e p) (contains p ps)
+  pub join-obeys : (s e : ℕ) (ps : Pairs) → s < e → ObeyFrom 0 ps → ObeyFrom 0 (join s e ps)
   pub join-needs : (s e : ℕ) (ps : Pairs) → size (join s e ps) ≤ suc (size ps)
-  pub join-only : (s e : ℕ) (ps qs : Pairs) → s < e → Ruled 0 ps → Ruled 0 qs → ((p : ℕ) → contains p qs ≡ max (inRange s e p) (contains p ps)) → qs ≡ join s e ps
+  pub join-only : (s e : ℕ) (ps qs : Pairs) → s < e → ObeyFrom 0 ps → ObeyFrom 0 qs → ((p : ℕ) → contains p qs ≡ max (inRange s e p) (contains p ps)) → qs ≡ join s e ps
   -- a range that shares no place adds its bytes
-  pub join-adds : (s e : ℕ) (ps : Pairs) → s < e → Ruled 0 ps → overlaps s e ps ≡ false → total (join s e ps) ≡ (e - s) + total ps
+  pub join-adds : (s e : ℕ) (ps : Pairs) → s < e → ObeyFrom 0 ps → overlaps s e ps ≡ false → total (join s e ps) ≡ (e - s) + total ps
   -- sharing is a common place, and lying inside one pair is that every place is held
-  pub overlaps-place : (s e : ℕ) (ps : Pairs) → s < e → Ruled 0 ps → (overlaps s e ps ≡ false) ↔ ((p : ℕ) → inRange s e p + contains p ps ≤ 1)
-  pub inside-places : (s e : ℕ) (ps : Pairs) → s < e → Ruled 0 ps → (inside s e ps ≡ true) ↔ ((p : ℕ) → s ≤ p → p < e → contains p ps ≡ 1)
+  pub overlaps-place : (s e : ℕ) (ps : Pairs) → s < e → ObeyFrom 0 ps → (overlaps s e ps ≡ false) ↔ ((p : ℕ) → inRange s e p + contains p ps ≤ 1)
+  pub inside-places : (s e : ℕ) (ps : Pairs) → s < e → ObeyFrom 0 ps → (inside s e ps ≡ true) ↔ ((p : ℕ) → s ≤ p → p < e → contains p ps ≡ 1)

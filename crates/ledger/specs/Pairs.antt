@@ -27,14 +27,14 @@ contains p none = 0
 contains p (pair a b ps) = max (inRange a b p) (contains p ps)
 
 -- the ledger rule for pairs from the place lo on: start < end, and each end less than the next start
-abbrev pub Ruled : ℕ → Pairs → Type 0
-Ruled lo none = Unit {0}
-Ruled lo (pair a b ps) = (lo ≤ a) × (a < b) × Ruled (suc b) ps
+abbrev pub ObeyFrom : ℕ → Pairs → Type 0
+ObeyFrom lo none = Unit {0}
+ObeyFrom lo (pair a b ps) = (lo ≤ a) × (a < b) × ObeyFrom (suc b) ps
 
 -- the same as a test
-unfoldable pub isRuled : ℕ → Pairs → Bool
-isRuled lo none = true
-isRuled lo (pair a b ps) = leb lo a && (ltb a b && isRuled (suc b) ps)
+unfoldable pub obeyFrom : ℕ → Pairs → Bool
+obeyFrom lo none = true
+obeyFrom lo (pair a b ps) = leb lo a && (ltb a b && obeyFrom (suc b) ps)
 
 -- the range from s to e joined to the pairs: those that it shares a place with or touches become one with it
 unfoldable pub join : ℕ → ℕ → Pairs → Pairs

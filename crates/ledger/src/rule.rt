@@ -6,7 +6,7 @@ ghost use Prim.Native.Nat.{_%_, min};
 ghost use lib.Dec.{eqb};
 ghost use lib.ListN.{length};
 ghost use Rattle.ledger.specs.Pairs.{total, endsAtMost};
-ghost use Rattle.ledger.specs.Ledger.{lengthWrong, zeros, mayFollow, obeys, ledgerRefusal, pairsOf};
+ghost use Rattle.ledger.specs.Ledger.{lengthWrong, allZero, mayFollow, obeys, ledgerRefusal, pairsOf};
 
 // The most entries that a ledger may have.
 pub const ENTRY_LIMIT: usize = 8192;
@@ -25,7 +25,7 @@ pub fn length_wrong(ledger: &[u64]) -> bool
 
 // Whether the entries are all 0. It reads them all, so that the compiler can make vector code of it.
 fn all_zero(entries: &[u64]) -> bool
-    ensures { λ r. ⌜ r ≡ zeros (now (entries .entry)) ⌝ }
+    ensures { λ r. ⌜ r ≡ allZero (now (entries .entry)) ⌝ }
 {
     let mut any: u64 = 0;
     let mut i = 0;
@@ -38,7 +38,7 @@ fn all_zero(entries: &[u64]) -> bool
 
 // Whether the entries are all 0 and make whole pairs.
 fn zero_pairs(entries: &[u64]) -> bool
-    ensures { λ r. ⌜ r ≡ (zeros (now (entries .entry)) && eqb (length (now (entries .entry)) % 2) 0) ⌝ }
+    ensures { λ r. ⌜ r ≡ (allZero (now (entries .entry)) && eqb (length (now (entries .entry)) % 2) 0) ⌝ }
 {
     if !all_zero(entries) {
         return false;

@@ -2,5 +2,5 @@ pub mod Texts
 pub mod Digits
 pub mod Decimals
 pub mod Reading
-mod Turn
+mod LoopStep
 pub mod RoundTrip

@@ -6,8 +6,8 @@ use mathlib.Core.List.{List}
 use native.Mathlib.Omega.{arith}
 use lib.ListN.{length, take}
 use lib.Seq.{take-all}
-use Rattle.octets.specs.Digits.{fromLittle, fromBig, toLittle, toBig}
-use Rattle.octets.specs.Decimal.{readOf, width, inDigits, decimal, plain}
+use Rattle.octets.specs.Digits.{fromLittleEndian, fromBigEndian, toLittleEndian, toBigEndian}
+use Rattle.octets.specs.Decimal.{readOf, digitCount, inDigits, decimal, noLeadingZero}
 use Rattle.octets.specs.RoundTrip.{RoundTrip}
 use Rattle.octets.specs.declared.decimal.Number.the-variants.{Value}
 use Rattle.octets.proofs.Digits
@@ -18,18 +18,18 @@ use Rattle.octets.proofs.Reading.{readOf-value, readOf-read}
 
 -- ---- bytes: eight at most are all read
 
-little-back : (w n : ℕ) → w ≤ 8 → n < 256 ^ w → fromLittle 256 (take 8 (toLittle 256 w n)) ≡ n
+little-back : (w n : ℕ) → w ≤ 8 → n < 256 ^ w → fromLittleEndian 256 (take 8 (toLittleEndian 256 w n)) ≡ n
 little-back w n h l =
-    rw (take-all 8 (toLittle 256 w n) (omega (arith, length-toLittle 256 w n))) (Digits.little-reads-back 256 w n (omega arith) l)
+    rw (take-all 8 (toLittleEndian 256 w n) (omega (arith, length-toLittle 256 w n))) (Digits.little-reads-back 256 w n (omega arith) l)
 
-big-back : (w n : ℕ) → w ≤ 8 → n < 256 ^ w → fromBig 256 (take 8 (toBig 256 w n)) ≡ n
-big-back w n h l = rw (take-all 8 (toBig 256 w n) (omega (arith, length-toBig 256 w n))) (Digits.big-reads-back 256 w n (omega arith) l)
+big-back : (w n : ℕ) → w ≤ 8 → n < 256 ^ w → fromBigEndian 256 (take 8 (toBigEndian 256 w n)) ≡ n
+big-back w n h l = rw (take-all 8 (toBigEndian 256 w n) (omega (arith, length-toBig 256 w n))) (Digits.big-reads-back 256 w n (omega arith) l)
 
 -- ---- decimal
 
-decimal-back : (n limit : ℕ) → n ≤ limit → readOf (inDigits (width n) n) limit ≡ Value n
+decimal-back : (n limit : ℕ) → n ≤ limit → readOf (inDigits (digitCount n) n) limit ≡ Value n
 decimal-back n limit h =
-    let w = width n in
+    let w = digitCount n in
     let e = inDigits-reads-back w n (width-fits n) in
     readOf-value (inDigits w n) limit (omega (arith, length-inDigits w n, width-some n)) (all-inDigits w n) (omega (arith, e)) ∙ ap Value e
 
@@ -38,7 +38,7 @@ digits-back text n limit h =
     let r = readOf-read text n limit h in
     rw (← r .says) (inDigits-writes-back text (r .digits))
 
-plain-back : (text : List ℕ) (n limit : ℕ) → plain text ≡ true → readOf text limit ≡ Value n → inDigits (width n) n ≡ text
+plain-back : (text : List ℕ) (n limit : ℕ) → noLeadingZero text ≡ true → readOf text limit ≡ Value n → inDigits (digitCount n) n ≡ text
 unfolding decimal
 plain-back text n limit p h = rw (← readOf-read text n limit h .says) (Decimals.decimal-writes-back text p)
 

@@ -11,7 +11,7 @@ use borrow.Author.Tests.{le-leb, lt-leb, leb-true}
 use lib.Dec.{leb}
 use lib.ListN.{length, getD, take, drop, take-append-drop, drop-of-length-le}
 use lib.Seq.{drop-cons, take-suc}
-use Rattle.octets.specs.Text.{between, all, leading}
+use Rattle.octets.specs.Text.{between, all, leadingCount}
 
 -- ---- a byte between two bounds
 
@@ -75,76 +75,76 @@ module _ (kind : ℕ → Bool) where
 
   -- ---- the bytes of a kind that a text begins with
 
-  pub leading-le : (text : List ℕ) → leading kind text ≤ length text
-  unfolding leading
+  pub leading-le : (text : List ℕ) → leadingCount kind text ≤ length text
+  unfolding leadingCount
   leading-le [] = omega arith
   leading-le (b ∷ bs) = go (kind b) (leading-le bs)
     where
-      go : (k : Bool) → leading kind bs ≤ length bs → cond k (suc (leading kind bs)) 0 ≤ suc (length bs)
+      go : (k : Bool) → leadingCount kind bs ≤ length bs → cond k (suc (leadingCount kind bs)) 0 ≤ suc (length bs)
       go true h = omega arith
       go false h = omega arith
 
   -- from a place on: at a byte of another kind, at one of the kind, and at the end
-  pub leading-stops : (text : List ℕ) (i : ℕ) → i < length text → kind (getD text i 0) ≡ false → leading kind (drop i text) ≡ 0
-  unfolding leading
+  pub leading-stops : (text : List ℕ) (i : ℕ) → i < length text → kind (getD text i 0) ≡ false → leadingCount kind (drop i text) ≡ 0
+  unfolding leadingCount
   leading-stops text i h e = rw (drop-cons text i 0, e)
 
-  pub leading-goes : (text : List ℕ) (i : ℕ) → i < length text → kind (getD text i 0) ≡ true → leading kind (drop i text) ≡ suc (leading kind (drop (i + 1) text))
-  unfolding leading
+  pub leading-goes : (text : List ℕ) (i : ℕ) → i < length text → kind (getD text i 0) ≡ true → leadingCount kind (drop i text) ≡ suc (leadingCount kind (drop (i + 1) text))
+  unfolding leadingCount
   leading-goes text i h e = rw (drop-cons text i 0, e, add-one i)
 
-  pub leading-ends : (text : List ℕ) (i : ℕ) → length text ≤ i → leading kind (drop i text) ≡ 0
-  unfolding leading
+  pub leading-ends : (text : List ℕ) (i : ℕ) → length text ≤ i → leadingCount kind (drop i text) ≡ 0
+  unfolding leadingCount
   leading-ends text i h = rw (drop-of-length-le text h)
 
-  pub leading-append : (word rest : List ℕ) → all kind word ≡ true → leading kind (word ++ rest) ≡ length word + leading kind rest
-  unfolding all leading
+  pub leading-append : (word rest : List ℕ) → all kind word ≡ true → leadingCount kind (word ++ rest) ≡ length word + leadingCount kind rest
+  unfolding all leadingCount
   leading-append [] rest h = omega arith
   leading-append (b ∷ bs) rest h =
       let p = and-eq-true-iff (kind b) (all kind bs) .0 h in
       rw (p .0) (omega (arith, leading-append bs rest (p .1)))
 
   -- they are of the kind
-  pub all-leading : (text : List ℕ) → all kind (take (leading kind text) text) ≡ true
-  unfolding all leading
+  pub all-leading : (text : List ℕ) → all kind (take (leadingCount kind text) text) ≡ true
+  unfolding all leadingCount
   all-leading [] = refl
   all-leading (b ∷ bs) = go (kind b) refl (all-leading bs)
     where
-      go : (k : Bool) → kind b ≡ k → all kind (take (leading kind bs) bs) ≡ true → all kind (take (cond k (suc (leading kind bs)) 0) (b ∷ bs)) ≡ true
+      go : (k : Bool) → kind b ≡ k → all kind (take (leadingCount kind bs) bs) ≡ true → all kind (take (cond k (suc (leadingCount kind bs)) 0) (b ∷ bs)) ≡ true
       go true e h = rw (e, h)
       go false e h = refl
 
-  pub leading-each : (text : List ℕ) (i : ℕ) → i < leading kind text → kind (getD text i 0) ≡ true
-  unfolding leading
+  pub leading-each : (text : List ℕ) (i : ℕ) → i < leadingCount kind text → kind (getD text i 0) ≡ true
+  unfolding leadingCount
   leading-each [] i h = absurd (omega arith)
   leading-each (b ∷ bs) i h = go (kind b) refl i h (leading-each bs)
     where
-      go : (k : Bool) → kind b ≡ k → (i : ℕ) → i < cond k (suc (leading kind bs)) 0 → ((j : ℕ) → j < leading kind bs → kind (getD bs j 0) ≡ true) → kind (getD (b ∷ bs) i 0) ≡ true
+      go : (k : Bool) → kind b ≡ k → (i : ℕ) → i < cond k (suc (leadingCount kind bs)) 0 → ((j : ℕ) → j < leadingCount kind bs → kind (getD bs j 0) ≡ true) → kind (getD (b ∷ bs) i 0) ≡ true
       go true e zero h on = e
       go true e (suc j) h on = on j (omega arith)
       go false e i h on = absurd (omega arith)
 
   -- and the byte after them is not
-  pub after-leading : (text : List ℕ) → leading kind text < length text → kind (getD text (leading kind text) 0) ≡ false
-  unfolding leading
+  pub after-leading : (text : List ℕ) → leadingCount kind text < length text → kind (getD text (leadingCount kind text) 0) ≡ false
+  unfolding leadingCount
   after-leading [] h = absurd (omega arith)
   after-leading (b ∷ bs) h = go (kind b) refl h (after-leading bs)
     where
-      go : (k : Bool) → kind b ≡ k → cond k (suc (leading kind bs)) 0 < suc (length bs) → (leading kind bs < length bs → kind (getD bs (leading kind bs) 0) ≡ false)
-          → kind (getD (b ∷ bs) (cond k (suc (leading kind bs)) 0) 0) ≡ false
+      go : (k : Bool) → kind b ≡ k → cond k (suc (leadingCount kind bs)) 0 < suc (length bs) → (leadingCount kind bs < length bs → kind (getD bs (leadingCount kind bs) 0) ≡ false)
+          → kind (getD (b ∷ bs) (cond k (suc (leadingCount kind bs)) 0) 0) ≡ false
       go true e h on = on (omega arith)
       go false e h on = e
 
-  pub leading-rest : (text : List ℕ) → leading kind (drop (leading kind text) text) ≡ 0
-  leading-rest text = go (decLt (leading kind text) (length text))
+  pub leading-rest : (text : List ℕ) → leadingCount kind (drop (leadingCount kind text) text) ≡ 0
+  leading-rest text = go (decLt (leadingCount kind text) (length text))
     where
-      go : Dec (leading kind text < length text) → leading kind (drop (leading kind text) text) ≡ 0
-      go (yes h) = leading-stops text (leading kind text) h (after-leading text h)
-      go (no h) = leading-ends text (leading kind text) (omega arith)
+      go : Dec (leadingCount kind text < length text) → leadingCount kind (drop (leadingCount kind text) text) ≡ 0
+      go (yes h) = leading-stops text (leadingCount kind text) h (after-leading text h)
+      go (no h) = leading-ends text (leadingCount kind text) (omega arith)
 
   -- every byte is of the kind where so many bytes are as the text has
-  pub leading-whole : (text : List ℕ) → length text ≤ leading kind text → all kind text ≡ true
+  pub leading-whole : (text : List ℕ) → length text ≤ leadingCount kind text → all kind text ≡ true
   leading-whole text h = each-all text (λ i l. leading-each text i (omega arith))
 
-  pub leading-short : (text : List ℕ) → leading kind text < length text → all kind text ≡ false
-  leading-short text h = all-not text (leading kind text) h (after-leading text h)
+  pub leading-short : (text : List ℕ) → leadingCount kind text < length text → all kind text ≡ false
+  leading-short text h = all-not text (leadingCount kind text) h (after-leading text h)

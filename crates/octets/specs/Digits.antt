@@ -4,24 +4,24 @@ use Prim.Native.Nat.{ℕ, zero, suc, _+_, _*_, _/_, _%_, _<_}
 use mathlib.Core.List.{List, [], _∷_, reverse}
 
 -- each of the digits is one to base B
-abbrev pub Below : ℕ → List ℕ → Type 0
-Below B [] = Unit {0}
-Below B (d ∷ ds) = (d < B) × Below B ds
+abbrev pub AllBelow : ℕ → List ℕ → Type 0
+AllBelow B [] = Unit {0}
+AllBelow B (d ∷ ds) = (d < B) × AllBelow B ds
 
 -- the number of a run of digits, least significant first
-unfoldable pub fromLittle : ℕ → List ℕ → ℕ
-fromLittle B [] = 0
-fromLittle B (d ∷ ds) = fromLittle B ds * B + d
+unfoldable pub fromLittleEndian : ℕ → List ℕ → ℕ
+fromLittleEndian B [] = 0
+fromLittleEndian B (d ∷ ds) = fromLittleEndian B ds * B + d
 
 -- the number of a run of digits, most significant first
-unfoldable pub fromBig : ℕ → List ℕ → ℕ
-fromBig B ds = fromLittle B (reverse ds)
+unfoldable pub fromBigEndian : ℕ → List ℕ → ℕ
+fromBigEndian B ds = fromLittleEndian B (reverse ds)
 
 -- the w low digits of n, least significant first
-unfoldable pub toLittle : ℕ → ℕ → ℕ → List ℕ
-toLittle B zero n = []
-toLittle B (suc w) n = n % B ∷ toLittle B w (n / B)
+unfoldable pub toLittleEndian : ℕ → ℕ → ℕ → List ℕ
+toLittleEndian B zero n = []
+toLittleEndian B (suc w) n = n % B ∷ toLittleEndian B w (n / B)
 
 -- the w low digits of n, most significant first
-unfoldable pub toBig : ℕ → ℕ → ℕ → List ℕ
-toBig B w n = reverse (toLittle B w n)
+unfoldable pub toBigEndian : ℕ → ℕ → ℕ → List ℕ
+toBigEndian B w n = reverse (toLittleEndian B w n)

@@ -3,8 +3,8 @@ use Prim.Native.Nat.{ℕ, suc}
 use mathlib.Core.Bool.{Bool, true, cond, _&&_, _||_, not}
 use mathlib.Core.List.{List, [], _∷_}
 use lib.Dec.{leb, eqb}
-use Rattle.octets.specs.declared.text.Kind.{Kind}
-use Rattle.octets.specs.declared.text.Kind.the-variants.{Digit, Letter, Space, Printable, NotComma}
+use Rattle.octets.specs.declared.text.ByteKind.{ByteKind}
+use Rattle.octets.specs.declared.text.ByteKind.the-variants.{Digit, Letter, Space, Printable, NotComma}
 
 -- from low to high, both counted
 abbrev pub between : ℕ → ℕ → ℕ → Bool
@@ -34,12 +34,12 @@ isPrintable b = between 32 126 b
 abbrev pub isNotComma : ℕ → Bool
 isNotComma b = not (eqb b 44)
 
-abbrev pub isOf : Kind → ℕ → Bool
-isOf Digit = isDigit
-isOf Letter = isLetter
-isOf Space = isSpace
-isOf Printable = isPrintable
-isOf NotComma = isNotComma
+abbrev pub isOfKind : ByteKind → ℕ → Bool
+isOfKind Digit = isDigit
+isOfKind Letter = isLetter
+isOfKind Space = isSpace
+isOfKind Printable = isPrintable
+isOfKind NotComma = isNotComma
 
 -- every byte of the text is of the kind
 unfoldable pub all : (ℕ → Bool) → List ℕ → Bool
@@ -47,6 +47,6 @@ all kind [] = true
 all kind (b ∷ bs) = kind b && all kind bs
 
 -- how many bytes of the kind the text begins with
-unfoldable pub leading : (ℕ → Bool) → List ℕ → ℕ
-leading kind [] = 0
-leading kind (b ∷ bs) = cond (kind b) (suc (leading kind bs)) 0
+unfoldable pub leadingCount : (ℕ → Bool) → List ℕ → ℕ
+leadingCount kind [] = 0
+leadingCount kind (b ∷ bs) = cond (kind b) (suc (leadingCount kind bs)) 0

@@ -1,9 +1,9 @@
 // Numbers in decimal digits, the most significant digit first.
-use crate::text::Kind;
-use crate::text::is_of;
+use crate::text::ByteKind;
+use crate::text::is_of_kind;
 ghost use mathlib.Core.Path.{_≡_};
 ghost use lib.ListN.{length};
-ghost use Rattle.octets.specs.Decimal.{width, inDigits, readOf};
+ghost use Rattle.octets.specs.Decimal.{digitCount, inDigits, readOf};
 
 // What a text says: a number, or nothing, where it is empty, has a byte that is no digit, or says more than the limit.
 pub enum Number {
@@ -22,7 +22,7 @@ pub fn read(text: &[u8], limit: u64) -> Number
     let mut i = 0;
     while i < text.len() {
         let b = text[i];
-        if !is_of(Kind::Digit, b) {
+        if !is_of_kind(ByteKind::Digit, b) {
             return Number::Nothing;
         }
         let d = (b - 48) as u64;
@@ -40,7 +40,7 @@ pub fn read(text: &[u8], limit: u64) -> Number
 
 // How many digits n has without leading zeros.
 pub fn length(n: u64) -> usize
-    ensures { λ r. ⌜ r ≡ width n ⌝ }
+    ensures { λ r. ⌜ r ≡ digitCount n ⌝ }
 {
     let mut w = 1;
     let mut m = n;

@@ -1,8 +1,8 @@
 // Bytes of a text by their kind.
 ghost use mathlib.Core.Path.{_≡_};
-ghost use Rattle.octets.specs.Text.{between, isLetter, isOf, leading};
+ghost use Rattle.octets.specs.Text.{between, isLetter, isOfKind, leadingCount};
 
-pub enum Kind {
+pub enum ByteKind {
     Digit,
     Letter,
     Space,
@@ -29,25 +29,25 @@ fn is_letter(b: u8) -> bool
     between(b'a', b'z', b)
 }
 
-pub fn is_of(kind: Kind, b: u8) -> bool
-    ensures { λ r. ⌜ r ≡ isOf kind b ⌝ }
+pub fn is_of_kind(kind: ByteKind, b: u8) -> bool
+    ensures { λ r. ⌜ r ≡ isOfKind kind b ⌝ }
 {
     match kind {
-        Kind::Digit => between(b'0', b'9', b),
-        Kind::Letter => is_letter(b),
-        Kind::Space => b == b' ',
-        Kind::Printable => between(32, 126, b),
-        Kind::NotComma => b != b',',
+        ByteKind::Digit => between(b'0', b'9', b),
+        ByteKind::Letter => is_letter(b),
+        ByteKind::Space => b == b' ',
+        ByteKind::Printable => between(32, 126, b),
+        ByteKind::NotComma => b != b',',
     }
 }
 
 // How many bytes of the kind the text begins with.
-pub fn leading(kind: Kind, text: &[u8]) -> usize
-    ensures { λ r. ⌜ r ≡ leading (isOf kind) (now (text .entry)) ⌝ }
+pub fn leading(kind: ByteKind, text: &[u8]) -> usize
+    ensures { λ r. ⌜ r ≡ leadingCount (isOfKind kind) (now (text .entry)) ⌝ }
 {
     let mut i = 0;
     while i < text.len() {
-        if !is_of(kind, text[i]) {
+        if !is_of_kind(kind, text[i]) {
             return i;
         }
         i += 1;

@@ -10,8 +10,8 @@ use native.Mathlib.Decide.{decLe}
 use borrow.Author.Tests.{le-leb, lt-leb, ne-eqb, ltb-true, ltb-false, leb-true, leb-false}
 use lib.Dec.{leb, ltb, eqb}
 use lib.ListN.{length, getD}
-use Rattle.ledger.specs.Pairs.{Pairs, none, pair, size, Ruled, inside, countStartingBy}
-use Rattle.ledger.specs.Ledger.{zeros, rule, obeys, pairsOf, capacity}
+use Rattle.ledger.specs.Pairs.{Pairs, none, pair, size, ObeyFrom, inside, countStartingBy}
+use Rattle.ledger.specs.Ledger.{allZero, obeysFrom, obeys, pairsOf, capacity}
 use Rattle.ledger.proofs.LedgerLayout.{First, unused, used, rule-first, rule-ruled, size-pairsOf}
 use Rattle.ledger.proofs.PairsJoinSlot.{endAt, countStartingBy-on, countStartingBy-stops, countStartingBy-le}
 use Rattle.ledger.proofs.LedgerRule.{zeros-at}
@@ -31,29 +31,29 @@ module _ (a b : ℕ) (rest : List ℕ) (i : ℕ) where
   end-on = let e : 2 * suc i + 1 ≡ suc (suc (2 * i + 1)) = omega arith in rw e
 
   -- a first pair that is unused has no used one after it
-  none-used : a ≡ 0 → b ≡ 0 → zeros rest ≡ true → getD (a ∷ b ∷ rest) (2 * i + 1) 0 ≡ 0
-  none-used x y z = zeros-at (a ∷ b ∷ rest) (2 * i + 1) (unfold zeros in rw (x, y, z))
+  none-used : a ≡ 0 → b ≡ 0 → allZero rest ≡ true → getD (a ∷ b ∷ rest) (2 * i + 1) 0 ≡ 0
+  none-used x y z = zeros-at (a ∷ b ∷ rest) (2 * i + 1) (unfold allZero in rw (x, y, z))
 
-lowest : (lo i : ℕ) (l : List ℕ) → rule lo l ≡ true → 0 < getD l (2 * i + 1) 0 → lo ≤ getD l (2 * i) 0
+lowest : (lo i : ℕ) (l : List ℕ) → obeysFrom lo l ≡ true → 0 < getD l (2 * i + 1) 0 → lo ≤ getD l (2 * i) 0
 lowest lo i [] h g = absurd (omega arith)
-lowest lo i (a ∷ []) h g = absurd (unfold rule in false≢true h)
+lowest lo i (a ∷ []) h g = absurd (unfold obeysFrom in false≢true h)
 lowest lo i (a ∷ b ∷ rest) h g = go i (rule-first lo a b rest h) g (λ j. lowest (suc b) j rest)
   where
     go : (i : ℕ) → First lo a b rest → 0 < getD (a ∷ b ∷ rest) (2 * i + 1) 0
-        → ((j : ℕ) → rule (suc b) rest ≡ true → 0 < getD rest (2 * j + 1) 0 → suc b ≤ getD rest (2 * j) 0) → lo ≤ getD (a ∷ b ∷ rest) (2 * i) 0
+        → ((j : ℕ) → obeysFrom (suc b) rest ≡ true → 0 < getD rest (2 * j + 1) 0 → suc b ≤ getD rest (2 * j) 0) → lo ≤ getD (a ∷ b ∷ rest) (2 * i) 0
     go i (unused x y z) k f = absurd (omega (arith, none-used a b rest i x y z))
     go zero (used x y z) k f = x
     go (suc j) (used x y z) k f = rw (start-on a b rest j) (omega (arith, f j z (rw (end-on a b rest j) at k)))
 
 -- a used pair that starts by the place is counted
-counted : (lo p i : ℕ) (l : List ℕ) → rule lo l ≡ true → 0 < getD l (2 * i + 1) 0 → getD l (2 * i) 0 ≤ p → i < countStartingBy p (pairsOf l)
+counted : (lo p i : ℕ) (l : List ℕ) → obeysFrom lo l ≡ true → 0 < getD l (2 * i + 1) 0 → getD l (2 * i) 0 ≤ p → i < countStartingBy p (pairsOf l)
 unfolding pairsOf
 counted lo p i [] h g k = absurd (omega arith)
-counted lo p i (a ∷ []) h g k = absurd (unfold rule in false≢true h)
+counted lo p i (a ∷ []) h g k = absurd (unfold obeysFrom in false≢true h)
 counted lo p i (a ∷ b ∷ rest) h g k = go i (rule-first lo a b rest h) g k (λ j. counted (suc b) p j rest)
   where
     go : (i : ℕ) → First lo a b rest → 0 < getD (a ∷ b ∷ rest) (2 * i + 1) 0 → getD (a ∷ b ∷ rest) (2 * i) 0 ≤ p
-        → ((j : ℕ) → rule (suc b) rest ≡ true → 0 < getD rest (2 * j + 1) 0 → getD rest (2 * j) 0 ≤ p → j < countStartingBy p (pairsOf rest))
+        → ((j : ℕ) → obeysFrom (suc b) rest ≡ true → 0 < getD rest (2 * j + 1) 0 → getD rest (2 * j) 0 ≤ p → j < countStartingBy p (pairsOf rest))
         → i < countStartingBy p (cond (eqb b 0) none (pair a b (pairsOf rest)))
     go i (unused x y z) m n f = absurd (omega (arith, none-used a b rest i x y z))
     go zero (used x y z) m n f = rw (ne-eqb b 0 (λ q. omega arith)) (omega (arith, countStartingBy-on p a b (pairsOf rest) n))
@@ -64,14 +64,14 @@ counted lo p i (a ∷ b ∷ rest) h g k = go i (rule-first lo a b rest h) g k (�
         rw (ne-eqb b 0 (λ q. omega arith)) (omega (arith, countStartingBy-on p a b (pairsOf rest) s, f j z m′ n′))
 
 -- a pair that is unused or starts above the place is not, nor is one after it
-not-counted : (lo p i : ℕ) (l : List ℕ) → rule lo l ≡ true → (getD l (2 * i + 1) 0 ≡ 0) ⊎ (p < getD l (2 * i) 0) → countStartingBy p (pairsOf l) ≤ i
+not-counted : (lo p i : ℕ) (l : List ℕ) → obeysFrom lo l ≡ true → (getD l (2 * i + 1) 0 ≡ 0) ⊎ (p < getD l (2 * i) 0) → countStartingBy p (pairsOf l) ≤ i
 unfolding pairsOf
 not-counted lo p i [] h g = unfold countStartingBy in omega arith
 not-counted lo p i (a ∷ []) h g = unfold countStartingBy in omega arith
 not-counted lo p i (a ∷ b ∷ rest) h g = go i (rule-first lo a b rest h) g (decLe a p) (λ j. not-counted (suc b) p j rest)
   where
     go : (i : ℕ) → First lo a b rest → (getD (a ∷ b ∷ rest) (2 * i + 1) 0 ≡ 0) ⊎ (p < getD (a ∷ b ∷ rest) (2 * i) 0) → Dec (a ≤ p)
-        → ((j : ℕ) → rule (suc b) rest ≡ true → (getD rest (2 * j + 1) 0 ≡ 0) ⊎ (p < getD rest (2 * j) 0) → countStartingBy p (pairsOf rest) ≤ j)
+        → ((j : ℕ) → obeysFrom (suc b) rest ≡ true → (getD rest (2 * j + 1) 0 ≡ 0) ⊎ (p < getD rest (2 * j) 0) → countStartingBy p (pairsOf rest) ≤ j)
         → countStartingBy p (cond (eqb b 0) none (pair a b (pairsOf rest))) ≤ i
     go i (unused x y z) m d f = rw y (unfold countStartingBy in omega arith)
     go i (used x y z) m (no d) f = rw (ne-eqb b 0 (λ q. omega arith)) (omega (arith, countStartingBy-stops p a b (pairsOf rest) (omega arith)))
@@ -122,12 +122,12 @@ end-of i (a ∷ b ∷ rest) h = go i (eqb b 0) h (λ j. end-of j rest)
 
 -- ---- a range, and the last pair that starts by its start
 
-inside-below : (s e lo : ℕ) (ps : Pairs) → s < lo → Ruled lo ps → inside s e ps ≡ false
+inside-below : (s e lo : ℕ) (ps : Pairs) → s < lo → ObeyFrom lo ps → inside s e ps ≡ false
 unfolding inside
 inside-below s e lo none h c = refl
 inside-below s e lo (pair a b ps) h c = rw (lt-leb a s (omega (arith, c .0)), inside-below s e (suc b) ps (omega (arith, c .0, c .1)) (c .2))
 
-inside-none : (s e lo : ℕ) (ps : Pairs) → Ruled lo ps → countStartingBy s ps ≡ 0 → inside s e ps ≡ false
+inside-none : (s e lo : ℕ) (ps : Pairs) → ObeyFrom lo ps → countStartingBy s ps ≡ 0 → inside s e ps ≡ false
 unfolding inside
 inside-none s e lo none c h = refl
 inside-none s e lo (pair a b ps) c h = go (decLe a s)
@@ -137,7 +137,7 @@ inside-none s e lo (pair a b ps) c h = go (decLe a s)
     go (no x) = rw (lt-leb a s (omega arith), inside-below s e (suc b) ps (omega (arith, c .1)) (c .2))
 
 -- where one starts by s, s is not below the lowest start
-upTo-lowest : (s lo m : ℕ) (ps : Pairs) → Ruled lo ps → countStartingBy s ps ≡ suc m → lo ≤ s
+upTo-lowest : (s lo m : ℕ) (ps : Pairs) → ObeyFrom lo ps → countStartingBy s ps ≡ suc m → lo ≤ s
 upTo-lowest s lo m none c h = absurd (unfold countStartingBy in omega (arith, h))
 upTo-lowest s lo m (pair a b ps) c h = go (decLe a s)
   where
@@ -145,7 +145,7 @@ upTo-lowest s lo m (pair a b ps) c h = go (decLe a s)
     go (yes x) = omega (arith, c .0)
     go (no x) = absurd (omega (arith, h, countStartingBy-stops s a b ps (omega arith)))
 
-inside-last : (s e lo m : ℕ) (ps : Pairs) → s < e → Ruled lo ps → countStartingBy s ps ≡ suc m → inside s e ps ≡ leb e (endAt m ps)
+inside-last : (s e lo m : ℕ) (ps : Pairs) → s < e → ObeyFrom lo ps → countStartingBy s ps ≡ suc m → inside s e ps ≡ leb e (endAt m ps)
 unfolding inside endAt
 inside-last s e lo m none g c h = absurd (unfold countStartingBy in omega (arith, h))
 inside-last s e lo m (pair a b ps) g c h = go (decLe a s) (λ n k. inside-last s e (suc b) n ps g (c .2) k)

@@ -59,7 +59,7 @@ fn inside(ledger: &[u64], start: u64, end: u64) -> bool
 
 // Whether so many places from start on lie inside one pair. No entry is above the largest number, so places that end past it lie in none.
 // For a ledger that breaks the rule, or no places, the answer is left open.
-pub fn contains(ledger: &[u64], start: u64, length: u64) -> bool
+pub fn contains_range(ledger: &[u64], start: u64, length: u64) -> bool
     ensures { λ r. ⌜ (0 < length → obeys (now (ledger .entry)) ≡ true → r ≡ inside start (start + length) (pairsOf (now (ledger .entry)))) ⌝ }
 {
     if rule::LARGEST - start < length {

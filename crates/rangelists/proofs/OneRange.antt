@@ -8,8 +8,8 @@ use native.Mathlib.Decide.{decLt}
 use native.Mathlib.Numerals.{add-one}
 use lib.ListN.{length, getD, drop, take, List·getD-eq-default}
 use lib.Seq.{take-append-seam, getD-append-seam, drop-append-add, split-at}
-use Rattle.octets.specs.Decimal.{numberOf}
-use Rattle.octets.specs.Text.{isDigit, all, leading}
+use Rattle.octets.specs.Decimal.{decimalValue}
+use Rattle.octets.specs.Text.{isDigit, all, leadingCount}
 use Rattle.octets.proofs.Reading.{digits-at}
 use Rattle.octets.proofs.Texts.{leading-append}
 use Rattle.rangelists.specs.RangeText.{rangeOf}
@@ -19,21 +19,21 @@ use Rattle.rangelists.specs.declared.ranges.Range.the-variants.{Places, 
 use Rattle.rangelists.proofs.RangeParsing.{position-is, is-position, range-places, range-sound}
 
 -- the digits before a hyphen are those that the text begins with
-run-over : (ds es : List ℕ) → all isDigit ds ≡ true → leading isDigit (ds ++ (45 ∷ es)) ≡ length ds
-unfolding leading
+run-over : (ds es : List ℕ) → all isDigit ds ≡ true → leadingCount isDigit (ds ++ (45 ∷ es)) ≡ length ds
+unfolding leadingCount
 run-over ds es h = omega (arith, leading-append isDigit ds (45 ∷ es) h)
 
 module _ (text : List ℕ) (first last : ℕ) (r : IsRange text first last) where
-  run-is : leading isDigit text ≡ length (r .before)
+  run-is : leadingCount isDigit text ≡ length (r .before)
   run-is = rw (r .hyphen) (run-over (r .before) (r .after) (digits-at (r .before) (r .start .digits)))
 
-  before-is : take (leading isDigit text) text ≡ r .before
+  before-is : take (leadingCount isDigit text) text ≡ r .before
   before-is = rw (run-is, r .hyphen) (take-append-seam (r .before) (45 ∷ r .after))
 
-  hyphen-is : getD text (leading isDigit text) 0 ≡ 45
+  hyphen-is : getD text (leadingCount isDigit text) 0 ≡ 45
   hyphen-is = rw (run-is, r .hyphen) (getD-append-seam (r .before) 45 (r .after) 0)
 
-  after-is : drop (suc (leading isDigit text)) text ≡ r .after
+  after-is : drop (suc (leadingCount isDigit text)) text ≡ r .after
   after-is = rw (run-is, r .hyphen, ← add-one (length (r .before))) (drop-append-add (r .before) (45 ∷ r .after) 1)
 
   pub range-reads : rangeOf text ≡ Places first (suc last)
@@ -44,20 +44,20 @@ module _ (text : List ℕ) (first last : ℕ) (r : IsRange text first last) wher
 range-only : (text : List ℕ) (s e : ℕ) → rangeOf text ≡ Places s e → (last : ℕ) × (e ≡ suc last) × IsRange text s last
 range-only text s e h =
     let r = range-sound text s e h in
-    let k = leading isDigit text in
+    let k = leadingCount isDigit text in
     let a = take k text in
     let b = drop (suc k) text in
     let split : text ≡ a ++ (45 ∷ b) = go (decLt k (length text)) in
     let start : Position a s = rw (r .start-is) at (position-is a (r .start)) in (
-      numberOf b,
+      decimalValue b,
       r .end-is,
       record { before = a; after = b; hyphen = split; start = start; end = position-is b (r .end); rising = omega (arith, r .rising, r .start-is) },
     )
   where
-    go : Dec (leading isDigit text < length text) → text ≡ take (leading isDigit text) text ++ (45 ∷ drop (suc (leading isDigit text)) text)
-    go (yes l) = rw (range-sound text s e h .hyphen) at (split-at text (leading isDigit text) 0 l)
+    go : Dec (leadingCount isDigit text < length text) → text ≡ take (leadingCount isDigit text) text ++ (45 ∷ drop (suc (leadingCount isDigit text)) text)
+    go (yes l) = rw (range-sound text s e h .hyphen) at (split-at text (leadingCount isDigit text) 0 l)
     go (no l) =
-        let g : length text ≤ leading isDigit text = omega arith in
+        let g : length text ≤ leadingCount isDigit text = omega arith in
         absurd (omega (arith, range-sound text s e h .hyphen, List·getD-eq-default text 0 g))
 
 else-malformed : (text : List ℕ) → ((first last : ℕ) → IsRange text first last → ⊥) → rangeOf text ≡ Malformed

@@ -14,7 +14,7 @@ use Rattle.ledger.specs.Ledger.{obeys, pairsOf, laidOut, capacity}
 use Rattle.ledger.proofs.PairsJoin.{join-ruled}
 use Rattle.ledger.proofs.LedgerLayout.{pairsOf-laidOut, rule-laidOut, rule-ruled, laidOut-pairsOf}
 use Rattle.ledger.proofs.LedgerOdd.{obeys-even}
-use Rattle.octets.specs.Text.{isNotComma, leading}
+use Rattle.octets.specs.Text.{isNotComma, leadingCount}
 use Rattle.claims.specs.Claim.{JoinResult}
 use Rattle.rangelists.specs.RangeText.{parts, rangesOf, rangeOf, Merged, merged, trouble, mergeRange, mergedFrom, Represents}
 use Rattle.rangelists.specs.declared.ranges.Range.{Range}
@@ -90,22 +90,22 @@ module _ (t l : List ℕ) (s e : ℕ) (h : rangeOf t ≡ Places s e) (o : obeys 
 
 -- ---- the list, as the code walks it: the text up to the first comma is joined
 
-module _ (r k : ℕ) (ps : Pairs) (text l : List ℕ) (q : Represents (mergeRange r ps (rangeOf (take (leading isNotComma text) text)) merged) k l) where
+module _ (r k : ℕ) (ps : Pairs) (text l : List ℕ) (q : Represents (mergeRange r ps (rangeOf (take (leadingCount isNotComma text) text)) merged) k l) where
   pub walk-stop : 0 < k → mergedFrom r ps (parts text) ≡ trouble k
   walk-stop h = go (parts-first text)
     where
-      go : ((ts : List (List ℕ)) × (parts text ≡ take (leading isNotComma text) text ∷ ts)) → mergedFrom r ps (parts text) ≡ trouble k
-      go (ts, e) = rw e (merged-stop r k ps (take (leading isNotComma text) text) ts (q .stopped h))
+      go : ((ts : List (List ℕ)) × (parts text ≡ take (leadingCount isNotComma text) text ∷ ts)) → mergedFrom r ps (parts text) ≡ trouble k
+      go (ts, e) = rw e (merged-stop r k ps (take (leadingCount isNotComma text) text) ts (q .stopped h))
 
-  pub walk-last : k ≡ 0 → leading isNotComma text ≡ length text → mergedFrom r ps (parts text) ≡ merged (pairsOf l)
+  pub walk-last : k ≡ 0 → leadingCount isNotComma text ≡ length text → mergedFrom r ps (parts text) ≡ merged (pairsOf l)
   unfolding mergedFrom
   walk-last z e =
-      let w : take (leading isNotComma text) text ≡ text = take-all (leading isNotComma text) text (omega arith) in
+      let w : take (leadingCount isNotComma text) text ≡ text = take-all (leadingCount isNotComma text) text (omega arith) in
       rw (parts-last text e) (merged-on r ps (pairsOf l) text [] (rw w at (q .done z .1)))
 
-  pub walk-next : k ≡ 0 → leading isNotComma text < length text → mergedFrom r ps (parts text) ≡ mergedFrom r (pairsOf l) (parts (drop (suc (leading isNotComma text)) text))
+  pub walk-next : k ≡ 0 → leadingCount isNotComma text < length text → mergedFrom r ps (parts text) ≡ mergedFrom r (pairsOf l) (parts (drop (suc (leadingCount isNotComma text)) text))
   walk-next z h =
-      rw (parts-next text h) (merged-on r ps (pairsOf l) (take (leading isNotComma text) text) (parts (drop (suc (leading isNotComma text)) text)) (q .done z .1))
+      rw (parts-next text h) (merged-on r ps (pairsOf l) (take (leadingCount isNotComma text) text) (parts (drop (suc (leadingCount isNotComma text)) text)) (q .done z .1))
 
 -- ---- the ledger before the first range, and after the last
 

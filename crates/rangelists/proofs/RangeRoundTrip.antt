@@ -9,13 +9,13 @@ use lib.Dec.{leb}
 use lib.ListN.{length, take, drop}
 use lib.Seq.{take-at}
 use Rattle.octets.specs.Cases.{AllHold}
-use Rattle.octets.specs.Decimal.{width, decimal}
+use Rattle.octets.specs.Decimal.{digitCount, decimal}
 use Rattle.octets.specs.Text.{isDigit, all}
 use Rattle.octets.proofs.Decimals.{width-some, all-inDigits, decimal-reads-back, length-decimal, width-20}
 use Rattle.octets.proofs.Reading.{at-digits}
 use Rattle.answers.specs.declared.loaded.Loaded.the-variants.{Done}
 use Rattle.answers.specs.declared.written.Written.the-variants.{Bytes}
-use Rattle.ledger.specs.Pairs.{Pairs, none, pair, size, Ruled, join, endsAtMost}
+use Rattle.ledger.specs.Pairs.{Pairs, none, pair, size, ObeyFrom, join, endsAtMost}
 use Rattle.ledger.specs.Ledger.{largest, lengthWrong, obeys, pairsOf, capacity}
 use Rattle.ledger.proofs.LedgerLayout.{rule-ruled, laidOut-pairsOf, size-pairsOf}
 use Rattle.ledger.proofs.LedgerSizes.{length-right, length-fits}
@@ -33,7 +33,7 @@ use Rattle.rangelists.proofs.Parts.{no-comma-cons, no-comma-append, par
 
 digits-decimal : (n : ℕ) → all isDigit (decimal n) ≡ true
 unfolding decimal
-digits-decimal n = all-inDigits (width n) n
+digits-decimal n = all-inDigits (digitCount n) n
 
 position-decimal : (n : ℕ) → n ≤ 18446744073709551614 → Position (decimal n) n
 position-decimal n h =
@@ -112,7 +112,7 @@ unfolding chain size
 size-chain none ps = omega arith
 size-chain (pair a b qs) ps = omega (arith, size-chain qs ps)
 
-chain-above : (lo a b : ℕ) (qs ps : Pairs) → Ruled lo (chain qs (pair a b ps)) → (lo ≤ a) × (a < b)
+chain-above : (lo a b : ℕ) (qs ps : Pairs) → ObeyFrom lo (chain qs (pair a b ps)) → (lo ≤ a) × (a < b)
 unfolding chain
 chain-above lo a b none ps c = (c .0, c .1)
 chain-above lo a b (pair x y qs) ps c =
@@ -120,14 +120,14 @@ chain-above lo a b (pair x y qs) ps c =
     (omega (arith, c .0, c .1, i .0), i .1)
 
 -- a range above all pairs comes after them
-join-last : (lo a b : ℕ) (qs ps : Pairs) → Ruled lo (chain qs (pair a b ps)) → join a b qs ≡ chain qs (pair a b none)
+join-last : (lo a b : ℕ) (qs ps : Pairs) → ObeyFrom lo (chain qs (pair a b ps)) → join a b qs ≡ chain qs (pair a b none)
 unfolding chain join
 join-last lo a b none ps c = refl
 join-last lo a b (pair x y qs) ps c =
     let i = chain-above (suc y) a b qs ps (c .2) in
     rw (le-ltb b x (omega (arith, c .1, i .0, i .1)), lt-ltb y a (i .0), join-last (suc y) a b qs ps (c .2))
 
-merged-chain : (r : ℕ) (qs ps : Pairs) → Ruled 0 (chain qs ps) → size (chain qs ps) ≤ r → endsAtMost largest ps ≡ true
+merged-chain : (r : ℕ) (qs ps : Pairs) → ObeyFrom 0 (chain qs ps) → size (chain qs ps) ≤ r → endsAtMost largest ps ≡ true
     → mergedFrom r qs (textsOf ps) ≡ merged (chain qs ps)
 unfolding mergedFrom textsOf mergeRange endsAtMost size
 merged-chain r qs none c n f = rw (chain-none qs)
@@ -142,7 +142,7 @@ merged-chain r qs (pair a b ps) c n f =
 
 -- ---- the text that the writer left
 
-text-back : (ps : Pairs) (m : List ℕ) → 0 < size ps → Ruled 0 ps → endsAtMost largest ps ≡ true → lengthWrong m ≡ false → size ps ≤ capacity m
+text-back : (ps : Pairs) (m : List ℕ) → 0 < size ps → ObeyFrom 0 ps → endsAtMost largest ps ≡ true → lengthWrong m ≡ false → size ps ≤ capacity m
     → Reads (rangesText ps) m ps
 unfolding rangesOf chain
 text-back ps m some ruled ends lengths room =

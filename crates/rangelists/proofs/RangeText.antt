@@ -9,28 +9,28 @@ use borrow.Rule.Slice.PartMut.{putMid, midOf, mid-len}
 use lib.Dec.{eqb}
 use lib.ListN.{length, set, take, drop, length-append, length-drop}
 use lib.Seq.{append-snoc, length-take-le, take-all, take-add, take-append-seam, drop-append-seam, drop-drop, sets, length-sets}
-use Rattle.octets.specs.Decimal.{width, inDigits, decimal}
+use Rattle.octets.specs.Decimal.{digitCount, inDigits, decimal}
 use Rattle.octets.proofs.Decimals.{length-decimal}
 use Rattle.answers.proofs.WritesAt.{sets-append, sets-part}
 use Rattle.ledger.specs.Pairs.{Pairs, none, pair, size}
-use Rattle.rangelists.specs.RangeText.{comma, rangeText, rangesText}
+use Rattle.rangelists.specs.RangeText.{separatorAfter, rangeText, rangesText}
 
 -- ---- one range
 
-pub length-rangeText : (a b : ℕ) → length (rangeText a b) ≡ width a + 1 + width (b - 1)
+pub length-rangeText : (a b : ℕ) → length (rangeText a b) ≡ digitCount a + 1 + digitCount (b - 1)
 unfolding rangeText
 length-rangeText a b = simp (length-append, length-decimal) (omega arith)
 
-pub comma-none : comma 0 ≡ []
-unfolding comma
+pub comma-none : separatorAfter 0 ≡ []
+unfolding separatorAfter
 comma-none = refl
 
-pub comma-one : (n : ℕ) → 0 < n → comma n ≡ 44 ∷ []
-unfolding comma
+pub comma-one : (n : ℕ) → 0 < n → separatorAfter n ≡ 44 ∷ []
+unfolding separatorAfter
 comma-one n h = rw (ne-eqb n 0 (omega arith))
 
-pub comma-le : (n : ℕ) → length (comma n) ≤ 1
-unfolding comma
+pub comma-le : (n : ℕ) → length (separatorAfter n) ≤ 1
+unfolding separatorAfter
 comma-le n = go (eqb n 0)
   where
     go : (t : Bool) → length {A = ℕ} (cond t [] (44 ∷ [])) ≤ 1
@@ -42,7 +42,7 @@ unfolding rangeText
 in-three a b = append-snoc (decimal a) 45 (decimal (b - 1))
 
 -- a range put into lent bytes in three stores: its start, the hyphen and its last place, each number filling a part of its own width
-module _ (out ys zs : List ℕ) (at n m a b : ℕ) (fits : at + length (rangeText a b) ≤ length out) (start : n ≡ width a) (last : m ≡ width (b - 1)) where
+module _ (out ys zs : List ℕ) (at n m a b : ℕ) (fits : at + length (rangeText a b) ≤ length out) (start : n ≡ digitCount a) (last : m ≡ digitCount (b - 1)) where
   abbrev hyphen : ℕ
   hyphen = at + n
 
@@ -56,7 +56,7 @@ module _ (out ys zs : List ℕ) (at n m a b : ℕ) (fits : at + length (rangeTex
     start-put : putMid at (hyphen - at) out ys ≡ sets out at (decimal a)
     unfolding decimal
     start-put =
-        let w : length (midOf at (hyphen - at) out) ≡ width a = mid-len at hyphen out (omega (arith, length-rangeText a b)) ∙ omega arith in
+        let w : length (midOf at (hyphen - at) out) ≡ digitCount a = mid-len at hyphen out (omega (arith, length-rangeText a b)) ∙ omega arith in
         rw (y, w) (sets-part at hyphen out (decimal a) (omega (arith, length-decimal a)) (omega (arith, length-rangeText a b)))
 
     two-put : twoPut ≡ sets out at (decimal a ++ (45 ∷ []))
@@ -70,9 +70,9 @@ module _ (out ys zs : List ℕ) (at n m a b : ℕ) (fits : at + length (rangeTex
     range-put z =
         let l = length-rangeText a b in
         let d = decimal a ++ (45 ∷ []) in
-        let n₁ : length d ≡ width a + 1 = simp (length-append, length-decimal) in
+        let n₁ : length d ≡ digitCount a + 1 = simp (length-append, length-decimal) in
         let k : length (sets out at d) ≡ length out = length-sets out at d in
-        let w : length (midOf (hyphen + 1) (end - (hyphen + 1)) (sets out at d)) ≡ width (b - 1) = mid-len (hyphen + 1) end (sets out at d) (omega arith) ∙ omega arith in
+        let w : length (midOf (hyphen + 1) (end - (hyphen + 1)) (sets out at d)) ≡ digitCount (b - 1) = mid-len (hyphen + 1) end (sets out at d) (omega arith) ∙ omega arith in
         let h : hyphen + 1 ≡ at + length d = omega arith in
         rw (z, two-put, w)
         (sets-part (hyphen + 1) end (sets out at d) (decimal (b - 1)) (omega (arith, length-decimal (b - 1))) (omega arith)
@@ -105,7 +105,7 @@ next-all text out₀ n e =
 -- the ranges of pairs that are after n bytes
 unfoldable pub listFrom : ℕ → Pairs → List ℕ
 listFrom n none = []
-listFrom n (pair a b ps) = comma n ++ (rangeText a b ++ listFrom 1 ps)
+listFrom n (pair a b ps) = separatorAfter n ++ (rangeText a b ++ listFrom 1 ps)
 
 pub listFrom-none : (n : ℕ) (ps : Pairs) → ps ≡ none → listFrom n ps ≡ []
 unfolding listFrom
@@ -125,8 +125,8 @@ listFrom-all (pair a b (pair c d ps)) =
     rw (comma-none, comma-one 1 (omega arith)) (ap (λ (x : List ℕ). rangeText a b ++ (44 ∷ x)) i)
 
 -- one range more, with m bytes up to its end
-module _ (n m a b : ℕ) (qs : Pairs) (h : m ≡ n + length (comma n) + length (rangeText a b)) where
-  pub list-next : listFrom n (pair a b qs) ≡ comma n ++ (rangeText a b ++ listFrom m qs)
+module _ (n m a b : ℕ) (qs : Pairs) (h : m ≡ n + length (separatorAfter n) + length (rangeText a b)) where
+  pub list-next : listFrom n (pair a b qs) ≡ separatorAfter n ++ (rangeText a b ++ listFrom m qs)
   unfolding listFrom
   list-next = rw (listFrom-any 1 m qs (omega arith) (omega (arith, length-rangeText a b)))
 
@@ -135,28 +135,28 @@ module _ (n m a b : ℕ) (qs : Pairs) (h : m ≡ n + length (comma n) + length (
 
 -- n bytes of the text are written, and the range from a to b comes next
 module _ (text : List ℕ) (n a b : ℕ) (qs : Pairs) (h : n ≤ length text) (e : drop n text ≡ listFrom n (pair a b qs)) where
-  with-comma : drop n text ≡ comma n ++ (rangeText a b ++ listFrom (n + length (comma n) + length (rangeText a b)) qs)
+  with-comma : drop n text ≡ separatorAfter n ++ (rangeText a b ++ listFrom (n + length (separatorAfter n) + length (rangeText a b)) qs)
   with-comma = e ∙ list-next n _ a b qs refl
 
-  pub comma-fits : n + length (comma n) ≤ length text
-  comma-fits = next-le text (comma n) _ n h with-comma
+  pub comma-fits : n + length (separatorAfter n) ≤ length text
+  comma-fits = next-le text (separatorAfter n) _ n h with-comma
 
-  after-comma : drop (n + length (comma n)) text ≡ rangeText a b ++ listFrom (n + length (comma n) + length (rangeText a b)) qs
-  after-comma = next-drop text (comma n) _ n h with-comma
+  after-comma : drop (n + length (separatorAfter n)) text ≡ rangeText a b ++ listFrom (n + length (separatorAfter n) + length (rangeText a b)) qs
+  after-comma = next-drop text (separatorAfter n) _ n h with-comma
 
-  pub range-fits : n + length (comma n) + length (rangeText a b) ≤ length text
-  range-fits = next-le text (rangeText a b) _ (n + length (comma n)) comma-fits after-comma
+  pub range-fits : n + length (separatorAfter n) + length (rangeText a b) ≤ length text
+  range-fits = next-le text (rangeText a b) _ (n + length (separatorAfter n)) comma-fits after-comma
 
   -- both put, with m bytes up to their end
-  module _ (m : ℕ) (q : m ≡ n + length (comma n) + length (rangeText a b)) where
+  module _ (m : ℕ) (q : m ≡ n + length (separatorAfter n) + length (rangeText a b)) where
     pub list-left : drop m text ≡ listFrom m qs
-    list-left = rw q (next-drop text (rangeText a b) _ (n + length (comma n)) comma-fits after-comma)
+    list-left = rw q (next-drop text (rangeText a b) _ (n + length (separatorAfter n)) comma-fits after-comma)
 
-    pub list-put : (out₀ out out₁ out₂ : List ℕ) → out ≡ sets out₀ 0 (take n text) → out₁ ≡ sets out n (comma n)
-        → out₂ ≡ sets out₁ (n + length (comma n)) (rangeText a b) → out₂ ≡ sets out₀ 0 (take m text)
+    pub list-put : (out₀ out out₁ out₂ : List ℕ) → out ≡ sets out₀ 0 (take n text) → out₁ ≡ sets out n (separatorAfter n)
+        → out₂ ≡ sets out₁ (n + length (separatorAfter n)) (rangeText a b) → out₂ ≡ sets out₀ 0 (take m text)
     list-put out₀ out out₁ out₂ o o₁ o₂ =
-        rw (o₂, q, o₁, o, next-put text (comma n) _ n h with-comma out₀)
-        (next-put text (rangeText a b) _ (n + length (comma n)) comma-fits after-comma out₀)
+        rw (o₂, q, o₁, o, next-put text (separatorAfter n) _ n h with-comma out₀)
+        (next-put text (rangeText a b) _ (n + length (separatorAfter n)) comma-fits after-comma out₀)
 
 -- the text is empty where there are no pairs
 pub text-empty : (ps : Pairs) → length (rangesText ps) ≡ 0 → size ps ≡ 0
@@ -164,7 +164,7 @@ unfolding size
 text-empty none h = refl
 text-empty (pair a b ps) h =
     let l : length (listFrom 0 (pair a b ps)) ≡ 0 = rw (listFrom-all (pair a b ps)) h in
-    absurd (omega (arith, list-grows 0 (0 + length (comma 0) + length (rangeText a b)) a b ps refl, length-rangeText a b))
+    absurd (omega (arith, list-grows 0 (0 + length (separatorAfter 0) + length (rangeText a b)) a b ps refl, length-rangeText a b))
 
 pub text-some : (ps : Pairs) → (length (rangesText ps) ≡ 0 → ⊥) → size ps ≡ 0 → ⊥
 unfolding size rangesText

@@ -9,36 +9,36 @@ use borrow.Author.Tests.{eq-eqb, ne-eqb}
 use lib.ListN.{length, drop}
 use Rattle.octets.specs.Decimal.{decimal}
 use Rattle.answers.specs.declared.written.Written.the-variants.{Bytes}
-use Rattle.answers.specs.Written.{roomNumber, Refuses}
+use Rattle.answers.specs.Written.{roomRefusal, Refuses}
 use Rattle.answers.proofs.WrittenBy.{first-some, first-none, first-zero, room-short, room-enough, written, written-only, refuses, writes}
 use Rattle.ledger.specs.Pairs.{size}
 use Rattle.ledger.specs.Ledger.{lengthWrong, obeys, pairsOf, ledgerRefusal}
 use Rattle.ledger.proofs.LedgerSizes.{length-right, length-wrong}
 use Rattle.ledger.proofs.LedgerRefusal.{refusal-53, refusal-1, refusal-none, refusal-zero}
-use Rattle.rangelists.specs.RangeText.{rangeText, rangesText, writeRangesNumber, writeRanges, writeRangesAfter}
+use Rattle.rangelists.specs.RangeText.{rangeText, rangesText, writeRangesRefusal, writeRanges, writeRangesAfter}
 use Rattle.rangelists.specs.RangeWriting.{RangeWriting, RangesText}
 
 -- ---- the number of a refusal
 
 module _ (ledger out : List ℕ) where
-  pub number-refused : (k : ℕ) → ledgerRefusal ledger ≡ k → 0 < k → writeRangesNumber ledger out ≡ k
-  unfolding writeRangesNumber
+  pub number-refused : (k : ℕ) → ledgerRefusal ledger ≡ k → 0 < k → writeRangesRefusal ledger out ≡ k
+  unfolding writeRangesRefusal
   number-refused k e h = first-some (ledgerRefusal ledger) _ (omega arith) ∙ e
 
   module _ (a : ledgerRefusal ledger ≡ 0) where
-    pub number-54 : size (pairsOf ledger) ≡ 0 → writeRangesNumber ledger out ≡ 54
-    unfolding writeRangesNumber
+    pub number-54 : size (pairsOf ledger) ≡ 0 → writeRangesRefusal ledger out ≡ 54
+    unfolding writeRangesRefusal
     number-54 z = first-none (ledgerRefusal ledger) _ a ∙ rw (eq-eqb (size (pairsOf ledger)) 0 z)
 
     module _ (z : size (pairsOf ledger) ≡ 0 → ⊥) where
-      only-room : writeRangesNumber ledger out ≡ roomNumber (length (rangesText (pairsOf ledger))) out
-      unfolding writeRangesNumber
+      only-room : writeRangesRefusal ledger out ≡ roomRefusal (length (rangesText (pairsOf ledger))) out
+      unfolding writeRangesRefusal
       only-room = first-none (ledgerRefusal ledger) _ a ∙ rw (ne-eqb (size (pairsOf ledger)) 0 z)
 
-      pub number-55 : length out < length (rangesText (pairsOf ledger)) → writeRangesNumber ledger out ≡ 55
+      pub number-55 : length out < length (rangesText (pairsOf ledger)) → writeRangesRefusal ledger out ≡ 55
       number-55 h = only-room ∙ room-short _ out h
 
-      pub number-0 : length (rangesText (pairsOf ledger)) ≤ length out → writeRangesNumber ledger out ≡ 0
+      pub number-0 : length (rangesText (pairsOf ledger)) ≤ length out → writeRangesRefusal ledger out ≡ 0
       number-0 h = only-room ∙ room-enough _ out h
 
 -- ---- the answer and the lent bytes
@@ -52,9 +52,9 @@ pub record Accepted (ledger out : List ℕ) (n : ℕ) : Type 0 where
   pub after : writeRangesAfter ledger out ≡ rangesText (pairsOf ledger) ++ drop (length (rangesText (pairsOf ledger))) out
 
 pub accepted : (ledger out : List ℕ) (n : ℕ) → writeRanges ledger out ≡ Bytes n → Accepted ledger out n
-unfolding writeRanges writeRangesAfter writeRangesNumber
+unfolding writeRanges writeRangesAfter writeRangesRefusal
 accepted ledger out n e =
-    let w = written-only (writeRangesNumber ledger out) _ n e in
+    let w = written-only (writeRangesRefusal ledger out) _ n e in
     let z = first-zero (ledgerRefusal ledger) _ (w .0) .0 in
     let t = refusal-zero ledger z in
     record {
@@ -65,16 +65,16 @@ accepted ledger out n e =
       after = sym (written _ n (rangesText (pairsOf ledger)) out (w .0) .1);
     }
   where
-    go : Dec (0 < size (pairsOf ledger)) → ledgerRefusal ledger ≡ 0 → writeRangesNumber ledger out ≡ 0 → 0 < size (pairsOf ledger)
+    go : Dec (0 < size (pairsOf ledger)) → ledgerRefusal ledger ≡ 0 → writeRangesRefusal ledger out ≡ 0 → 0 < size (pairsOf ledger)
     go (yes h) z e = h
     go (no h) z e = absurd (omega (arith, e, number-54 ledger out z (omega arith)))
 
 -- ---- the rows
 
 module _ (ledger out : List ℕ) where
-  refused : (k : ℕ) → writeRangesNumber ledger out ≡ k → 0 < k → Refuses (writeRanges ledger out) (writeRangesAfter ledger out) out k
+  refused : (k : ℕ) → writeRangesRefusal ledger out ≡ k → 0 < k → Refuses (writeRanges ledger out) (writeRangesAfter ledger out) out k
   unfolding writeRanges writeRangesAfter
-  refused k e h = refuses (writeRangesNumber ledger out) _ (rangesText (pairsOf ledger)) out k e h
+  refused k e h = refuses (writeRangesRefusal ledger out) _ (rangesText (pairsOf ledger)) out k e h
 
   pub range-writing : RangeWriting ledger out
   unfolding writeRanges writeRangesAfter
@@ -85,7 +85,7 @@ module _ (ledger out : List ℕ) where
         no-pair = λ e l o z. refused 54 (number-54 ledger out (refusal-none ledger (length-right ledger e l) o) z) (omega arith);
         too-few-bytes = λ e l o s h. refused 55 (number-55 ledger out (refusal-none ledger (length-right ledger e l) o) (omega arith) h) (omega arith);
         written = λ e l o s h.
-            writes (writeRangesNumber ledger out) _ (rangesText (pairsOf ledger)) out
+            writes (writeRangesRefusal ledger out) _ (rangesText (pairsOf ledger)) out
             (number-0 ledger out (refusal-none ledger (length-right ledger e l) o) (omega arith) h) refl;
       }
 

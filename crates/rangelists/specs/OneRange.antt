@@ -3,7 +3,7 @@ use Prim.Native.Nat.{ℕ, suc, _≤_, _<_}
 use mathlib.Core.Path.{_≡_}
 use mathlib.Core.List.{List, _∷_, _++_}
 use lib.ListN.{length, getD}
-use Rattle.octets.specs.Decimal.{numberOf}
+use Rattle.octets.specs.Decimal.{decimalValue}
 use Rattle.rangelists.specs.RangeText.{rangeOf}
 use Rattle.rangelists.specs.declared.ranges.Range.the-variants.{Places, Malformed}
 
@@ -12,7 +12,7 @@ pub record Position (text : List ℕ) (value : ℕ) : Type 0 where
   pub shortest : 1 ≤ length text
   pub longest : length text ≤ 20
   pub digits : (i : ℕ) → i < length text → (48 ≤ getD text i 0) × (getD text i 0 ≤ 57)
-  pub value-is : numberOf text ≡ value
+  pub value-is : decimalValue text ≡ value
   pub most : value ≤ 18446744073709551614
 
 -- two such numbers with a hyphen between them, the second no less than the first

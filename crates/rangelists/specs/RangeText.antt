@@ -5,22 +5,22 @@ use mathlib.Core.Bool.{Bool, true, cond, _&&_}
 use mathlib.Core.List.{List, [], _∷_, _++_}
 use lib.Dec.{leb, ltb, eqb}
 use lib.ListN.{length, getD, take, drop, replicate}
-use Rattle.octets.specs.Decimal.{numberOf, decimal}
-use Rattle.octets.specs.Text.{isDigit, all, leading}
+use Rattle.octets.specs.Decimal.{decimalValue, decimal}
+use Rattle.octets.specs.Text.{isDigit, all, leadingCount}
 use Rattle.octets.specs.declared.decimal.Number.{Number}
 use Rattle.octets.specs.declared.decimal.Number.the-variants.{Value, Nothing}
 use Rattle.answers.specs.declared.loaded.Loaded.{Loaded}
 use Rattle.answers.specs.declared.loaded.Loaded.the-variants.{Done, Refused}
 use Rattle.answers.specs.declared.written.Written.{Written}
-use Rattle.answers.specs.Written.{firstNumber, roomNumber, writtenBy, writtenAfter}
+use Rattle.answers.specs.Written.{firstRefusal, roomRefusal, writtenBy, writtenAfter}
 use Rattle.ledger.specs.Pairs.{Pairs, none, pair, size, inRange, join}
 use Rattle.ledger.specs.Ledger.{lengthWrong, obeys, ledgerRefusal, pairsOf, laidOut, capacity}
 use Rattle.rangelists.specs.declared.ranges.Range.{Range}
 use Rattle.rangelists.specs.declared.ranges.Range.the-variants.{Places, Malformed}
 
 -- the largest end, 2 ^ 64 - 2: the place after it is a 64-bit number
-abbrev pub endLimit : ℕ
-endLimit = 18446744073709551614
+abbrev pub lastLimit : ℕ
+lastLimit = 18446744073709551614
 
 -- the most digits that a number may have, leading zeros counted
 abbrev pub digitLimit : ℕ
@@ -30,19 +30,19 @@ digitLimit = 20
 
 -- a number of 1 to 20 digits, at most the largest end
 unfoldable pub isPosition : List ℕ → Bool
-isPosition text = (leb 1 (length text) && leb (length text) digitLimit) && (all isDigit text && leb (numberOf text) endLimit)
+isPosition text = (leb 1 (length text) && leb (length text) digitLimit) && (all isDigit text && leb (decimalValue text) lastLimit)
 
 -- what reading such a number answers
 unfoldable pub positionOf : List ℕ → Number
-positionOf text = cond (isPosition text) (Value (numberOf text)) Nothing
+positionOf text = cond (isPosition text) (Value (decimalValue text)) Nothing
 
 -- all the text between two commas: a number, a hyphen, and a number that is no less. It holds the places from the first up to the second.
 unfoldable pub rangeOf : List ℕ → Range
 rangeOf text =
-    let k = leading isDigit text in
+    let k = leadingCount isDigit text in
     let a = take k text in
     let b = drop (suc k) text in
-    cond (isPosition a && (eqb (getD text k 0) 45 && (isPosition b && leb (numberOf a) (numberOf b)))) (Places (numberOf a) (suc (numberOf b))) Malformed
+    cond (isPosition a && (eqb (getD text k 0) 45 && (isPosition b && leb (decimalValue a) (decimalValue b)))) (Places (decimalValue a) (suc (decimalValue b))) Malformed
 
 -- ---- the list
 
@@ -79,13 +79,13 @@ unfoldable pub rangesOf : ℕ → List ℕ → Merged
 rangesOf r text = mergedFrom r none (parts text)
 
 -- 1 where one of the texts is a range that holds the place p, and 0 where none is
-unfoldable pub heldBy : ℕ → Range → ℕ
-heldBy p Malformed = 0
-heldBy p (Places s e) = inRange s e p
+unfoldable pub rangeContains : ℕ → Range → ℕ
+rangeContains p Malformed = 0
+rangeContains p (Places s e) = inRange s e p
 
-unfoldable pub namedBy : ℕ → List (List ℕ) → ℕ
-namedBy p [] = 0
-namedBy p (t ∷ ts) = max (heldBy p (rangeOf t)) (namedBy p ts)
+unfoldable pub listContains : ℕ → List (List ℕ) → ℕ
+listContains p [] = 0
+listContains p (t ∷ ts) = max (rangeContains p (rangeOf t)) (listContains p ts)
 
 -- ---- the reader: 53, then the first trouble; what it leaves in the ledger
 
@@ -114,16 +114,16 @@ rangesText (pair a b none) = rangeText a b
 rangesText (pair a b (pair c d ps)) = rangeText a b ++ (44 ∷ rangesText (pair c d ps))
 
 -- what is between n bytes and the next range: a comma, unless it is the first
-unfoldable pub comma : ℕ → List ℕ
-comma n = cond (eqb n 0) [] (44 ∷ [])
+unfoldable pub separatorAfter : ℕ → List ℕ
+separatorAfter n = cond (eqb n 0) [] (44 ∷ [])
 
 -- 53, 1 where the ledger breaks its rule, 54 where it is empty, 55 where the lent bytes are too few; 0 where it writes
-unfoldable pub writeRangesNumber : List ℕ → List ℕ → ℕ
-writeRangesNumber ledger out =
-    firstNumber (ledgerRefusal ledger) (cond (eqb (size (pairsOf ledger)) 0) 54 (roomNumber (length (rangesText (pairsOf ledger))) out))
+unfoldable pub writeRangesRefusal : List ℕ → List ℕ → ℕ
+writeRangesRefusal ledger out =
+    firstRefusal (ledgerRefusal ledger) (cond (eqb (size (pairsOf ledger)) 0) 54 (roomRefusal (length (rangesText (pairsOf ledger))) out))
 
 unfoldable pub writeRanges : List ℕ → List ℕ → Written
-writeRanges ledger out = writtenBy (writeRangesNumber ledger out) (length (rangesText (pairsOf ledger)))
+writeRanges ledger out = writtenBy (writeRangesRefusal ledger out) (length (rangesText (pairsOf ledger)))
 
 unfoldable pub writeRangesAfter : List ℕ → List ℕ → List ℕ
-writeRangesAfter ledger out = writtenAfter (writeRangesNumber ledger out) (rangesText (pairsOf ledger)) out
+writeRangesAfter ledger out = writtenAfter (writeRangesRefusal ledger out) (rangesText (pairsOf ledger)) out

@@ -5,7 +5,7 @@ use mathlib.Core.Logic.{_⊎_}
 use mathlib.Core.Bool.{true, false}
 use mathlib.Core.List.{List, _∷_, _++_}
 use lib.ListN.{length}
-use Rattle.octets.specs.Decimal.{inDigits, width}
+use Rattle.octets.specs.Decimal.{inDigits, digitCount}
 use Rattle.answers.specs.Written.{Refuses, Writes}
 use Rattle.ledger.specs.Pairs.{Pairs, none, pair, size}
 use Rattle.ledger.specs.Ledger.{obeys, pairsOf}
@@ -27,6 +27,6 @@ pub record RangeWriting (ledger out : List ℕ) : Type 0 where
 
 -- the text: start and last place of each pair without leading zeros, a hyphen between them, and a comma before the next pair
 pub record RangesText : Type 0 where
-  pub one-pair : (a b : ℕ) → rangesText (pair a b none) ≡ inDigits (width a) a ++ (45 ∷ inDigits (width (b - 1)) (b - 1))
+  pub one-pair : (a b : ℕ) → rangesText (pair a b none) ≡ inDigits (digitCount a) a ++ (45 ∷ inDigits (digitCount (b - 1)) (b - 1))
   pub more-pairs : (a b c d : ℕ) (ps : Pairs)
       → rangesText (pair a b (pair c d ps)) ≡ rangesText (pair a b none) ++ (44 ∷ rangesText (pair c d ps))

@@ -7,14 +7,14 @@ use octets::decimal;
 use octets::decimal::Number;
 use octets::entries;
 use octets::text;
-use octets::text::Kind;
+use octets::text::ByteKind;
 ghost use mathlib.Core.Path.{_≡_};
 ghost use mathlib.Core.Bool.{true};
 ghost use Prim.Native.Nat.{_+_, _≤_, _<_};
 ghost use lib.ListN.{length};
 ghost use lib.Seq.{sets};
 ghost use Rattle.ledger.specs.Ledger.{entryLimit, largest, obeys, pairsOf, capacity};
-ghost use Rattle.rangelists.specs.RangeText.{positionOf, rangeOf, mergeRange, mergedFrom, Represents, merged, parts, readRanges, readRangesAfter, comma, rangeText, rangesText, writeRanges, writeRangesAfter};
+ghost use Rattle.rangelists.specs.RangeText.{positionOf, rangeOf, mergeRange, mergedFrom, Represents, merged, parts, readRanges, readRangesAfter, separatorAfter, rangeText, rangesText, writeRanges, writeRangesAfter};
 ghost use Rattle.answers.specs.WritesAt.{WritesAt};
 
 // What the text between two commas says: the places from start up to end, end not counted, or nothing that is well formed.
@@ -24,14 +24,14 @@ pub enum Range {
 }
 
 // The largest number that a range may name, 2 ^ 64 - 2: the place after it is a 64-bit number.
-const END_LIMIT: u64 = 18446744073709551614;
+const LAST_LIMIT: u64 = 18446744073709551614;
 // The most digits that a number may have, leading zeros counted.
 const DIGIT_LIMIT: usize = 20;
 
 // ---- the writer
 
 // The number of bytes of the range from a up to b.
-fn range_length(a: u64, b: u64) -> usize
+fn range_text_length(a: u64, b: u64) -> usize
     requires { ⌜ 0 < b ⌝ }
     ensures { λ r. ⌜ (r ≡ length (rangeText a b)) × (r ≤ 41) ⌝ }
 {
@@ -56,7 +56,7 @@ fn put_range(out: &mut [u8], at: usize, a: u64, b: u64) -> usize
 // The number of bytes up to the next range where n are written: a comma more, unless it is the first.
 fn after_comma(n: usize) -> usize
     requires { ⌜ n < largest ⌝ }
-    ensures { λ r. ⌜ r ≡ n + length (comma n) ⌝ }
+    ensures { λ r. ⌜ r ≡ n + length (separatorAfter n) ⌝ }
 {
     if n == 0 {
         return 0;
@@ -65,7 +65,7 @@ fn after_comma(n: usize) -> usize
 }
 
 // The number of bytes of a ledger's ranges.
-fn list_length(ledger: &[u64]) -> usize
+fn list_text_length(ledger: &[u64]) -> usize
     requires { ⌜ length (now ledger) ≤ entryLimit ⌝ }
     ensures { λ r. ⌜ r ≡ length (rangesText (pairsOf (now (ledger .entry)))) ⌝ }
 {
@@ -77,7 +77,7 @@ fn list_length(ledger: &[u64]) -> usize
         if b == 0 {
             return n;
         }
-        n = after_comma(n) + range_length(a, b);
+        n = after_comma(n) + range_text_length(a, b);
         i += 2;
     }
     n
@@ -85,8 +85,8 @@ fn list_length(ledger: &[u64]) -> usize
 
 // Writes a comma after n bytes, unless there are none, and answers the place after it.
 fn put_comma(out: &mut [u8], n: usize) -> usize
-    requires { ⌜ n + length (comma n) ≤ length (now out) ⌝ }
-    ensures { λ r. ⌜ WritesAt (now (out .entry)) n (comma n) r (now (out .exit)) ⌝ }
+    requires { ⌜ n + length (separatorAfter n) ≤ length (now out) ⌝ }
+    ensures { λ r. ⌜ WritesAt (now (out .entry)) n (separatorAfter n) r (now (out .exit)) ⌝ }
 {
     if n == 0 {
         return 0;
@@ -121,7 +121,7 @@ pub fn write(ledger: &[u64], out: &mut [u8]) -> Written
     if 0 < k {
         return Written::Refused(k);
     }
-    let n = list_length(ledger);
+    let n = list_text_length(ledger);
     if n == 0 {
         return Written::Refused(54);
     }
@@ -141,14 +141,14 @@ fn read_position(text: &[u8]) -> Number
     if DIGIT_LIMIT < text.len() {
         return Number::Nothing;
     }
-    decimal::read(text, END_LIMIT)
+    decimal::read(text, LAST_LIMIT)
 }
 
 // What all of the text between two commas says.
 fn read_range(text: &[u8]) -> Range
     ensures { λ r. ⌜ r ≡ rangeOf (now (text .entry)) ⌝ }
 {
-    let k = text::leading(Kind::Digit, text);
+    let k = text::leading(ByteKind::Digit, text);
     if text.len() <= k {
         return Range::Malformed;
     }
@@ -191,7 +191,7 @@ fn join_list(text: &[u8], ledger: &mut [u64]) -> u8
 {
     let mut at = 0;
     loop {
-        let end = at + text::leading(Kind::NotComma, &text[at..]);
+        let end = at + text::leading(ByteKind::NotComma, &text[at..]);
         let k = join_text(&text[at..end], ledger);
         if 0 < k {
             return k;

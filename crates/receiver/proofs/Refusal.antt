@@ -8,13 +8,13 @@ use native.Mathlib.Decide.{decLt}
 use borrow.Author.Tests.{lt-ltb, le-leb, lt-leb}
 use lib.Dec.{ltb, eqb}
 use lib.ListN.{length}
-use Rattle.channelchecks.specs.FitReport.{reportWhere}
+use Rattle.channelchecks.specs.FitReport.{reportIf}
 use Rattle.channelchecks.proofs.FitReportFields.{fits-where, used-where, ended-where}
-use Rattle.checks.specs.ReportOf.{reportIn}
+use Rattle.checks.specs.ReportOf.{reportWithFile}
 use Rattle.checks.proofs.ReportOf.{report-in}
 use Rattle.transfer.specs.declared.state.Transfer.{Transfer}
 use Rattle.transfer.specs.Channel.{channelCount, channelAt}
-use Rattle.transfer.specs.Transfer.{usedOf, endedOf, World, world, guess, result, broken, isFinal, verdictOf}
+use Rattle.transfer.specs.Transfer.{usedOf, endedOf, World, world, guess, result, broken, allEnded, verdictOf}
 use Rattle.transfer.specs.Receive.{refused, isGuess, isNonEmpty, refusalOf, receiveOf}
 use Rattle.transfer.specs.Fit.{fits}
 use Rattle.runs.specs.Runs.{takeBytesOn}
@@ -23,18 +23,18 @@ use Rattle.runs.proofs.StateNumbers.{is-ended, not-ended}
 -- ---- what the pass over the channels found
 
 module _ (t : Transfer) (f ledger : List ℕ) where
-  whole-is : reportIn (length f) t ledger ≡ reportWhere (fits (world t f ledger)) t
+  whole-is : reportWithFile (length f) t ledger ≡ reportIf (fits (world t f ledger)) t
   whole-is = report-in (length f) t ledger ∙ (unfold fits in refl)
 
-  pub found-fits : reportIn (length f) t ledger .fits ≡ fits (world t f ledger)
+  pub found-fits : reportWithFile (length f) t ledger .fits ≡ fits (world t f ledger)
   found-fits = ap (λ s. s .fits) whole-is ∙ fits-where (fits (world t f ledger)) t
 
-  pub found-counts : fits (world t f ledger) ≡ true → (reportIn (length f) t ledger .used ≡ usedOf t) × (reportIn (length f) t ledger .ended ≡ endedOf t)
+  pub found-counts : fits (world t f ledger) ≡ true → (reportWithFile (length f) t ledger .used ≡ usedOf t) × (reportWithFile (length f) t ledger .ended ≡ endedOf t)
   found-counts e = (ap (λ s. s .used) whole-is ∙ used-where (fits (world t f ledger)) t e, ap (λ s. s .ended) whole-is ∙ ended-where (fits (world t f ledger)) t e)
 
 -- the verdict by the numbers that the code has
 pub guess-is : (w : World) (ended : ℕ) → ended ≡ endedOf (w .t) → isGuess (verdictOf w) ≡ not (ltb 0 (w .t .fault) || (ltb 0 (w .t .count) && eqb ended (w .t .count)))
-unfolding verdictOf isFinal
+unfolding verdictOf allEnded
 guess-is w ended e = rw e (go (ltb 0 (w .t .fault)) (ltb 0 (w .t .count) && eqb (endedOf (w .t)) (w .t .count)))
   where
     go : (a b : Bool) → isGuess (cond a broken (cond b result guess)) ≡ not (a || b)

@@ -4,6 +4,6 @@ use Rattle.receiver.specs.declared.receive.Answer.{Answer as Answered}
 use Rattle.receiver.specs.declared.receive.Answer.the-variants.{Took, Refused}
 
 -- the bytes taken, or the number of the refusal
-abbrev pub answerOf : Answered → Answer
-answerOf (Took n) = took n
-answerOf (Refused k) = refused k
+abbrev pub toAnswer : Answered → Answer
+toAnswer (Took n) = took n
+toAnswer (Refused k) = refused k

@@ -7,5 +7,5 @@ use Rattle.transfer.specs.declared.state.Transfer.{Transfer}
 use Rattle.transfer.specs.Transfer.{leftOf}
 
 -- claimed bytes less those left, for any transfer and ledger: either sum is cut at the largest 64-bit number
-unfoldable pub storedCut : Transfer → List ℕ → ℕ
-storedCut t ledger = min largest (total (pairsOf ledger)) - min largest (leftOf t)
+unfoldable pub storedSaturating : Transfer → List ℕ → ℕ
+storedSaturating t ledger = min largest (total (pairsOf ledger)) - min largest (leftOf t)

@@ -13,16 +13,16 @@ ghost use mathlib.Core.Bool.{true};
 ghost use mathlib.Core.List.{List};
 ghost use Prim.Native.Nat.{ℕ, _<_};
 ghost use lib.ListN.{length};
-ghost use Rattle.checks.specs.ReportOf.{reportIn};
+ghost use Rattle.checks.specs.ReportOf.{reportWithFile};
 ghost use Rattle.transfer.specs.declared.state.Transfer.{Transfer};
 ghost use Rattle.transfer.specs.Channel.{channelAt};
 ghost use Rattle.transfer.specs.Transfer.{usedOf, endedOf, world, verdictOf};
 ghost use Rattle.transfer.specs.Receive.{isNonEmpty, refusalOf, receiveOf};
 ghost use Rattle.transfer.specs.Fit.{fits};
-ghost use Rattle.verdicts.specs.Verdict.{verdictIs};
+ghost use Rattle.verdicts.specs.Verdict.{toVerdict};
 ghost use Rattle.runs.specs.Runs.{takeBytesOn};
 ghost use Rattle.receiver.specs.declared.receive.Answer.the-variants.{Refused};
-ghost use Rattle.receiver.specs.Answers.{answerOf};
+ghost use Rattle.receiver.specs.Answers.{toAnswer};
 
 #[repr(C)]
 pub struct Receiver {
@@ -45,7 +45,7 @@ pub struct Received {
 // The number by which a call is refused, 0 where it is not: for what FIT found, the transfer's fault and count, the state of the channel,
 // where there is one, and a piece that has bytes or not.
 fn refusal(found: FitReport, fault: u64, count: u64, state: u8, channel: u64, some: bool) -> u8
-    ensures { λ r. ⌜ ((t : Transfer) (file ledger piece : List ℕ) → found ≡ reportIn (length file) t ledger → fault ≡ t .fault → count ≡ t .count → (channel < 64 → state ≡ channelAt t channel .state) → isNonEmpty piece ≡ some → r ≡ refusalOf (world t file ledger) channel piece) ⌝ }
+    ensures { λ r. ⌜ ((t : Transfer) (file ledger piece : List ℕ) → found ≡ reportWithFile (length file) t ledger → fault ≡ t .fault → count ≡ t .count → (channel < 64 → state ≡ channelAt t channel .state) → isNonEmpty piece ≡ some → r ≡ refusalOf (world t file ledger) channel piece) ⌝ }
 {
     if !found.fits {
         return 1;
@@ -77,7 +77,7 @@ fn channel_index(channel: u64) -> usize
 
 // What a refused call answers.
 fn refused(t: Transfer, n: u8) -> Received
-    ensures { λ r. ⌜ (r .receiver .transfer ≡ t) × (r .answer ≡ Refused n) × ((file ledger : List ℕ) → verdictIs (r .verdict) ≡ verdictOf (world t file ledger)) ⌝ }
+    ensures { λ r. ⌜ (r .receiver .transfer ≡ t) × (r .answer ≡ Refused n) × ((file ledger : List ℕ) → toVerdict (r .verdict) ≡ verdictOf (world t file ledger)) ⌝ }
 {
     let shown = verdict::shown(t);
     Received {
@@ -97,7 +97,7 @@ fn taken(
     ledger: &mut [u64],
 ) -> Received
     requires { ⌜ (c < 64) × (fits (world t (now file) (now ledger)) ≡ true) × (found .used ≡ usedOf t) × (found .ended ≡ endedOf t) ⌝ }
-    ensures { λ r. ⌜ ((answerOf (r .answer), world (r .receiver .transfer) (now (file .exit)) (now (ledger .exit))) ≡ takeBytesOn c (world t (now (file .entry)) (now (ledger .entry))) (now (piece .entry)) 0) × (verdictIs (r .verdict) ≡ verdictOf (world (r .receiver .transfer) (now (file .exit)) (now (ledger .exit)))) ⌝ }
+    ensures { λ r. ⌜ ((toAnswer (r .answer), world (r .receiver .transfer) (now (file .exit)) (now (ledger .exit))) ≡ takeBytesOn c (world t (now (file .entry)) (now (ledger .entry))) (now (piece .entry)) 0) × (toVerdict (r .verdict) ≡ verdictOf (world (r .receiver .transfer) (now (file .exit)) (now (ledger .exit)))) ⌝ }
 {
     let k = t.channels[c];
     let o = other_channels::counts_without(t.len, found, k.state);
@@ -123,7 +123,7 @@ impl Receiver {
         file: &mut [u8],
         ledger: &mut [u64],
     ) -> Received
-        ensures { λ r. ⌜ ((answerOf (r .answer), world (r .receiver .transfer) (now (file .exit)) (now (ledger .exit))) ≡ receiveOf (world (self .transfer) (now (file .entry)) (now (ledger .entry))) channel (now (piece .entry))) × (verdictIs (r .verdict) ≡ verdictOf (world (r .receiver .transfer) (now (file .exit)) (now (ledger .exit)))) ⌝ }
+        ensures { λ r. ⌜ ((toAnswer (r .answer), world (r .receiver .transfer) (now (file .exit)) (now (ledger .exit))) ≡ receiveOf (world (self .transfer) (now (file .entry)) (now (ledger .entry))) channel (now (piece .entry))) × (toVerdict (r .verdict) ≡ verdictOf (world (r .receiver .transfer) (now (file .exit)) (now (ledger .exit)))) ⌝ }
     {
         let t = self.transfer;
         let found = fit::whole(t, file.len(), ledger);

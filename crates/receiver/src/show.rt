@@ -9,19 +9,19 @@ ghost use mathlib.Core.Path.{_≡_};
 ghost use mathlib.Core.List.{List};
 ghost use Prim.Native.Nat.{ℕ};
 ghost use Rattle.transfer.specs.Transfer.{world, verdictOf};
-ghost use Rattle.verdicts.specs.Verdict.{verdictIs};
-ghost use Rattle.receiver.specs.Stored.{storedCut};
+ghost use Rattle.verdicts.specs.Verdict.{toVerdict};
+ghost use Rattle.receiver.specs.Stored.{storedSaturating};
 
 impl Receiver {
     pub fn verdict(self) -> Verdict
-        ensures { λ r. ⌜ ((file ledger : List ℕ) → verdictIs r ≡ verdictOf (world (self .transfer) file ledger)) ⌝ }
+        ensures { λ r. ⌜ ((file ledger : List ℕ) → toVerdict r ≡ verdictOf (world (self .transfer) file ledger)) ⌝ }
     {
         verdict::shown(self.transfer)
     }
 
     // The payload bytes stored since start: those claimed less those left in all payloads.
     pub fn stored(self, ledger: &[u64]) -> u64
-        ensures { λ r. ⌜ r ≡ storedCut (self .transfer) (now (ledger .entry)) ⌝ }
+        ensures { λ r. ⌜ r ≡ storedSaturating (self .transfer) (now (ledger .entry)) ⌝ }
     {
         let claimed = rule::total(ledger);
         let left = count::left(self.transfer);

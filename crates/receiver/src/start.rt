@@ -5,7 +5,7 @@ use octets::entries;
 use transfer::state::Channel;
 use transfer::state::Transfer;
 ghost use mathlib.Core.Path.{_≡_};
-ghost use Rattle.transfer.specs.Transfer.{fresh, startNumber, startOf, startAfter};
+ghost use Rattle.transfer.specs.Transfer.{fresh, startRefusal, startOf, startAfter};
 
 // The receiver that start gives, and the number by which it was refused, 0 where it was not.
 pub struct Started {
@@ -36,7 +36,7 @@ fn fresh(len: u64, pairs: u64) -> Transfer
 // For a file of len bytes. 5 where the ledger's length is odd or above 8,192 entries: it stays as it was, and the transfer is that of no
 // bytes and no pairs.
 pub fn start(len: u64, ledger: &mut [u64]) -> Started
-    ensures { λ r. ⌜ (r .refused ≡ startNumber (now (ledger .entry))) × (r .receiver .transfer ≡ startOf len (now (ledger .entry))) × (now (ledger .exit) ≡ startAfter (now (ledger .entry))) ⌝ }
+    ensures { λ r. ⌜ (r .refused ≡ startRefusal (now (ledger .entry))) × (r .receiver .transfer ≡ startOf len (now (ledger .entry))) × (now (ledger .exit) ≡ startAfter (now (ledger .entry))) ⌝ }
 {
     if rule::length_wrong(ledger) {
         return Started {

@@ -7,7 +7,7 @@ use native.Mathlib.Omega.{arith}
 use native.Mathlib.Decide.{decLt}
 use borrow.Author.Tests.{le-leb, lt-leb}
 use lib.Dec.{leb}
-use Rattle.replies.specs.Reply.{between, classOf, number, digit, Classes}
+use Rattle.replies.specs.Reply.{between, classOf, refusalNumber, firstDigit, Classes}
 use Rattle.replies.specs.declared.reply.Class.{Class}
 use Rattle.replies.specs.declared.reply.Class.the-variants.{Preliminary, Completion, Intermediate, Transient, Permanent, Refused}
 
@@ -68,19 +68,19 @@ others code (inr h) =
       past 500 599 code h,
     )
 
-others-refused : (code : ℕ) → (code < 100) ⊎ (599 < code) → (classOf code ≡ Refused 36) × (number (classOf code) ≡ 36) × (digit (classOf code) ≡ 0)
-unfolding number digit
-others-refused code h = let e = others code h in (e, ap number e, ap digit e)
+others-refused : (code : ℕ) → (code < 100) ⊎ (599 < code) → (classOf code ≡ Refused 36) × (refusalNumber (classOf code) ≡ 36) × (firstDigit (classOf code) ≡ 0)
+unfolding refusalNumber firstDigit
+others-refused code h = let e = others code h in (e, ap refusalNumber e, ap firstDigit e)
 
 -- a class whose codes begin with this digit, and which refuses nothing
-hundreds : (code : ℕ) (k : Class) → classOf code ≡ k → number k ≡ 0 → digit k ≡ code / 100 → (digit (classOf code) ≡ code / 100) × (number (classOf code) ≡ 0)
-hundreds code k e n d = (ap digit e ∙ d, ap number e ∙ n)
+hundreds : (code : ℕ) (k : Class) → classOf code ≡ k → refusalNumber k ≡ 0 → firstDigit k ≡ code / 100 → (firstDigit (classOf code) ≡ code / 100) × (refusalNumber (classOf code) ≡ 0)
+hundreds code k e n d = (ap firstDigit e ∙ d, ap refusalNumber e ∙ n)
 
-by-hundreds : (code : ℕ) → 100 ≤ code → code ≤ 599 → (digit (classOf code) ≡ code / 100) × (number (classOf code) ≡ 0)
-unfolding digit number
+by-hundreds : (code : ℕ) → 100 ≤ code → code ≤ 599 → (firstDigit (classOf code) ≡ code / 100) × (refusalNumber (classOf code) ≡ 0)
+unfolding firstDigit refusalNumber
 by-hundreds code h g = go (decLt code 200) (decLt code 300) (decLt code 400) (decLt code 500)
   where
-    go : Dec (code < 200) → Dec (code < 300) → Dec (code < 400) → Dec (code < 500) → (digit (classOf code) ≡ code / 100) × (number (classOf code) ≡ 0)
+    go : Dec (code < 200) → Dec (code < 300) → Dec (code < 400) → Dec (code < 500) → (firstDigit (classOf code) ≡ code / 100) × (refusalNumber (classOf code) ≡ 0)
     go (yes a) b c d = hundreds code Preliminary (preliminary code h (omega arith)) refl (omega arith)
     go (no a) (yes b) c d = hundreds code Completion (completion code (omega arith) (omega arith)) refl (omega arith)
     go (no a) (no b) (yes c) d = hundreds code Intermediate (intermediate code (omega arith) (omega arith)) refl (omega arith)

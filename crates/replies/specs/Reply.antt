@@ -20,22 +20,22 @@ classOf code =
     (cond (between 500 599 code) Permanent (Refused 36)))))
 
 -- document 01's number for each case, 0 where nothing is refused
-unfoldable pub number : Class → ℕ
-number Preliminary = 0
-number Completion = 0
-number Intermediate = 0
-number Transient = 0
-number Permanent = 0
-number (Refused k) = k
+unfoldable pub refusalNumber : Class → ℕ
+refusalNumber Preliminary = 0
+refusalNumber Completion = 0
+refusalNumber Intermediate = 0
+refusalNumber Transient = 0
+refusalNumber Permanent = 0
+refusalNumber (Refused k) = k
 
 -- the first digit of the codes of a class
-unfoldable pub digit : Class → ℕ
-digit Preliminary = 1
-digit Completion = 2
-digit Intermediate = 3
-digit Transient = 4
-digit Permanent = 5
-digit (Refused k) = 0
+unfoldable pub firstDigit : Class → ℕ
+firstDigit Preliminary = 1
+firstDigit Completion = 2
+firstDigit Intermediate = 3
+firstDigit Transient = 4
+firstDigit Permanent = 5
+firstDigit (Refused k) = 0
 
 pub record Classes : Type 0 where
   pub preliminary : (code : ℕ) → 100 ≤ code → code ≤ 199 → classOf code ≡ Preliminary
@@ -44,6 +44,6 @@ pub record Classes : Type 0 where
   pub transient : (code : ℕ) → 400 ≤ code → code ≤ 499 → classOf code ≡ Transient
   pub permanent : (code : ℕ) → 500 ≤ code → code ≤ 599 → classOf code ≡ Permanent
   -- the digit of a code's class is its hundreds, and nothing is refused
-  pub class-is-hundreds : (code : ℕ) → 100 ≤ code → code ≤ 599 → (digit (classOf code) ≡ code / 100) × (number (classOf code) ≡ 0)
+  pub class-is-hundreds : (code : ℕ) → 100 ≤ code → code ≤ 599 → (firstDigit (classOf code) ≡ code / 100) × (refusalNumber (classOf code) ≡ 0)
   -- every other code is refused by 36 and has no class
-  pub others-refused : (code : ℕ) → (code < 100) ⊎ (599 < code) → (classOf code ≡ Refused 36) × (number (classOf code) ≡ 36) × (digit (classOf code) ≡ 0)
+  pub others-refused : (code : ℕ) → (code < 100) ⊎ (599 < code) → (classOf code ≡ Refused 36) × (refusalNumber (classOf code) ≡ 36) × (firstDigit (classOf code) ≡ 0)

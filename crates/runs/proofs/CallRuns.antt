@@ -12,7 +12,7 @@ use Rattle.transfer.specs.declared.state.Transfer.{Transfer}
 use Rattle.transfer.specs.Channel.{channelCount, channelAt, putFault}
 use Rattle.transfer.specs.Transfer.{usedOf, World, world}
 use Rattle.transfer.specs.Receive.{notTaken, took, takeByteIn, takeByte}
-use Rattle.transfer.specs.Fit.{fitsLedger, fits}
+use Rattle.transfer.specs.Fit.{fitsWithoutFile, fits}
 use Rattle.transfer.proofs.ReceivePieces.{bytes-none, bytes-leaves}
 use Rattle.transfer.proofs.Rows.{rows}
 use Rattle.transfer.proofs.FitByChannel.{Together}
@@ -22,9 +22,9 @@ use Rattle.verdicts.specs.Verdict.{countReached}
 use Rattle.runs.specs.Runs.{takeBytesOn, RunOf}
 use Rattle.runs.proofs.StateNumbers.{is-unused, is-ended}
 
-pub fits-parts : (t : Transfer) (file ledger : List ℕ) → fits (world t file ledger) ≡ true → (length file ≡ t .len) × (fitsLedger t ledger ≡ true)
+pub fits-parts : (t : Transfer) (file ledger : List ℕ) → fits (world t file ledger) ≡ true → (length file ≡ t .len) × (fitsWithoutFile t ledger ≡ true)
 unfolding fits
-fits-parts t file ledger e = let a = and-eq-true-iff (eqb (length file) (t .len)) (fitsLedger t ledger) .0 e in (eqb-true (length file) (t .len) (a .0), a .1)
+fits-parts t file ledger e = let a = and-eq-true-iff (eqb (length file) (t .len)) (fitsWithoutFile t ledger) .0 e in (eqb-true (length file) (t .len) (a .0), a .1)
 
 -- ---- runs that take nothing
 

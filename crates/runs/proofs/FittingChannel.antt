@@ -7,7 +7,7 @@ use native.Mathlib.Omega.{arith}
 use lib.ListN.{length, getD, take, drop, replicate, length-append, length-replicate, length-drop, take-append-drop}
 use lib.Seq.{length-take-le, take-take, drop-drop, drop-append-add, drop-append-le, take-at, getD-take, getD-drop, set-getD}
 use Rattle.transfer.specs.declared.state.Channel.{Channel}
-use Rattle.transfer.specs.Channel.{channelCount, heldLimit, header, stateNumber, heldNumber, nextNumber, leftNumber, heldBytes, numbersOf, readState, blank, channelAt, stateAt, putState}
+use Rattle.transfer.specs.Channel.{channelCount, heldLimit, header, stateCode, heldLength, nextPlace, bytesLeft, heldBytes, encodeState, decodeState, blank, channelAt, stateAt, putState}
 use Rattle.transfer.specs.Transfer.{World}
 use Rattle.transfer.proofs.FitChannelKinds.{Stage, resting, collecting, storing, held-within}
 use Rattle.transfer.proofs.FitByChannel.{Together}
@@ -28,16 +28,16 @@ nothing-held [] e = refl
 nothing-held (x ∷ h) e = absurd (omega arith)
 
 module _ (k : Channel) (h : List ℕ) (e : length h ≡ k .held) where
-  numbers-back : Stage k → numbersOf (readState (k .state) h (k .next) (k .left)) ≡ k
-  unfolding numbersOf readState stateNumber heldNumber nextNumber leftNumber
+  numbers-back : Stage k → encodeState (decodeState (k .state) h (k .next) (k .left)) ≡ k
+  unfolding encodeState decodeState stateCode heldLength nextPlace bytesLeft
   numbers-back (resting (inl s) a b d) = rw s (same-numbers 0 0 0 0 0 (k .held) (k .next) (k .left) refl (sym a) (sym b) (sym d))
   numbers-back (resting (inr s) a b d) = rw s (same-numbers 4 0 0 0 4 (k .held) (k .next) (k .left) refl (sym a) (sym b) (sym d))
   numbers-back (collecting s a b d) = rw s (same-numbers 1 (length h) 0 0 1 (k .held) (k .next) (k .left) refl e (sym b) (sym d))
   numbers-back (storing (inl s) a b) = rw s (same-numbers 2 0 (k .next) (k .left) 2 (k .held) (k .next) (k .left) refl (sym a) refl refl)
   numbers-back (storing (inr s) a b) = rw s (same-numbers 3 0 (k .next) (k .left) 3 (k .held) (k .next) (k .left) refl (sym a) refl refl)
 
-  bytes-back : Stage k → heldBytes (readState (k .state) h (k .next) (k .left)) ≡ h ++ replicate (heldLimit - k .held) 0
-  unfolding heldBytes readState
+  bytes-back : Stage k → heldBytes (decodeState (k .state) h (k .next) (k .left)) ≡ h ++ replicate (heldLimit - k .held) 0
+  unfolding heldBytes decodeState
   bytes-back (resting (inl s) a b d) = rw (s, a, nothing-held h (omega arith))
   bytes-back (resting (inr s) a b d) = rw (s, a, nothing-held h (omega arith))
   bytes-back (collecting s a b d) = rw (s, ← e)
@@ -104,7 +104,7 @@ module _ (w : World) (f : Together w) (c : ℕ) (h : c < channelCount) where
 
   -- bytes put after the held ones of a header
   pub filled-is : (bs : List ℕ) → k .held + length bs ≤ heldLimit → withHeldBytesAt (w .t) c bs ≡ putState (w .t) c (header (heldNow ++ bs))
-  unfolding withHeldBytesAt putState numbersOf stateNumber heldNumber nextNumber leftNumber heldBytes
+  unfolding withHeldBytesAt putState encodeState stateCode heldLength nextPlace bytesLeft heldBytes
   filled-is bs l =
       let m : length (heldNow ++ bs) ≡ k .held + length bs = omega (arith, length-append heldNow bs, held-length) in
       let z : List ℕ = replicate (heldLimit - k .held) 0 in

@@ -8,9 +8,9 @@ use native.Mathlib.Decide.{decLt}
 use lib.ListN.{length, getD, set, take}
 use lib.Seq.{sets, take-suc, take-all, length-take-le}
 use Rattle.transfer.specs.declared.state.Transfer.{Transfer}
-use Rattle.transfer.specs.Channel.{channelCount, State, header, payload, ended, stateNumber, numbersOf, blank, stateAt, putState, putFault}
-use Rattle.transfer.specs.Transfer.{oneIfEnded, endedOf, World, world, isFinal}
-use Rattle.transfer.specs.Receive.{Outcome, continues, stops, notTaken, took, stopWithFault, endChannel, beginPayload, storePayloadByte, takeByteIn, takeByte}
+use Rattle.transfer.specs.Channel.{channelCount, State, header, payload, ended, stateCode, encodeState, blank, stateAt, putState, putFault}
+use Rattle.transfer.specs.Transfer.{oneIfEnded, endedOf, World, world, allEnded}
+use Rattle.transfer.specs.Receive.{Outcome, continues, stops, notTaken, took, stopWithFault, endChannel, expectPayload, storePayloadByte, takeByteIn, takeByte}
 use Rattle.transfer.proofs.ChannelReadBack.{Has, get-put, put-put}
 use Rattle.transfer.proofs.Sums.{sum-set}
 use Rattle.transfer.proofs.BlockPayloads.{sets-snoc}
@@ -29,11 +29,11 @@ module _ (t : Transfer) (file claimed : List ℕ) (c : ℕ) (a : Has t c) (p n p
   abbrev was : State
   was = payload p′ n′ e
 
-  not-ended : (q m : ℕ) → oneIfEnded (numbersOf (payload q m e)) ≡ 0
-  unfolding numbersOf stateNumber
+  not-ended : (q m : ℕ) → oneIfEnded (encodeState (payload q m e)) ≡ 0
+  unfolding encodeState stateCode
   not-ended q m = go e
     where
-      go : (b : Bool) → oneIfEnded (numbersOf (payload q m b)) ≡ 0
+      go : (b : Bool) → oneIfEnded (encodeState (payload q m b)) ≡ 0
       go true = refl
       go false = refl
 
@@ -44,12 +44,12 @@ module _ (t : Transfer) (file claimed : List ℕ) (c : ℕ) (a : Has t c) (p n p
         arith,
         not-ended p n,
         not-ended p′ n′,
-        sum-set oneIfEnded blank (t .channels) c (numbersOf now) (a .row),
-        sum-set oneIfEnded blank (t .channels) c (numbersOf was) (a .row),
+        sum-set oneIfEnded blank (t .channels) c (encodeState now) (a .row),
+        sum-set oneIfEnded blank (t .channels) c (encodeState was) (a .row),
       )
 
-  same-final : isFinal (putState t c now) ≡ isFinal (putState t c was)
-  unfolding isFinal
+  same-final : allEnded (putState t c now) ≡ allEnded (putState t c was)
+  unfolding allEnded
   same-final = rw same-ended (unfold putState in refl)
 
   again : (x : State) → putState (putState t c now) c x ≡ putState (putState t c was) c x
@@ -59,9 +59,9 @@ module _ (t : Transfer) (file claimed : List ℕ) (c : ℕ) (a : Has t c) (p n p
   unfolding stopWithFault
   same-faults k = ap (λ u. stops (world (putFault u k c) file claimed)) (again (header []))
 
-  pub same-opens : (q : ℕ) (l : Bool) → beginPayload (at t file claimed c now) c q 0 l ≡ beginPayload (at t file claimed c was) c q 0 l
-  unfolding beginPayload endChannel
-  same-opens q true = rw same-final (ap (λ (v : Outcome World × Outcome World). cond (isFinal (putState t c was)) (v .0) (v .1)) pairs)
+  pub same-opens : (q : ℕ) (l : Bool) → expectPayload (at t file claimed c now) c q 0 l ≡ expectPayload (at t file claimed c was) c q 0 l
+  unfolding expectPayload endChannel
+  same-opens q true = rw same-final (ap (λ (v : Outcome World × Outcome World). cond (allEnded (putState t c was)) (v .0) (v .1)) pairs)
     where
       pairs : _≡_ {A = Outcome World × Outcome World} (stopWithFault (at t file claimed c now) c 20, stops (world (putState (putState t c now) c ended) file claimed)) (stopWithFault (at t file claimed c was) c 20, stops (world (putState (putState t c was) c ended) file claimed))
       pairs = rw (same-faults 20, again ended)
@@ -73,30 +73,30 @@ module _ (w : World) (f : Together w) (c : ℕ) (g : c < channelCount) (p m : �
   has : Has (w .t) c
   has = record { row = omega (arith, f .channels); bytes = omega (arith, f .heads) }
 
-  in-payload : w ≡ at (w .t) (w .lent .file) (w .lent .claimed) c (payload p m e)
-  in-payload = ap (λ x. world x (w .lent .file) (w .lent .claimed)) (sym (put-back w f c g) ∙ ap (putState (w .t) c) s)
+  in-payload : w ≡ at (w .t) (w .lent .file) (w .lent .ledger) c (payload p m e)
+  in-payload = ap (λ x. world x (w .lent .file) (w .lent .ledger)) (sym (put-back w f c g) ∙ ap (putState (w .t) c) s)
 
   -- the last byte of the payload
-  last-byte : (file : List ℕ) (q b : ℕ) → takeByte (at (w .t) file (w .lent .claimed) c (payload q 1 e)) c b ≡ beginPayload (at (w .t) (set file q b) (w .lent .claimed) c (payload q 1 e)) c (suc q) 0 e
+  last-byte : (file : List ℕ) (q b : ℕ) → takeByte (at (w .t) file (w .lent .ledger) c (payload q 1 e)) c b ≡ expectPayload (at (w .t) (set file q b) (w .lent .ledger) c (payload q 1 e)) c (suc q) 0 e
   unfolding takeByte takeByteIn storePayloadByte
   last-byte file q b = rw (get-put (w .t) c has (payload q 1 e))
 
   -- bytes short of the payload's end
-  part-run : (ps : List ℕ) → length ps < m → (v : World) (more : Bool) → continuesOrStops more v ≡ beginPayload (world (w .t) (sets (w .lent .file) p ps) (w .lent .claimed)) c (p + length ps) (m - length ps) e
+  part-run : (ps : List ℕ) → length ps < m → (v : World) (more : Bool) → continuesOrStops more v ≡ expectPayload (world (w .t) (sets (w .lent .file) p ps) (w .lent .ledger)) c (p + length ps) (m - length ps) e
       → (rest : List ℕ) (k : ℕ) → takeBytesOn c w (ps ++ rest) k ≡ cond more (takeBytesOn c v rest (k + length ps)) (took (k + length ps), v)
   part-run ps l v more o rest k =
       ap (λ u. takeBytesOn c u (ps ++ rest) k) in-payload
-      ∙ payload-run ps rest (w .t) (w .lent .file) (w .lent .claimed) c p m k e has l
+      ∙ payload-run ps rest (w .t) (w .lent .file) (w .lent .ledger) c p m k e has l
       ∙ go (m - length ps) (omega arith) more o
     where
-      go : (r : ℕ) → 0 < r → (more : Bool) → continuesOrStops more v ≡ beginPayload (world (w .t) (sets (w .lent .file) p ps) (w .lent .claimed)) c (p + length ps) r e
-          → takeBytesOn c (at (w .t) (sets (w .lent .file) p ps) (w .lent .claimed) c (payload (p + length ps) r e)) rest (k + length ps) ≡ cond more (takeBytesOn c v rest (k + length ps)) (took (k + length ps), v)
+      go : (r : ℕ) → 0 < r → (more : Bool) → continuesOrStops more v ≡ expectPayload (world (w .t) (sets (w .lent .file) p ps) (w .lent .ledger)) c (p + length ps) r e
+          → takeBytesOn c (at (w .t) (sets (w .lent .file) p ps) (w .lent .ledger) c (payload (p + length ps) r e)) rest (k + length ps) ≡ cond more (takeBytesOn c v rest (k + length ps)) (took (k + length ps), v)
       go zero z more o = absurd (omega arith)
-      go (suc r) z true o = ap (λ u. takeBytesOn c u rest (k + length ps)) (sym (same v (at (w .t) (sets (w .lent .file) p ps) (w .lent .claimed) c (payload (p + length ps) (suc r) e)) (o ∙ (unfold beginPayload in refl))))
+      go (suc r) z true o = ap (λ u. takeBytesOn c u rest (k + length ps)) (sym (same v (at (w .t) (sets (w .lent .file) p ps) (w .lent .ledger) c (payload (p + length ps) (suc r) e)) (o ∙ (unfold expectPayload in refl))))
         where
           same : (x y : World) → continues x ≡ continues y → x ≡ y
           same x y q = cc
-      go (suc r) z false o = absurd (differ v (at (w .t) (sets (w .lent .file) p ps) (w .lent .claimed) c (payload (p + length ps) (suc r) e)) (o ∙ (unfold beginPayload in refl)))
+      go (suc r) z false o = absurd (differ v (at (w .t) (sets (w .lent .file) p ps) (w .lent .ledger) c (payload (p + length ps) (suc r) e)) (o ∙ (unfold expectPayload in refl)))
         where
           code : Outcome World → ℕ
           code (continues x) = 0
@@ -107,12 +107,12 @@ module _ (w : World) (f : Together w) (c : ℕ) (g : c < channelCount) (p m : �
           differ x y q = let d : _≡_ {A = ℕ} 1 0 = ap code q in omega (arith, d)
 
   -- all of them
-  whole-run : (j : ℕ) → m ≡ suc j → (ps : List ℕ) → length ps ≡ m → (v : World) (more : Bool) → continuesOrStops more v ≡ beginPayload (world (w .t) (sets (w .lent .file) p ps) (w .lent .claimed)) c (p + m) 0 e
+  whole-run : (j : ℕ) → m ≡ suc j → (ps : List ℕ) → length ps ≡ m → (v : World) (more : Bool) → continuesOrStops more v ≡ expectPayload (world (w .t) (sets (w .lent .file) p ps) (w .lent .ledger)) c (p + m) 0 e
       → (rest : List ℕ) (k : ℕ) → takeBytesOn c w (ps ++ rest) k ≡ cond more (takeBytesOn c v rest (k + m)) (took (k + m), v)
   whole-run j d ps l v more o rest k =
       ap (λ x. takeBytesOn c w x k) (ap (λ x. x ++ rest) ends-with ∙ append-assoc front (b ∷ []) rest)
       ∙ ap (λ u. takeBytesOn c u (front ++ (b ∷ rest)) k) in-payload
-      ∙ payload-run front (b ∷ rest) (w .t) (w .lent .file) (w .lent .claimed) c p m k e has (omega (arith, short))
+      ∙ payload-run front (b ∷ rest) (w .t) (w .lent .file) (w .lent .ledger) c p m k e has (omega (arith, short))
       ∙ rw (short, one-left) (go more o)
     where
       front : List ℕ
@@ -136,28 +136,28 @@ module _ (w : World) (f : Together w) (c : ℕ) (g : c < channelCount) (p m : �
       stored : set (sets (w .lent .file) p (take j ps)) (p + j) (getD ps j 0) ≡ sets (w .lent .file) p ps
       stored = ap (λ q. set (sets (w .lent .file) p (take j ps)) (p + q) (getD ps j 0)) (sym short) ∙ sym (sets-snoc (w .lent .file) p (take j ps) (getD ps j 0)) ∙ ap (sets (w .lent .file) p) (sym ends-with)
 
-      last : takeByte (at (w .t) (sets (w .lent .file) p (take j ps)) (w .lent .claimed) c (payload (p + j) 1 e)) c (getD ps j 0) ≡ beginPayload (world (w .t) (sets (w .lent .file) p ps) (w .lent .claimed)) c (p + m) 0 e
+      last : takeByte (at (w .t) (sets (w .lent .file) p (take j ps)) (w .lent .ledger) c (payload (p + j) 1 e)) c (getD ps j 0) ≡ expectPayload (world (w .t) (sets (w .lent .file) p ps) (w .lent .ledger)) c (p + m) 0 e
       last =
           last-byte (sets (w .lent .file) p (take j ps)) (p + j) (getD ps j 0)
-          ∙ ap (λ x. beginPayload (at (w .t) x (w .lent .claimed) c (payload (p + j) 1 e)) c (suc (p + j)) 0 e) stored
-          ∙ ap (λ q. beginPayload (at (w .t) (sets (w .lent .file) p ps) (w .lent .claimed) c (payload (p + j) 1 e)) c q 0 e) next
-          ∙ same-opens (w .t) (sets (w .lent .file) p ps) (w .lent .claimed) c has (p + j) 1 p m e (p + m) e
-          ∙ ap (λ x. beginPayload (world x (sets (w .lent .file) p ps) (w .lent .claimed)) c (p + m) 0 e) (ap (putState (w .t) c) (sym s) ∙ put-back w f c g)
+          ∙ ap (λ x. expectPayload (at (w .t) x (w .lent .ledger) c (payload (p + j) 1 e)) c (suc (p + j)) 0 e) stored
+          ∙ ap (λ q. expectPayload (at (w .t) (sets (w .lent .file) p ps) (w .lent .ledger) c (payload (p + j) 1 e)) c q 0 e) next
+          ∙ same-opens (w .t) (sets (w .lent .file) p ps) (w .lent .ledger) c has (p + j) 1 p m e (p + m) e
+          ∙ ap (λ x. expectPayload (world x (sets (w .lent .file) p ps) (w .lent .ledger)) c (p + m) 0 e) (ap (putState (w .t) c) (sym s) ∙ put-back w f c g)
 
       count : suc (k + j) ≡ k + m
       count = omega (arith, d)
 
-      go : (more : Bool) → continuesOrStops more v ≡ beginPayload (world (w .t) (sets (w .lent .file) p ps) (w .lent .claimed)) c (p + m) 0 e
-          → takeBytesOn c (at (w .t) (sets (w .lent .file) p (take j ps)) (w .lent .claimed) c (payload (p + j) 1 e)) (getD ps j 0 ∷ rest) (k + j) ≡ cond more (takeBytesOn c v rest (k + m)) (took (k + m), v)
+      go : (more : Bool) → continuesOrStops more v ≡ expectPayload (world (w .t) (sets (w .lent .file) p ps) (w .lent .ledger)) c (p + m) 0 e
+          → takeBytesOn c (at (w .t) (sets (w .lent .file) p (take j ps)) (w .lent .ledger) c (payload (p + j) 1 e)) (getD ps j 0 ∷ rest) (k + j) ≡ cond more (takeBytesOn c v rest (k + m)) (took (k + m), v)
       go true o =
-          bytes-goes (λ u x. takeByte u c x) (at (w .t) (sets (w .lent .file) p (take j ps)) (w .lent .claimed) c (payload (p + j) 1 e)) v (getD ps j 0) rest (k + j) (last ∙ sym o)
+          bytes-goes (λ u x. takeByte u c x) (at (w .t) (sets (w .lent .file) p (take j ps)) (w .lent .ledger) c (payload (p + j) 1 e)) v (getD ps j 0) rest (k + j) (last ∙ sym o)
           ∙ ap (λ n. takeBytesOn c v rest n) count
       go false o =
-          bytes-stops (λ u x. takeByte u c x) (at (w .t) (sets (w .lent .file) p (take j ps)) (w .lent .claimed) c (payload (p + j) 1 e)) v (getD ps j 0) rest (k + j) (last ∙ sym o)
+          bytes-stops (λ u x. takeByte u c x) (at (w .t) (sets (w .lent .file) p (take j ps)) (w .lent .ledger) c (payload (p + j) 1 e)) v (getD ps j 0) rest (k + j) (last ∙ sym o)
           ∙ ap (λ n. (took n, v)) count
 
   pub stored-run : (ps : List ℕ) → 0 < length ps → length ps ≤ m → (v : World) (more : Bool)
-      → continuesOrStops more v ≡ beginPayload (world (w .t) (sets (w .lent .file) p ps) (w .lent .claimed)) c (p + length ps) (m - length ps) e
+      → continuesOrStops more v ≡ expectPayload (world (w .t) (sets (w .lent .file) p ps) (w .lent .ledger)) c (p + length ps) (m - length ps) e
       → (rest : List ℕ) (k : ℕ) → takeBytesOn c w (ps ++ rest) k ≡ cond more (takeBytesOn c v rest (k + length ps)) (took (k + length ps), v)
   stored-run ps h l v more o rest k = go (decLt (length ps) m)
     where

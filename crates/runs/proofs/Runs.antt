@@ -15,8 +15,8 @@ use Rattle.transfer.specs.declared.state.Channel.{Channel}
 use Rattle.transfer.specs.declared.state.Transfer.{Transfer}
 use Rattle.transfer.specs.Channel.{channelCount, heldLimit, header, payload, heldBytes, channelAt, stateAt, putState}
 use Rattle.transfer.specs.Transfer.{usedOf, World, world}
-use Rattle.transfer.specs.Receive.{took, beginPayload, judgeHeader}
-use Rattle.transfer.specs.Fit.{fitsLedger, fits}
+use Rattle.transfer.specs.Receive.{took, expectPayload, applyHeader}
+use Rattle.transfer.specs.Fit.{fitsWithoutFile, fits}
 use Rattle.transfer.proofs.ChannelReadBack.{Has}
 use Rattle.transfer.proofs.FitChannelKinds.{Stage, resting, collecting, storing, held-within, some-left}
 use Rattle.transfer.proofs.FitByChannel.{Together, together-fit}
@@ -26,7 +26,7 @@ use Rattle.channels.specs.NextState.{continuesOrStops}
 use Rattle.verdicts.specs.Verdict.{countReached}
 use Rattle.channels.specs.declared.channel_state.ChannelState.{ChannelState}
 use Rattle.channels.specs.declared.other_channels.OtherChannels.{OtherChannels}
-use Rattle.channels.specs.ChannelState.{numbers, writeBack}
+use Rattle.channels.specs.ChannelState.{channelOf, writeBack}
 use Rattle.channels.specs.OtherChannels.{CountsOthers}
 use Rattle.channels.proofs.WriteBack.{write-back-at, write-back-count-reached}
 use Rattle.runs.specs.Runs.{TakesHeader, takeBytesOn, RunOf}
@@ -37,17 +37,17 @@ use Rattle.runs.proofs.PayloadRuns.{stored-run}
 
 -- ---- what FIT says where a run needs it
 
-fits-with : (t : Transfer) (file ledger : List ℕ) → length file ≡ t .len → fitsLedger t ledger ≡ true → Together (world t file ledger)
+fits-with : (t : Transfer) (file ledger : List ℕ) → length file ≡ t .len → fitsWithoutFile t ledger ≡ true → Together (world t file ledger)
 fits-with t file ledger n e = fits-together (world t file ledger) (unfold fits in rw (eq-eqb (length file) (t .len) n) e)
 
 -- any file of that length will do
-pub fits-some : (t : Transfer) (ledger : List ℕ) → fitsLedger t ledger ≡ true → Together (world t (replicate (t .len) 0) ledger)
+pub fits-some : (t : Transfer) (ledger : List ℕ) → fitsWithoutFile t ledger ≡ true → Together (world t (replicate (t .len) 0) ledger)
 fits-some t ledger e = fits-with t (replicate (t .len) 0) ledger (length-replicate {A = ℕ} (t .len) 0) e
 
-held-within-limit : (t : Transfer) (ledger : List ℕ) (c : ℕ) → c < channelCount → fitsLedger t ledger ≡ true → channelAt t c .held ≤ heldLimit
+held-within-limit : (t : Transfer) (ledger : List ℕ) (c : ℕ) → c < channelCount → fitsWithoutFile t ledger ≡ true → channelAt t c .held ≤ heldLimit
 held-within-limit t ledger c h e = held-within (channelAt t c) (fits-some t ledger e .stages c h)
 
-pub ledger-fits : (t : Transfer) (ledger : List ℕ) → fitsLedger t ledger ≡ true → (obeys ledger ≡ true) × (length ledger ≡ 2 * t .pairs)
+pub ledger-fits : (t : Transfer) (ledger : List ℕ) → fitsWithoutFile t ledger ≡ true → (obeys ledger ≡ true) × (length ledger ≡ 2 * t .pairs)
 ledger-fits t ledger e = let f = fits-some t ledger e in (f .rule, f .entries)
 
 -- a rest lies in the file
@@ -79,10 +79,10 @@ takes-header (suc (suc s)) count used e h = absurd (omega arith)
 
 -- ---- of a channel written back
 
-pub held-at-most : (t : Transfer) (ledger : List ℕ) (c : ℕ) (o : OtherChannels) → CountsOthers t c o → (x : ChannelState) → fitsLedger (writeBack t c x) ledger ≡ true → x .held ≤ heldLimit
+pub held-at-most : (t : Transfer) (ledger : List ℕ) (c : ℕ) (o : OtherChannels) → CountsOthers t c o → (x : ChannelState) → fitsWithoutFile (writeBack t c x) ledger ≡ true → x .held ≤ heldLimit
 held-at-most t ledger c o a x e = omega (arith, held-within-limit (writeBack t c x) ledger c (a .below) e, ap (λ k. k .held) (write-back-at t c o a x))
 
-pub stage-of-channel : (t : Transfer) (c : ℕ) (o : OtherChannels) → CountsOthers t c o → (x : ChannelState) (file ledger : List ℕ) → fits (world (writeBack t c x) file ledger) ≡ true → Stage (numbers x)
+pub stage-of-channel : (t : Transfer) (c : ℕ) (o : OtherChannels) → CountsOthers t c o → (x : ChannelState) (file ledger : List ℕ) → fits (world (writeBack t c x) file ledger) ≡ true → Stage (channelOf x)
 stage-of-channel t c o a x file ledger e = subst Stage (write-back-at t c o a x) (fits-together (world (writeBack t c x) file ledger) e .stages c (a .below))
 
 pub write-back-takes : (t : Transfer) (c : ℕ) (o : OtherChannels) → CountsOthers t c o → (x : ChannelState) → TakesHeader (x .state) (x .count) (o .used)
@@ -93,7 +93,7 @@ write-back-takes t c o a x (inr s) = inr (ap (λ k. k .state) (write-back-at t c
 -- ---- a header's bytes
 
 -- all of the piece is held
-pub held-run-of : (t : Transfer) (ledger : List ℕ) (c : ℕ) (piece : List ℕ) → c < channelCount → fitsLedger t ledger ≡ true → TakesHeader (channelAt t c .state) (t .count) (usedOf t) → 0 < length piece
+pub held-run-of : (t : Transfer) (ledger : List ℕ) (c : ℕ) (piece : List ℕ) → c < channelCount → fitsWithoutFile t ledger ≡ true → TakesHeader (channelAt t c .state) (t .count) (usedOf t) → 0 < length piece
     → channelAt t c .held + length piece ≤ heldLimit → (u : Transfer) → u ≡ withHeldBytesAt t c piece
     → (file : List ℕ) → length file ≡ t .len → RunOf c (world t file ledger) piece (world u file ledger) (length piece) true
 held-run-of t ledger c [] h e s z l u q file n = absurd (omega arith)
@@ -115,9 +115,9 @@ held16-put t c x a l =
     (take-at x (drop (heldLimit * c + heldLimit) (t .heads)) heldLimit l)
 
 -- 16 bytes are held, and the next makes it whole
-pub judged-run-of : (t : Transfer) (ledger ledger′ : List ℕ) (c : ℕ) (piece : List ℕ) (n : ℕ) → c < channelCount → fitsLedger t ledger ≡ true → TakesHeader (channelAt t c .state) (t .count) (usedOf t)
+pub judged-run-of : (t : Transfer) (ledger ledger′ : List ℕ) (c : ℕ) (piece : List ℕ) (n : ℕ) → c < channelCount → fitsWithoutFile t ledger ≡ true → TakesHeader (channelAt t c .state) (t .count) (usedOf t)
     → channelAt t c .held + n ≡ heldLimit → n < length piece → (u : Transfer) → u ≡ withHeldBytesAt t c (take n piece) → (whole : List ℕ) → whole ≡ heldBytesAt u c ++ getD piece n 0 ∷ []
-    → (v : Transfer) (continues : Bool) → ((file : List ℕ) → continuesOrStops continues (world v file ledger′) ≡ judgeHeader (world u file ledger) c whole)
+    → (v : Transfer) (continues : Bool) → ((file : List ℕ) → continuesOrStops continues (world v file ledger′) ≡ applyHeader (world u file ledger) c whole)
     → (file : List ℕ) → length file ≡ t .len → RunOf c (world t file ledger) piece (world v file ledger′) (n + 1) continues
 judged-run-of t ledger ledger′ c piece n h e s l m u q whole r v continues j file i =
     record {
@@ -150,8 +150,8 @@ judged-run-of t ledger ledger′ c piece n h e s l m u q whole r v continues j f
         ∙ held16-put t c (heldNow (world t file ledger) f c h ++ take n piece) (record { row = omega (arith, f .channels); bytes = omega (arith, f .heads) })
         (omega (arith, short, held-length (world t file ledger) f c h, length-append (heldNow (world t file ledger) f c h) (take n piece))))
 
-    judged : continuesOrStops continues (world v file ledger′) ≡ judgeHeader (world (withHeldBytesAt t c (take n piece)) file ledger) c ((heldNow (world t file ledger) f c h ++ take n piece) ++ getD piece n 0 ∷ [])
-    judged = j file ∙ ap (λ x. judgeHeader (world x file ledger) c whole) q ∙ ap (λ x. judgeHeader (world (withHeldBytesAt t c (take n piece)) file ledger) c x) head-is
+    judged : continuesOrStops continues (world v file ledger′) ≡ applyHeader (world (withHeldBytesAt t c (take n piece)) file ledger) c ((heldNow (world t file ledger) f c h ++ take n piece) ++ getD piece n 0 ∷ [])
+    judged = j file ∙ ap (λ x. applyHeader (world x file ledger) c whole) q ∙ ap (λ x. applyHeader (world (withHeldBytesAt t c (take n piece)) file ledger) c x) head-is
 
     all : (rest : List ℕ) (k : ℕ) → takeBytesOn c w (take n piece ++ (getD piece n 0 ∷ rest)) k
         ≡ cond continues (takeBytesOn c (world v file ledger′) rest (k + suc (length (take n piece)))) (took (k + suc (length (take n piece))), world v file ledger′)
@@ -163,7 +163,7 @@ pub stored-run-of : (t : Transfer) (file file′ : List ℕ) (c : ℕ) (k : Chan
     → k .next + k .left ≤ length file → n ≡ min (k .left) (length piece)
     → file′ ≡ take (k .next) file ++ (take n piece ++ drop (k .next + n) file)
     → (v : Transfer) (continues : Bool)
-    → ((f l : List ℕ) → continuesOrStops continues (world v f l) ≡ beginPayload (world t f l) c (k .next + n) (k .left - n) (eqb (k .state) 3))
+    → ((f l : List ℕ) → continuesOrStops continues (world v f l) ≡ expectPayload (world t f l) c (k .next + n) (k .left - n) (eqb (k .state) 3))
     → (ledger : List ℕ) → fits (world t file ledger) ≡ true → RunOf c (world t file ledger) piece (world v file′ ledger) n continues
 stored-run-of t file file′ c k i piece n h z a b m q d v continues o ledger e =
     record {
@@ -188,8 +188,8 @@ stored-run-of t file file′ c k i piece n h z a b m q d v continues o ledger e 
     stored : file′ ≡ sets file (k .next) (take n piece)
     stored = d ∙ sym (sets-eq (take n piece) file (k .next) (omega (arith, short, q, m)) ∙ rw short (append-assoc (take (k .next) file) (take n piece) (drop (k .next + n) file)))
 
-    opened : continuesOrStops continues (world v file′ ledger) ≡ beginPayload (world t (sets file (k .next) (take n piece)) ledger) c (k .next + length (take n piece)) (k .left - length (take n piece)) (eqb (k .state) 3)
-    opened = rw short (o file′ ledger ∙ ap (λ x. beginPayload (world t x ledger) c (k .next + n) (k .left - n) (eqb (k .state) 3)) stored)
+    opened : continuesOrStops continues (world v file′ ledger) ≡ expectPayload (world t (sets file (k .next) (take n piece)) ledger) c (k .next + length (take n piece)) (k .left - length (take n piece)) (eqb (k .state) 3)
+    opened = rw short (o file′ ledger ∙ ap (λ x. expectPayload (world t x ledger) c (k .next + n) (k .left - n) (eqb (k .state) 3)) stored)
 
     all : (rest : List ℕ) (j : ℕ) → takeBytesOn c (world t file ledger) (take n piece ++ rest) j
         ≡ cond continues (takeBytesOn c (world v file′ ledger) rest (j + length (take n piece))) (took (j + length (take n piece)), world v file′ ledger)

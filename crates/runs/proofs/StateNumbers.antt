@@ -8,7 +8,7 @@ use native.Mathlib.Omega.{arith}
 use lib.Dec.{eqb}
 use lib.ListN.{take, drop}
 use Rattle.transfer.specs.declared.state.Transfer.{Transfer}
-use Rattle.transfer.specs.Channel.{heldLimit, unused, header, payload, ended, readState, channelAt, stateAt}
+use Rattle.transfer.specs.Channel.{heldLimit, unused, header, payload, ended, decodeState, channelAt, stateAt}
 use Rattle.transfer.specs.Receive.{isEnded}
 
 pub in-payload : (s : ℕ) → 1 < s → s < 4 → (s ≡ 2) ⊎ (s ≡ 3)
@@ -21,21 +21,21 @@ in-payload (suc (suc (suc (suc s)))) a b = absurd (omega arith)
 -- ---- as it is read, with the bytes held
 
 module _ (h : List ℕ) (n m : ℕ) where
-  reads-payload : (s : ℕ) → (s ≡ 2) ⊎ (s ≡ 3) → readState s h n m ≡ payload n m (eqb s 3)
-  unfolding readState
+  reads-payload : (s : ℕ) → (s ≡ 2) ⊎ (s ≡ 3) → decodeState s h n m ≡ payload n m (eqb s 3)
+  unfolding decodeState
   reads-payload s (inl e) = rw e
   reads-payload s (inr e) = rw e
 
-  reads-ended : (s : ℕ) → 4 ≤ s → readState s h n m ≡ ended
-  unfolding readState
+  reads-ended : (s : ℕ) → 4 ≤ s → decodeState s h n m ≡ ended
+  unfolding decodeState
   reads-ended zero a = absurd (omega arith)
   reads-ended (suc zero) a = absurd (omega arith)
   reads-ended (suc (suc zero)) a = absurd (omega arith)
   reads-ended (suc (suc (suc zero))) a = absurd (omega arith)
   reads-ended (suc (suc (suc (suc s)))) a = refl
 
-  reads-alive : (s : ℕ) → s < 4 → isEnded (readState s h n m) ≡ false
-  unfolding readState
+  reads-alive : (s : ℕ) → s < 4 → isEnded (decodeState s h n m) ≡ false
+  unfolding decodeState
   reads-alive zero a = refl
   reads-alive (suc zero) a = refl
   reads-alive (suc (suc zero)) a = refl
@@ -46,11 +46,11 @@ module _ (h : List ℕ) (n m : ℕ) where
 
 module _ (t : Transfer) (c : ℕ) where
   pub is-unused : channelAt t c .state ≡ 0 → stateAt t c ≡ unused
-  unfolding stateAt readState
+  unfolding stateAt decodeState
   is-unused e = rw e
 
   pub is-header : channelAt t c .state ≡ 1 → stateAt t c ≡ header (take (channelAt t c .held) (drop (heldLimit * c) (t .heads)))
-  unfolding stateAt readState
+  unfolding stateAt decodeState
   is-header e = rw e
 
   pub is-payload : 1 < channelAt t c .state → channelAt t c .state < 4 → stateAt t c ≡ payload (channelAt t c .next) (channelAt t c .left) (eqb (channelAt t c .state) 3)

@@ -12,7 +12,7 @@ ghost use Prim.Native.Nat.{ℕ, _+_, _-_, _≤_, _<_};
 ghost use lib.ListN.{length};
 ghost use Rattle.transfer.specs.declared.state.Transfer.{Transfer};
 ghost use Rattle.transfer.specs.Transfer.{world};
-ghost use Rattle.transfer.specs.Fit.{fitsLedger};
+ghost use Rattle.transfer.specs.Fit.{fitsWithoutFile};
 ghost use Rattle.channels.specs.ChannelState.{writeBack};
 ghost use Rattle.channels.specs.HeldBytes.{withHeldBytes};
 ghost use Rattle.channels.specs.OtherChannels.{CountsOthers};
@@ -69,7 +69,7 @@ fn judge_run(
     ledger: &mut [u64],
 ) -> RunResult
     requires { ⌜ (more < length (now piece)) × (more ≡ 16 - x .held) ⌝ }
-    ensures { λ r. ⌜ (r .taken ≡ more + 1) × ((t : Transfer) (file : List ℕ) → CountsOthers t c o → TakesHeader (x .state) (x .count) (o .used) → fitsLedger (writeBack t c x) (now (ledger .entry)) ≡ true → length file ≡ t .len → RunOf c (world (writeBack t c x) file (now (ledger .entry))) (now (piece .entry)) (world (writeBack t c (r .channel)) file (now (ledger .exit))) (r .taken) (r .continues)) ⌝ }
+    ensures { λ r. ⌜ (r .taken ≡ more + 1) × ((t : Transfer) (file : List ℕ) → CountsOthers t c o → TakesHeader (x .state) (x .count) (o .used) → fitsWithoutFile (writeBack t c x) (now (ledger .entry)) ≡ true → length file ≡ t .len → RunOf c (world (writeBack t c x) file (now (ledger .entry))) (now (piece .entry)) (world (writeBack t c (r .channel)) file (now (ledger .exit))) (r .taken) (r .continues)) ⌝ }
 {
     let y = hold_bytes(x, &piece[..more]);
     let whole = whole_header(y, piece[more]);
@@ -91,7 +91,7 @@ pub fn header_run(
     ledger: &mut [u64],
 ) -> RunResult
     requires { ⌜ 0 < length (now piece) ⌝ }
-    ensures { λ r. ⌜ (0 < r .taken) × (r .taken ≤ length (now (piece .entry))) × ((t : Transfer) (file : List ℕ) → CountsOthers t c o → TakesHeader (x .state) (x .count) (o .used) → fitsLedger (writeBack t c x) (now (ledger .entry)) ≡ true → length file ≡ t .len → RunOf c (world (writeBack t c x) file (now (ledger .entry))) (now (piece .entry)) (world (writeBack t c (r .channel)) file (now (ledger .exit))) (r .taken) (r .continues)) ⌝ }
+    ensures { λ r. ⌜ (0 < r .taken) × (r .taken ≤ length (now (piece .entry))) × ((t : Transfer) (file : List ℕ) → CountsOthers t c o → TakesHeader (x .state) (x .count) (o .used) → fitsWithoutFile (writeBack t c x) (now (ledger .entry)) ≡ true → length file ≡ t .len → RunOf c (world (writeBack t c x) file (now (ledger .entry))) (now (piece .entry)) (world (writeBack t c (r .channel)) file (now (ledger .exit))) (r .taken) (r .continues)) ⌝ }
 {
     let more = room(x);
     if more < piece.len() {

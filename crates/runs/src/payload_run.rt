@@ -40,7 +40,7 @@ pub fn payload_run(
     let n = lesser(x.left, piece.len());
     copy::store(file, x.next as usize, piece, n);
     let place = num::wrapping_add_u64(x.next, n as u64);
-    let next = next_state::open(x, c, o, place, x.left - n as u64, x.state == 3);
+    let next = next_state::expect_payload(x, c, o, place, x.left - n as u64, x.state == 3);
     let after = next.channel;
     RunResult {
         channel: after,

@@ -7,7 +7,7 @@ use native.Mathlib.Numerals.{add-one}
 use borrow.Rule.Slice.PartMut.{putMid, midOf, mid-len}
 use lib.ListN.{length, getD, set, take, drop, length-set, length-append}
 use lib.Seq.{drop-cons, drop-drop, take-suc-set, append-snoc, length-take-le, take-at}
-use Rattle.octets.specs.Digits.{fromLittle, toLittle}
+use Rattle.octets.specs.Digits.{fromLittleEndian, toLittleEndian}
 use Rattle.octets.proofs.Digits.{length-toLittle}
 use Rattle.savedledgers.specs.Numbers.{numbersIn, numberBytes}
 
@@ -17,7 +17,7 @@ length-numbersIn zero bytes = refl
 length-numbersIn (suc n) bytes = ap suc (length-numbersIn n (drop 8 bytes))
 
 -- the entry after those that hold their numbers
-pub read-turn : (bytes es : List ℕ) (i v : ℕ) → i < length es → v ≡ fromLittle 256 (take 8 (drop (8 * i) bytes))
+pub read-turn : (bytes es : List ℕ) (i v : ℕ) → i < length es → v ≡ fromLittleEndian 256 (take 8 (drop (8 * i) bytes))
     → take (i + 1) (set es i v) ++ numbersIn (length (set es i v) - (i + 1)) (drop (8 * (i + 1)) bytes)
     ≡ take i es ++ numbersIn (length es - i) (drop (8 * i) bytes)
 unfolding numbersIn
@@ -28,13 +28,13 @@ read-turn bytes es i v h e =
 
 -- the number after those that are written
 pub write-turn : (ns out ys : List ℕ) (i : ℕ) → i < length ns → 8 * i + 8 ≤ length out
-    → ys ≡ toLittle 256 (length (midOf (8 * i) (8 * i + 8 - 8 * i) out)) (getD ns i 0)
+    → ys ≡ toLittleEndian 256 (length (midOf (8 * i) (8 * i + 8 - 8 * i) out)) (getD ns i 0)
     → take (8 * (i + 1)) (putMid (8 * i) (8 * i + 8 - 8 * i) out ys) ++ numberBytes (drop (i + 1) ns)
     ≡ take (8 * i) out ++ numberBytes (drop i ns)
 unfolding numberBytes
 write-turn ns out ys i h g w =
     let a = 8 * i in
-    let e : ys ≡ toLittle 256 8 (getD ns i 0) = w ∙ ap (λ (k : ℕ). toLittle 256 k (getD ns i 0)) (mid-len a (a + 8) out g ∙ omega arith) in
+    let e : ys ≡ toLittleEndian 256 8 (getD ns i 0) = w ∙ ap (λ (k : ℕ). toLittleEndian 256 k (getD ns i 0)) (mid-len a (a + 8) out g ∙ omega arith) in
     let p = take a out in
     let t = drop (a + 8 - a) (drop a out) in
     let n : length (p ++ ys) ≡ 8 * (i + 1) =

@@ -8,9 +8,9 @@ use borrow.Author.Tests.{leb-true, ne-eqb}
 use lib.Dec.{leb, ltb, eqb}
 use lib.ListN.{length, take, drop, length-append, length-drop, take-append-drop}
 use lib.Seq.{drop-drop, take-at, drop-at, length-take-le}
-use Rattle.octets.specs.Digits.{Below, fromLittle, toLittle}
+use Rattle.octets.specs.Digits.{AllBelow, fromLittleEndian, toLittleEndian}
 use Rattle.octets.proofs.Digits.{length-toLittle, below-take, below-drop, little-reads-back, little-writes-back}
-use Rattle.ledger.specs.Pairs.{Pairs, none, pair, size, Ruled, endsAtMost, isRuled}
+use Rattle.ledger.specs.Pairs.{Pairs, none, pair, size, ObeyFrom, endsAtMost, obeyFrom}
 use Rattle.ledger.specs.Ledger.{largest, mayFollow, pairsOf}
 use Rattle.ledger.proofs.LedgerPairAt.{lowest, lowest-follows}
 use Rattle.ledger.proofs.PairsAsNumbers.{flat}
@@ -21,17 +21,17 @@ use Rattle.savedledgers.specs.Saved.{pairsIn, pairBytes}
 
 -- the k-th pair of a body is looked at
 pub isRuled-turn : (body : List ℕ) (n k end a b : ℕ) → k < n
-    → a ≡ fromLittle 256 (take 8 (drop (16 * k) body)) → b ≡ fromLittle 256 (take 8 (drop (16 * k + 8) body))
-    → isRuled (lowest end) (pairsIn (n - k) (drop (16 * k) body))
-    ≡ mayFollow end a b && isRuled (suc b) (pairsIn (n - (k + 1)) (drop (16 * (k + 1)) body))
-unfolding isRuled pairsIn
+    → a ≡ fromLittleEndian 256 (take 8 (drop (16 * k) body)) → b ≡ fromLittleEndian 256 (take 8 (drop (16 * k + 8) body))
+    → obeyFrom (lowest end) (pairsIn (n - k) (drop (16 * k) body))
+    ≡ mayFollow end a b && obeyFrom (suc b) (pairsIn (n - (k + 1)) (drop (16 * (k + 1)) body))
+unfolding obeyFrom pairsIn
 isRuled-turn body n k end a b h e g =
     let m : n - k ≡ suc (n - (k + 1)) = omega arith in
     let q : 16 * (k + 1) ≡ 16 * k + 16 = omega arith in
     rw (m, drop-drop 8 (16 * k) body, drop-drop 16 (16 * k) body, ← e, ← g, q, ← lowest-follows end a b) (sym (and-assoc (leb (lowest end) a) (ltb a b) _))
 
 -- a used pair ends above 0
-pub isRuled-next : (a b : ℕ) (ps : Pairs) → a < b → isRuled (suc b) ps ≡ isRuled (lowest b) ps
+pub isRuled-next : (a b : ℕ) (ps : Pairs) → a < b → obeyFrom (suc b) ps ≡ obeyFrom (lowest b) ps
 isRuled-next a b ps h = rw (ne-eqb b 0 (omega arith))
 
 -- ---- lengths
@@ -78,29 +78,29 @@ flat-used (a ∷ b ∷ rest) = go (eqb b 0) (flat-used rest)
 -- ---- there and back
 
 -- a number of 64 bits before other bytes
-eight-back : (n : ℕ) (t : List ℕ) → n < 2 ^ 64 → fromLittle 256 (take 8 (toLittle 256 8 n ++ t)) ≡ n
-eight-back n t h = rw (take-at (toLittle 256 8 n) t 8 (length-toLittle 256 8 n)) (little-reads-back 256 8 n (omega arith) h)
+eight-back : (n : ℕ) (t : List ℕ) → n < 2 ^ 64 → fromLittleEndian 256 (take 8 (toLittleEndian 256 8 n ++ t)) ≡ n
+eight-back n t h = rw (take-at (toLittleEndian 256 8 n) t 8 (length-toLittle 256 8 n)) (little-reads-back 256 8 n (omega arith) h)
 
-pub pairsIn-pairBytes : (lo : ℕ) (ps : Pairs) → Ruled lo ps → endsAtMost largest ps ≡ true → pairsIn (size ps) (pairBytes ps) ≡ ps
+pub pairsIn-pairBytes : (lo : ℕ) (ps : Pairs) → ObeyFrom lo ps → endsAtMost largest ps ≡ true → pairsIn (size ps) (pairBytes ps) ≡ ps
 unfolding pairsIn pairBytes size endsAtMost
 pairsIn-pairBytes lo none c h = refl
 pairsIn-pairBytes lo (pair a b ps) c h =
     let q = and-eq-true-iff (leb b largest) (endsAtMost largest ps) .0 h in
     let l = leb-true b largest (q .0) in
     let n = length-toLittle 256 8 a in
-    let t = toLittle 256 8 b ++ pairBytes ps in
-    let s : drop 8 (toLittle 256 8 a ++ t) ≡ t = drop-at (toLittle 256 8 a) t 8 n in
-    let u : drop 16 (toLittle 256 8 a ++ t) ≡ pairBytes ps =
-    sym (drop-drop 8 8 (toLittle 256 8 a ++ t)) ∙ rw s (drop-at (toLittle 256 8 b) (pairBytes ps) 8 (length-toLittle 256 8 b)) in
+    let t = toLittleEndian 256 8 b ++ pairBytes ps in
+    let s : drop 8 (toLittleEndian 256 8 a ++ t) ≡ t = drop-at (toLittleEndian 256 8 a) t 8 n in
+    let u : drop 16 (toLittleEndian 256 8 a ++ t) ≡ pairBytes ps =
+    sym (drop-drop 8 8 (toLittleEndian 256 8 a ++ t)) ∙ rw s (drop-at (toLittleEndian 256 8 b) (pairBytes ps) 8 (length-toLittle 256 8 b)) in
     cc (eight-back a t (omega (arith, c .1)), eight-back b (pairBytes ps) (omega arith), ap (pairsIn (size ps)) u, pairsIn-pairBytes (suc b) ps (c .2) (q .1))
 
 -- eight bytes, read and written
-eight-same : (bs : List ℕ) → Below 256 bs → 8 ≤ length bs → toLittle 256 8 (fromLittle 256 (take 8 bs)) ≡ take 8 bs
+eight-same : (bs : List ℕ) → AllBelow 256 bs → 8 ≤ length bs → toLittleEndian 256 8 (fromLittleEndian 256 (take 8 bs)) ≡ take 8 bs
 eight-same bs b h =
     let n : length (take 8 bs) ≡ 8 = length-take-le 8 bs h in
     rw n at (little-writes-back 256 (take 8 bs) (below-take 256 8 bs b))
 
-pub pairBytes-pairsIn : (n : ℕ) (body : List ℕ) → Below 256 body → length body ≡ 16 * n → pairBytes (pairsIn n body) ≡ body
+pub pairBytes-pairsIn : (n : ℕ) (body : List ℕ) → AllBelow 256 body → length body ≡ 16 * n → pairBytes (pairsIn n body) ≡ body
 unfolding pairsIn pairBytes
 pairBytes-pairsIn zero [] b h = refl
 pairBytes-pairsIn zero (x ∷ body) b h = absurd (omega arith)

@@ -6,19 +6,19 @@ use mathlib.Core.List.{List}
 use native.Mathlib.Omega.{arith}
 use lib.ListN.{length, take, drop}
 use lib.Seq.{take-at}
-use Rattle.octets.specs.Digits.{Below, toLittle}
+use Rattle.octets.specs.Digits.{AllBelow, toLittleEndian}
 use Rattle.octets.proofs.Digits.{below-drop}
 use Rattle.answers.specs.declared.loaded.Loaded.the-variants.{Done}
 use Rattle.answers.specs.declared.written.Written.the-variants.{Bytes}
-use Rattle.ledger.specs.Pairs.{Pairs, size, Ruled, endsAtMost, isRuled}
+use Rattle.ledger.specs.Pairs.{Pairs, size, ObeyFrom, endsAtMost, obeyFrom}
 use Rattle.ledger.specs.Ledger.{largest, lengthWrong, capacity, obeys, pairsOf, laidOut}
 use Rattle.ledger.proofs.LedgerLayout.{length-laidOut, pairsOf-laidOut, rule-laidOut, rule-ruled, laidOut-pairsOf, size-pairsOf}
 use Rattle.ledger.proofs.LedgerSizes.{length-right, length-fits}
 use Rattle.ledger.proofs.IsRuled.{ruled-isRuled, isRuled-ruled}
 use Rattle.ledger.proofs.LedgerRefusal.{refusal-none}
-use Rattle.savedledgers.specs.Saved.{kindOne, pairBytes, framed, bodyOf, frameNumber, savedPairs, readSavedNumber, readSaved, readSavedAfter, savedOf, writeSaved, writeSavedAfter}
+use Rattle.savedledgers.specs.Saved.{kindOne, pairBytes, framed, bodyOf, frameRefusal, savedPairs, readSavedRefusal, readSaved, readSavedAfter, savedOf, writeSaved, writeSavedAfter}
 use Rattle.savedledgers.specs.SavedReading.{Reads}
-use Rattle.savedledgers.specs.SavedRoundTrip.{Rewrites, SavedRoundTrip}
+use Rattle.savedledgers.specs.SavedRoundTrip.{WritesBack, SavedRoundTrip}
 use Rattle.savedledgers.proofs.SavedBody.{size-pairsIn, length-pairBytes, pairsIn-pairBytes, pairBytes-pairsIn}
 use Rattle.savedledgers.proofs.SavedFrame.{body-back, frame-back, framed-same}
 use Rattle.savedledgers.proofs.SavedReading.{Sound, number-sound, number-none, reads-done, reads}
@@ -26,7 +26,7 @@ use Rattle.savedledgers.proofs.SavedWriting.{number-0, length-savedOf, 
 
 -- ---- saved and read
 
-module _ (ps : Pairs) (ruled : Ruled 0 ps) (ends : endsAtMost largest ps ≡ true) where
+module _ (ps : Pairs) (ruled : ObeyFrom 0 ps) (ends : endsAtMost largest ps ≡ true) where
   saved-pairs : savedPairs (savedOf ps) ≡ ps
   unfolding savedOf
   saved-pairs =
@@ -38,9 +38,9 @@ module _ (ps : Pairs) (ruled : Ruled 0 ps) (ends : endsAtMost largest ps ≡ tru
   pairs-back m lengths few room =
       let h = savedOf ps in
       let l = length-pairBytes ps in
-      let frame : frameNumber kindOne h ≡ 0 = frame-back kindOne (pairBytes ps) (omega arith) (omega arith) in
+      let frame : frameRefusal kindOne h ≡ 0 = frame-back kindOne (pairBytes ps) (omega arith) (omega arith) in
       let body : length (bodyOf h) ≡ 16 * size ps = ap length (body-back kindOne (pairBytes ps)) ∙ l in
-      let order : isRuled 0 (savedPairs h) ≡ true = rw saved-pairs (ruled-isRuled 0 ps ruled) in
+      let order : obeyFrom 0 (savedPairs h) ≡ true = rw saved-pairs (ruled-isRuled 0 ps ruled) in
       rw saved-pairs at (reads h m (number-none h m lengths frame (omega arith) order (omega arith)))
 
 module _ (l out m : List ℕ) (n : ℕ) (e : writeSaved l out ≡ Bytes n) (ends : endsAtMost largest (pairsOf l) ≡ true) where
@@ -63,8 +63,8 @@ module _ (l out m : List ℕ) (n : ℕ) (e : writeSaved l out ≡ Bytes n) (ends
 
 -- ---- read and saved
 
-module _ (h m : List ℕ) (bytes : Below 256 h) (sound : Sound h m) where
-  read-ruled : Ruled 0 (savedPairs h)
+module _ (h m : List ℕ) (bytes : AllBelow 256 h) (sound : Sound h m) where
+  read-ruled : ObeyFrom 0 (savedPairs h)
   read-ruled = isRuled-ruled 0 (savedPairs h) (sound .order)
 
   pairs-same : pairsOf (laidOut (capacity m) (savedPairs h)) ≡ savedPairs h
@@ -77,7 +77,7 @@ module _ (h m : List ℕ) (bytes : Below 256 h) (sound : Sound h m) where
       let n : length (bodyOf h) ≡ 16 * (length (bodyOf h) / 16) = omega (arith, sound .parts) in
       rw (pairBytes-pairsIn (length (bodyOf h) / 16) (bodyOf h) (below-drop 256 6 h bytes) n) (framed-same kindOne h bytes (sound .frame))
 
-  rewrites : Rewrites h (laidOut (capacity m) (savedPairs h))
+  rewrites : WritesBack h (laidOut (capacity m) (savedPairs h))
   unfolding obeys
   rewrites =
       let l = laidOut (capacity m) (savedPairs h) in
@@ -92,11 +92,11 @@ module _ (h m : List ℕ) (bytes : Below 256 h) (sound : Sound h m) where
         writes = λ out g. rw same at (writes-saved l out (number-0 l out (refusal-none l lengths ruled) (omega (arith, size-is, g))));
       }
 
-writes-read : (h m : List ℕ) → Below 256 h → readSavedNumber h m ≡ 0 → Rewrites h (readSavedAfter h m)
+writes-read : (h m : List ℕ) → AllBelow 256 h → readSavedRefusal h m ≡ 0 → WritesBack h (readSavedAfter h m)
 writes-read h m b z = rw (reads-done h m z .1) (rewrites h m b (number-sound h m z))
 
 pub saved-round-trip : SavedRoundTrip
-unfolding savedOf framed pairBytes toLittle
+unfolding savedOf framed pairBytes toLittleEndian
 saved-round-trip =
     record {
       reads-what-was-saved = reads-saved;

@@ -9,14 +9,14 @@ use borrow.Rule.Slice.PartMut.{putMid}
 use lib.ListN.{length, take, drop, length-append}
 use lib.Seq.{take-at, drop-at, drop-drop}
 use Rattle.answers.specs.declared.written.Written.the-variants.{Bytes}
-use Rattle.answers.specs.Written.{roomNumber, Refuses}
+use Rattle.answers.specs.Written.{roomRefusal, Refuses}
 use Rattle.answers.proofs.WrittenBy.{first-some, first-none, first-zero, room-short, room-enough, written, written-only, refuses, writes}
 use Rattle.ledger.specs.Pairs.{Pairs, size}
 use Rattle.ledger.specs.Ledger.{lengthWrong, obeys, pairsOf, ledgerRefusal}
 use Rattle.ledger.proofs.LedgerSizes.{length-wrong}
 use Rattle.ledger.proofs.LedgerRefusal.{refusal-53, refusal-1, refusal-none, refusal-zero}
 use Rattle.savedledgers.specs.Numbers.{numberBytes}
-use Rattle.savedledgers.specs.Saved.{kindOne, frameOf, pairBytes, savedOf, writeSavedNumber, writeSaved, writeSavedAfter, framed}
+use Rattle.savedledgers.specs.Saved.{kindOne, frameOf, pairBytes, savedOf, writeSavedRefusal, writeSaved, writeSavedAfter, framed}
 use Rattle.savedledgers.specs.SavedWriting.{SavedWriting, SavedBytes}
 use Rattle.savedledgers.proofs.SavedBody.{length-pairBytes, flat-used, pairBytes-flat}
 use Rattle.savedledgers.proofs.SavedFrame.{framed-is, length-frameOf}
@@ -33,24 +33,24 @@ length-savedOf ps =
 -- ---- the number of a refusal
 
 module _ (ledger out : List ℕ) where
-  pub number-refused : (k : ℕ) → ledgerRefusal ledger ≡ k → 0 < k → writeSavedNumber ledger out ≡ k
-  unfolding writeSavedNumber
+  pub number-refused : (k : ℕ) → ledgerRefusal ledger ≡ k → 0 < k → writeSavedRefusal ledger out ≡ k
+  unfolding writeSavedRefusal
   number-refused k e h = first-some (ledgerRefusal ledger) _ (omega arith) ∙ e
 
   module _ (accepted : ledgerRefusal ledger ≡ 0) where
-    only-room : writeSavedNumber ledger out ≡ roomNumber (6 + 16 * size (pairsOf ledger)) out
-    unfolding writeSavedNumber
+    only-room : writeSavedRefusal ledger out ≡ roomRefusal (6 + 16 * size (pairsOf ledger)) out
+    unfolding writeSavedRefusal
     only-room = first-none (ledgerRefusal ledger) _ accepted ∙ rw (length-savedOf (pairsOf ledger))
 
-    pub number-55 : length out < 6 + 16 * size (pairsOf ledger) → writeSavedNumber ledger out ≡ 55
+    pub number-55 : length out < 6 + 16 * size (pairsOf ledger) → writeSavedRefusal ledger out ≡ 55
     number-55 h = only-room ∙ room-short _ out h
 
-    pub number-0 : 6 + 16 * size (pairsOf ledger) ≤ length out → writeSavedNumber ledger out ≡ 0
+    pub number-0 : 6 + 16 * size (pairsOf ledger) ≤ length out → writeSavedRefusal ledger out ≡ 0
     number-0 h = only-room ∙ room-enough _ out h
 
 -- ---- the answer and the lent bytes
 
-pub writes-saved : (ledger out : List ℕ) → writeSavedNumber ledger out ≡ 0 → let saved = savedOf (pairsOf ledger) in
+pub writes-saved : (ledger out : List ℕ) → writeSavedRefusal ledger out ≡ 0 → let saved = savedOf (pairsOf ledger) in
     (writeSaved ledger out ≡ Bytes (length saved)) × (writeSavedAfter ledger out ≡ saved ++ drop (length saved) out)
 unfolding writeSaved writeSavedAfter
 writes-saved ledger out e =
@@ -65,9 +65,9 @@ pub record Accepted (ledger out : List ℕ) (n : ℕ) : Type 0 where
   pub after : writeSavedAfter ledger out ≡ savedOf (pairsOf ledger) ++ drop (length (savedOf (pairsOf ledger))) out
 
 pub accepted : (ledger out : List ℕ) (n : ℕ) → writeSaved ledger out ≡ Bytes n → Accepted ledger out n
-unfolding writeSaved writeSavedNumber
+unfolding writeSaved writeSavedRefusal
 accepted ledger out n e =
-    let w = written-only (writeSavedNumber ledger out) _ n e in
+    let w = written-only (writeSavedRefusal ledger out) _ n e in
     let t = refusal-zero ledger (first-zero (ledgerRefusal ledger) _ (w .0) .0) in
     record { lengths = t .0; ruled = t .1; bytes = w .1; after = writes-saved ledger out (w .0) .1 }
 
@@ -89,9 +89,9 @@ save-placed ledger out ys zs used u h e z =
 -- ---- the rows
 
 module _ (ledger out : List ℕ) where
-  refused : (k : ℕ) → writeSavedNumber ledger out ≡ k → 0 < k → Refuses (writeSaved ledger out) (writeSavedAfter ledger out) out k
+  refused : (k : ℕ) → writeSavedRefusal ledger out ≡ k → 0 < k → Refuses (writeSaved ledger out) (writeSavedAfter ledger out) out k
   unfolding writeSaved writeSavedAfter
-  refused k e h = refuses (writeSavedNumber ledger out) _ (savedOf (pairsOf ledger)) out k e h
+  refused k e h = refuses (writeSavedRefusal ledger out) _ (savedOf (pairsOf ledger)) out k e h
 
   pub saved-writing : SavedWriting ledger out
   unfolding writeSaved writeSavedAfter
@@ -102,7 +102,7 @@ module _ (ledger out : List ℕ) where
         too-few-bytes = λ l o h. refused 55 (number-55 ledger out (refusal-none ledger (right-length ledger l) o) h) (omega arith);
         written = λ l o h.
             let n = length-savedOf (pairsOf ledger) in
-            rw n (writes (writeSavedNumber ledger out) (6 + 16 * size (pairsOf ledger)) (savedOf (pairsOf ledger)) out
+            rw n (writes (writeSavedRefusal ledger out) (6 + 16 * size (pairsOf ledger)) (savedOf (pairsOf ledger)) out
             (number-0 ledger out (refusal-none ledger (right-length ledger l) o) h) n);
       }
 

@@ -7,12 +7,12 @@ use mathlib.Core.Bool.{Bool, cond, _&&_, not}
 use mathlib.Core.List.{List, [], _++_}
 use lib.Dec.{leb, ltb, eqb}
 use lib.ListN.{length, take, drop}
-use Rattle.octets.specs.Digits.{fromLittle, toLittle}
-use Rattle.answers.specs.Written.{firstNumber, roomNumber, writtenBy, writtenAfter}
+use Rattle.octets.specs.Digits.{fromLittleEndian, toLittleEndian}
+use Rattle.answers.specs.Written.{firstRefusal, roomRefusal, writtenBy, writtenAfter}
 use Rattle.answers.specs.declared.loaded.Loaded.{Loaded}
 use Rattle.answers.specs.declared.loaded.Loaded.the-variants.{Done, Refused}
 use Rattle.answers.specs.declared.written.Written.{Written}
-use Rattle.ledger.specs.Pairs.{Pairs, none, pair, size, isRuled}
+use Rattle.ledger.specs.Pairs.{Pairs, none, pair, size, obeyFrom}
 use Rattle.ledger.specs.Ledger.{lengthWrong, ledgerRefusal, pairsOf, laidOut, capacity}
 
 -- ---- the frame, which every kind of record shares
@@ -21,24 +21,24 @@ abbrev pub frameLength : ℕ
 frameLength = 6
 
 unfoldable pub kindOf : List ℕ → ℕ
-kindOf bytes = fromLittle 256 (take 2 (drop 4 bytes))
+kindOf bytes = fromLittleEndian 256 (take 2 (drop 4 bytes))
 
 abbrev pub bodyOf : List ℕ → List ℕ
 bodyOf bytes = drop frameLength bytes
 
 -- 61: fewer than 6 bytes, or a length field that is wrong; 62: another kind than the one expected; 0 where the frame is right
-unfoldable pub frameNumber : ℕ → List ℕ → ℕ
-frameNumber kind bytes =
-    cond (not (leb frameLength (length bytes) && eqb (fromLittle 256 (take 4 bytes)) (length bytes - 4))) 61
+unfoldable pub frameRefusal : ℕ → List ℕ → ℕ
+frameRefusal kind bytes =
+    cond (not (leb frameLength (length bytes) && eqb (fromLittleEndian 256 (take 4 bytes)) (length bytes - 4))) 61
     (cond (not (eqb (kindOf bytes) kind)) 62 0)
 
 -- the six bytes before a body of n bytes
 unfoldable pub frameOf : ℕ → ℕ → List ℕ
-frameOf kind n = toLittle 256 4 (2 + n) ++ toLittle 256 2 kind
+frameOf kind n = toLittleEndian 256 4 (2 + n) ++ toLittleEndian 256 2 kind
 
 -- a record of this kind with this body
 unfoldable pub framed : ℕ → List ℕ → List ℕ
-framed kind body = toLittle 256 4 (2 + length body) ++ (toLittle 256 2 kind ++ body)
+framed kind body = toLittleEndian 256 4 (2 + length body) ++ (toLittleEndian 256 2 kind ++ body)
 
 -- ---- a body of pairs of numbers
 
@@ -48,11 +48,11 @@ pairLength = 16
 -- the first n pairs of numbers of a body
 unfoldable pub pairsIn : ℕ → List ℕ → Pairs
 pairsIn zero body = none
-pairsIn (suc n) body = pair (fromLittle 256 (take 8 body)) (fromLittle 256 (take 8 (drop 8 body))) (pairsIn n (drop pairLength body))
+pairsIn (suc n) body = pair (fromLittleEndian 256 (take 8 body)) (fromLittleEndian 256 (take 8 (drop 8 body))) (pairsIn n (drop pairLength body))
 
 unfoldable pub pairBytes : Pairs → List ℕ
 pairBytes none = []
-pairBytes (pair a b ps) = toLittle 256 8 a ++ (toLittle 256 8 b ++ pairBytes ps)
+pairBytes (pair a b ps) = toLittleEndian 256 8 a ++ (toLittleEndian 256 8 b ++ pairBytes ps)
 
 -- ---- kind 1: start and end of each used pair
 
@@ -64,33 +64,33 @@ savedPairs bytes = pairsIn (length (bodyOf bytes) / pairLength) (bodyOf bytes)
 
 -- 63: a body that is not whole pairs, or pairs that break the ledger rule
 unfoldable pub bodyWrong : List ℕ → Bool
-bodyWrong bytes = not (eqb (length (bodyOf bytes) % pairLength) 0 && isRuled 0 (savedPairs bytes))
+bodyWrong bytes = not (eqb (length (bodyOf bytes) % pairLength) 0 && obeyFrom 0 (savedPairs bytes))
 
 -- ---- the reader: 53, 61, 62, 63, and 64 where there are more pairs than the ledger has; 0 where it reads
 
-unfoldable pub readSavedNumber : List ℕ → List ℕ → ℕ
-readSavedNumber bytes ledger =
+unfoldable pub readSavedRefusal : List ℕ → List ℕ → ℕ
+readSavedRefusal bytes ledger =
     cond (lengthWrong ledger) 53
-    (firstNumber (frameNumber kindOne bytes)
+    (firstRefusal (frameRefusal kindOne bytes)
     (cond (bodyWrong bytes) 63
     (cond (ltb (capacity ledger) (size (savedPairs bytes))) 64 0)))
 
 unfoldable pub readSaved : List ℕ → List ℕ → Loaded
-readSaved bytes ledger = cond (ltb 0 (readSavedNumber bytes ledger)) (Refused (readSavedNumber bytes ledger)) Done
+readSaved bytes ledger = cond (ltb 0 (readSavedRefusal bytes ledger)) (Refused (readSavedRefusal bytes ledger)) Done
 
 unfoldable pub readSavedAfter : List ℕ → List ℕ → List ℕ
-readSavedAfter bytes ledger = cond (ltb 0 (readSavedNumber bytes ledger)) ledger (laidOut (capacity ledger) (savedPairs bytes))
+readSavedAfter bytes ledger = cond (ltb 0 (readSavedRefusal bytes ledger)) ledger (laidOut (capacity ledger) (savedPairs bytes))
 
 -- ---- the writer: 53, 1, 55; 0 where it writes
 
 unfoldable pub savedOf : Pairs → List ℕ
 savedOf ps = framed kindOne (pairBytes ps)
 
-unfoldable pub writeSavedNumber : List ℕ → List ℕ → ℕ
-writeSavedNumber ledger out = firstNumber (ledgerRefusal ledger) (roomNumber (length (savedOf (pairsOf ledger))) out)
+unfoldable pub writeSavedRefusal : List ℕ → List ℕ → ℕ
+writeSavedRefusal ledger out = firstRefusal (ledgerRefusal ledger) (roomRefusal (length (savedOf (pairsOf ledger))) out)
 
 unfoldable pub writeSaved : List ℕ → List ℕ → Written
-writeSaved ledger out = writtenBy (writeSavedNumber ledger out) (length (savedOf (pairsOf ledger)))
+writeSaved ledger out = writtenBy (writeSavedRefusal ledger out) (length (savedOf (pairsOf ledger)))
 
 unfoldable pub writeSavedAfter : List ℕ → List ℕ → List ℕ
-writeSavedAfter ledger out = writtenAfter (writeSavedNumber ledger out) (savedOf (pairsOf ledger)) out
+writeSavedAfter ledger out = writtenAfter (writeSavedRefusal ledger out) (savedOf (pairsOf ledger)) out

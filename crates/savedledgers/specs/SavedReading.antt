@@ -5,10 +5,10 @@ use mathlib.Core.Logic.{_⊎_, _↔_}
 use mathlib.Core.Bool.{true}
 use mathlib.Core.List.{List}
 use lib.ListN.{length, take, drop}
-use Rattle.octets.specs.Digits.{fromLittle}
+use Rattle.octets.specs.Digits.{fromLittleEndian}
 use Rattle.answers.specs.Loaded.{loadedNumber}
 use Rattle.answers.specs.declared.loaded.Loaded.the-variants.{Done}
-use Rattle.ledger.specs.Pairs.{Pairs, none, pair, Ruled, isRuled}
+use Rattle.ledger.specs.Pairs.{Pairs, none, pair, ObeyFrom, obeyFrom}
 use Rattle.ledger.specs.Ledger.{laidOut, capacity}
 use Rattle.savedledgers.specs.Saved.{pairsIn, savedPairs, readSaved, readSavedAfter}
 
@@ -31,26 +31,26 @@ pub record RightLength (ledger : List ℕ) : Type 0 where
 -- six bytes or more, of which the first four, least significant first, say how many follow them
 pub record RightFrame (bytes : List ℕ) : Type 0 where
   pub least : 6 ≤ length bytes
-  pub counted : 4 + fromLittle 256 (take 4 bytes) ≡ length bytes
+  pub counted : 4 + fromLittleEndian 256 (take 4 bytes) ≡ length bytes
 
 -- the next two bytes say 1
 abbrev pub IsKindOne : List ℕ → Type 0
-IsKindOne bytes = fromLittle 256 (take 2 (drop 4 bytes)) ≡ 1
+IsKindOne bytes = fromLittleEndian 256 (take 2 (drop 4 bytes)) ≡ 1
 
 -- whole pairs by the ledger rule from the seventh byte on
 pub record RightBody (bytes : List ℕ) : Type 0 where
   pub whole : length (drop 6 bytes) % 16 ≡ 0
-  pub ruled : Ruled 0 (savedPairs bytes)
+  pub ruled : ObeyFrom 0 (savedPairs bytes)
 
 pub record SavedReading (bytes ledger : List ℕ) : Type 0 where
   -- 53: the ledger's length is odd or above 8,192
   pub wrong-length : (length ledger % 2 ≡ 1) ⊎ (8192 < length ledger) → Refuses bytes ledger 53
   -- 61: fewer than six bytes, or a length field that is wrong
-  pub wrong-frame : RightLength ledger → (length bytes < 6) ⊎ (4 + fromLittle 256 (take 4 bytes) ≡ length bytes → ⊥) → Refuses bytes ledger 61
+  pub wrong-frame : RightLength ledger → (length bytes < 6) ⊎ (4 + fromLittleEndian 256 (take 4 bytes) ≡ length bytes → ⊥) → Refuses bytes ledger 61
   -- 62: the kind is not 1
   pub wrong-kind : RightLength ledger → RightFrame bytes → (IsKindOne bytes → ⊥) → Refuses bytes ledger 62
   -- 63: the body is not whole pairs, or they break the ledger rule
-  pub wrong-body : RightLength ledger → RightFrame bytes → IsKindOne bytes → (length (drop 6 bytes) % 16 ≡ 0 → ⊥) ⊎ (Ruled 0 (savedPairs bytes) → ⊥)
+  pub wrong-body : RightLength ledger → RightFrame bytes → IsKindOne bytes → (length (drop 6 bytes) % 16 ≡ 0 → ⊥) ⊎ (ObeyFrom 0 (savedPairs bytes) → ⊥)
       → Refuses bytes ledger 63
   -- 64: more pairs than the ledger has
   pub too-many-pairs : RightLength ledger → RightFrame bytes → IsKindOne bytes → RightBody bytes → capacity ledger < length (drop 6 bytes) / 16
@@ -64,6 +64,6 @@ pub record SavedPairs : Type 0 where
   pub all-pairs : (bytes : List ℕ) → savedPairs bytes ≡ pairsIn (length (drop 6 bytes) / 16) (drop 6 bytes)
   pub no-pair : (body : List ℕ) → pairsIn 0 body ≡ none
   pub next-pair : (n : ℕ) (body : List ℕ)
-      → pairsIn (suc n) body ≡ pair (fromLittle 256 (take 8 body)) (fromLittle 256 (take 8 (drop 8 body))) (pairsIn n (drop 16 body))
+      → pairsIn (suc n) body ≡ pair (fromLittleEndian 256 (take 8 body)) (fromLittleEndian 256 (take 8 (drop 8 body))) (pairsIn n (drop 16 body))
   -- the order that the reader tests is the ledger rule
-  pub order-is-rule : (ps : Pairs) → (isRuled 0 ps ≡ true) ↔ Ruled 0 ps
+  pub order-is-rule : (ps : Pairs) → (obeyFrom 0 ps ≡ true) ↔ ObeyFrom 0 ps

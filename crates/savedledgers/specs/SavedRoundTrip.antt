@@ -4,16 +4,16 @@ use mathlib.Core.Path.{_≡_}
 use mathlib.Core.Bool.{true, false}
 use mathlib.Core.List.{List, [], _∷_, _++_}
 use lib.ListN.{length, take, drop}
-use Rattle.octets.specs.Digits.{Below}
+use Rattle.octets.specs.Digits.{AllBelow}
 use Rattle.answers.specs.declared.loaded.Loaded.the-variants.{Done}
 use Rattle.answers.specs.declared.written.Written.the-variants.{Bytes}
 use Rattle.ledger.specs.Pairs.{none, pair, size, endsAtMost}
 use Rattle.ledger.specs.Ledger.{lengthWrong, capacity, obeys, pairsOf}
-use Rattle.savedledgers.specs.Saved.{readSavedNumber, readSaved, readSavedAfter, savedOf, writeSaved, writeSavedAfter}
+use Rattle.savedledgers.specs.Saved.{readSavedRefusal, readSaved, readSavedAfter, savedOf, writeSaved, writeSavedAfter}
 use Rattle.savedledgers.specs.SavedReading.{Reads}
 
 -- the ledger l is written as the bytes h, before what else is lent
-pub record Rewrites (h l : List ℕ) : Type 0 where
+pub record WritesBack (h l : List ℕ) : Type 0 where
   pub ruled : obeys l ≡ true
   pub same : savedOf (pairsOf l) ≡ h
   pub writes : (out : List ℕ) → length h ≤ length out → (writeSaved l out ≡ Bytes (length h)) × (writeSavedAfter l out ≡ h ++ drop (length h) out)
@@ -26,7 +26,7 @@ pub record SavedRoundTrip : Type 0 where
   pub reads-the-same : (l out m : List ℕ) (n : ℕ) → writeSaved l out ≡ Bytes n → endsAtMost 18446744073709551615 (pairsOf l) ≡ true
       → length m ≡ length l → (readSaved (take n (writeSavedAfter l out)) m ≡ Done) × (readSavedAfter (take n (writeSavedAfter l out)) m ≡ l)
   -- whatever bytes are read, the ledger read from them obeys its rule and is written as these bytes again
-  pub writes-what-was-read : (h m : List ℕ) → Below 256 h → readSavedNumber h m ≡ 0 → Rewrites h (readSavedAfter h m)
+  pub writes-what-was-read : (h m : List ℕ) → AllBelow 256 h → readSavedRefusal h m ≡ 0 → WritesBack h (readSavedAfter h m)
   -- document 01's two records: no pair, and the bytes 0 to 89
   pub empty : savedOf none ≡ 0x02 ∷ 0 ∷ 0 ∷ 0 ∷ 0x01 ∷ 0 ∷ []
   pub first-ninety : savedOf (pair 0 90 none)

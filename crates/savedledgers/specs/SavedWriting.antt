@@ -5,7 +5,7 @@ use mathlib.Core.Logic.{_⊎_}
 use mathlib.Core.Bool.{true, false}
 use mathlib.Core.List.{List, [], _++_}
 use lib.ListN.{length}
-use Rattle.octets.specs.Digits.{toLittle}
+use Rattle.octets.specs.Digits.{toLittleEndian}
 use Rattle.answers.specs.Written.{Refuses, Writes}
 use Rattle.ledger.specs.Pairs.{Pairs, none, pair, size}
 use Rattle.ledger.specs.Ledger.{obeys, pairsOf}
@@ -25,6 +25,6 @@ pub record SavedWriting (ledger out : List ℕ) : Type 0 where
 
 -- the bytes, each number least significant byte first: how many follow the first four, the kind, and start and end of each pair
 pub record SavedBytes : Type 0 where
-  pub all-bytes : (ps : Pairs) → savedOf ps ≡ toLittle 256 4 (2 + 16 * size ps) ++ (toLittle 256 2 1 ++ pairBytes ps)
+  pub all-bytes : (ps : Pairs) → savedOf ps ≡ toLittleEndian 256 4 (2 + 16 * size ps) ++ (toLittleEndian 256 2 1 ++ pairBytes ps)
   pub no-pair : pairBytes none ≡ []
-  pub next-pair : (a b : ℕ) (ps : Pairs) → pairBytes (pair a b ps) ≡ toLittle 256 8 a ++ (toLittle 256 8 b ++ pairBytes ps)
+  pub next-pair : (a b : ℕ) (ps : Pairs) → pairBytes (pair a b ps) ≡ toLittleEndian 256 8 a ++ (toLittleEndian 256 8 b ++ pairBytes ps)

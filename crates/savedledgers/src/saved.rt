@@ -7,24 +7,24 @@ use octets::little;
 ghost use mathlib.Core.Path.{_≡_};
 ghost use Prim.Native.Nat.{_+_, _*_, _/_, _≤_};
 ghost use lib.ListN.{length, take, drop};
-ghost use Rattle.octets.specs.Digits.{fromLittle};
-ghost use Rattle.ledger.specs.Pairs.{size, isRuled};
+ghost use Rattle.octets.specs.Digits.{fromLittleEndian};
+ghost use Rattle.ledger.specs.Pairs.{size, obeyFrom};
 ghost use Rattle.ledger.specs.Ledger.{pairsOf};
 ghost use Rattle.savedledgers.specs.Numbers.{numbersIn, numberBytes};
-ghost use Rattle.savedledgers.specs.Saved.{frameLength, frameNumber, frameOf, pairLength, pairsIn, readSaved, readSavedAfter, writeSaved, writeSavedAfter};
+ghost use Rattle.savedledgers.specs.Saved.{frameLength, frameRefusal, frameOf, pairLength, pairsIn, readSaved, readSavedAfter, writeSaved, writeSavedAfter};
 
 // The length field and the kind, which are before the body of every kind.
 const FRAME_LENGTH: usize = 6;
 
 const PAIR_LENGTH: usize = 16;
 // The kind that holds start and end of each used pair.
-const USED_PAIRS: u64 = 1;
+const KIND_ONE: u64 = 1;
 
 // ---- reading
 
 // The number by which the frame of a record that is to be of this kind is refused, 0 where it is right.
 fn frame_refusal(kind: u64, bytes: &[u8]) -> u8
-    ensures { λ r. ⌜ r ≡ frameNumber kind (now (bytes .entry)) ⌝ }
+    ensures { λ r. ⌜ r ≡ frameRefusal kind (now (bytes .entry)) ⌝ }
 {
     if bytes.len() < FRAME_LENGTH {
         return 61;
@@ -42,14 +42,14 @@ fn frame_refusal(kind: u64, bytes: &[u8]) -> u8
 // The number of eight bytes that starts at `at`.
 fn number_at(bytes: &[u8], at: usize) -> u64
     requires { ⌜ at + 8 ≤ length (now bytes) ⌝ }
-    ensures { λ r. ⌜ r ≡ fromLittle 256 (take 8 (drop at (now (bytes .entry)))) ⌝ }
+    ensures { λ r. ⌜ r ≡ fromLittleEndian 256 (take 8 (drop at (now (bytes .entry)))) ⌝ }
 {
     little::read(&bytes[at..at + 8])
 }
 
 // Whether the pairs of a body obey the ledger rule, all of them used.
 fn in_order(body: &[u8]) -> bool
-    ensures { λ r. ⌜ r ≡ isRuled 0 (pairsIn (length (now (body .entry)) / pairLength) (now (body .entry))) ⌝ }
+    ensures { λ r. ⌜ r ≡ obeyFrom 0 (pairsIn (length (now (body .entry)) / pairLength) (now (body .entry))) ⌝ }
 {
     let n = body.len() / PAIR_LENGTH;
     let mut end: u64 = 0;
@@ -85,7 +85,7 @@ pub fn read(bytes: &[u8], ledger: &mut [u64]) -> Loaded
     if rule::length_wrong(ledger) {
         return Loaded::Refused(53);
     }
-    let k = frame_refusal(USED_PAIRS, bytes);
+    let k = frame_refusal(KIND_ONE, bytes);
     if 0 < k {
         return Loaded::Refused(k);
     }
@@ -158,7 +158,7 @@ pub fn write(ledger: &[u64], out: &mut [u8]) -> Written
     if out.len() < end {
         return Written::Refused(55);
     }
-    write_frame(USED_PAIRS, n as u64, &mut out[0..FRAME_LENGTH]);
+    write_frame(KIND_ONE, n as u64, &mut out[0..FRAME_LENGTH]);
     write_numbers(&ledger[0..2 * used], &mut out[FRAME_LENGTH..end]);
     Written::Bytes(end)
 }

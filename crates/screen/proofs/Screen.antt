@@ -11,20 +11,20 @@ use lib.Seq.{sets, take-suc, length-take-le}
 use lib.Dec.{leb}
 use Rattle.octets.specs.Decimal.{decimal}
 use Rattle.octets.proofs.Decimals.{length-decimal, width-20}
-use Rattle.answers.specs.Written.{roomNumber}
+use Rattle.answers.specs.Written.{roomRefusal}
 use Rattle.answers.proofs.WritesAt.{sets-append}
-use Rattle.ledger.specs.Pairs.{Pairs, none, pair, total, Ruled, endsAtMost}
+use Rattle.ledger.specs.Pairs.{Pairs, none, pair, total, ObeyFrom, endsAtMost}
 use Rattle.ledger.specs.Ledger.{largest, pairsOf}
 use Rattle.transfer.specs.declared.state.Transfer.{Transfer}
 use Rattle.transfer.specs.Transfer.{endedOf, world, verdictOf, storedOf}
-use Rattle.transfer.specs.Fit.{fitsLedger}
+use Rattle.transfer.specs.Fit.{fitsWithoutFile}
 use Rattle.transfer.proofs.FitByChannel.{ruled}
 use Rattle.verdicts.specs.declared.verdict.Verdict.{Verdict as Shown}
 use Rattle.verdicts.specs.declared.verdict.Verdict.the-variants.{Guess, Result, Broken}
-use Rattle.verdicts.specs.Verdict.{verdictIs}
-use Rattle.receiver.specs.Stored.{storedCut}
+use Rattle.verdicts.specs.Verdict.{toVerdict}
+use Rattle.receiver.specs.Stored.{storedSaturating}
 use Rattle.runs.proofs.Runs.{fits-some}
-use Rattle.screen.specs.Screen.{brokenWord, onWord, guessWord, resultWord, endedWord, ofWord, unknownWord, bytesWord, lineFeed, countText, brokenText, endedText, frontText, bytesText, lineText, lineOf, lineFor, lineTextOf, screenNumber}
+use Rattle.screen.specs.Screen.{brokenWord, onWord, guessWord, resultWord, endedWord, ofWord, unknownWord, bytesWord, lineFeed, countText, brokenText, endedText, frontText, bytesText, lineText, lineOf, lineFor, lineTextOf, screenRefusal}
 use Rattle.screen.specs.declared.line.Numbers.{Numbers}
 
 -- one byte more of a word
@@ -58,19 +58,19 @@ unfolding endedText endedWord ofWord
 length-endedText ended count = simp length-append (omega arith)
 
 module _ (v : Shown) (fault on ended count : ℕ) where
-  pub front-broken : v ≡ Broken → frontText (verdictIs v) fault on ended count ≡ brokenText fault on
+  pub front-broken : v ≡ Broken → frontText (toVerdict v) fault on ended count ≡ brokenText fault on
   unfolding frontText
   front-broken e = rw e
 
-  pub front-guess : v ≡ Guess → frontText (verdictIs v) fault on ended count ≡ guessWord ++ endedText ended count
+  pub front-guess : v ≡ Guess → frontText (toVerdict v) fault on ended count ≡ guessWord ++ endedText ended count
   unfolding frontText
   front-guess e = rw e
 
-  pub front-result : v ≡ Result → frontText (verdictIs v) fault on ended count ≡ resultWord ++ endedText ended count
+  pub front-result : v ≡ Result → frontText (toVerdict v) fault on ended count ≡ resultWord ++ endedText ended count
   unfolding frontText
   front-result e = rw e
 
-  pub length-lineText : (bytes : ℕ) → length (lineText (verdictIs v) fault on ended count bytes) ≡ length (frontText (verdictIs v) fault on ended count) + 8 + length (decimal bytes)
+  pub length-lineText : (bytes : ℕ) → length (lineText (toVerdict v) fault on ended count bytes) ≡ length (frontText (toVerdict v) fault on ended count) + 8 + length (decimal bytes)
   unfolding lineText bytesText bytesWord lineFeed
   length-lineText bytes = simp length-append (omega arith)
 
@@ -86,11 +86,11 @@ count-most (suc n) h = digits-most (suc n) h
 
 -- of numbers of 64 bits
 pub line-most : (v : Shown) (fault on ended count bytes : ℕ) → fault < 18446744073709551616 → on < 18446744073709551616 → ended < 18446744073709551616
-    → count < 18446744073709551616 → bytes < 18446744073709551616 → length (lineText (verdictIs v) fault on ended count bytes) ≤ 85
+    → count < 18446744073709551616 → bytes < 18446744073709551616 → length (lineText (toVerdict v) fault on ended count bytes) ≤ 85
 unfolding guessWord resultWord
 line-most v fault on ended count bytes f o e c b = go v refl
   where
-    go : (u : Shown) → v ≡ u → length (lineText (verdictIs v) fault on ended count bytes) ≤ 85
+    go : (u : Shown) → v ≡ u → length (lineText (toVerdict v) fault on ended count bytes) ≤ 85
     go Broken q =
         omega (arith, length-lineText v fault on ended count bytes, ap length (front-broken v fault on ended count q), length-brokenText fault on, digits-most fault f, digits-most on o, digits-most bytes b)
     go Guess q =
@@ -101,16 +101,16 @@ line-most v fault on ended count bytes f o e c b = go v refl
 -- ---- by FIT
 
 module _ (t : Transfer) (ledger out : List ℕ) where
-  pub not-fit : fitsLedger t ledger ≡ false → screenNumber t ledger out ≡ 1
-  unfolding screenNumber
+  pub not-fit : fitsWithoutFile t ledger ≡ false → screenRefusal t ledger out ≡ 1
+  unfolding screenRefusal
   not-fit f = rw f
 
-  pub fit : fitsLedger t ledger ≡ true → screenNumber t ledger out ≡ roomNumber (length (lineFor t ledger)) out
-  unfolding screenNumber
+  pub fit : fitsWithoutFile t ledger ≡ true → screenRefusal t ledger out ≡ roomRefusal (length (lineFor t ledger)) out
+  unfolding screenRefusal
   fit f = rw f
 
 -- what the code says is the line where its numbers are the transfer's
-pub said : (v : Shown) (n : Numbers) (t : Transfer) (ledger : List ℕ) → verdictIs v ≡ verdictOf (world t [] ledger) → n .fault ≡ t .fault → n .on ≡ t .on
+pub said : (v : Shown) (n : Numbers) (t : Transfer) (ledger : List ℕ) → toVerdict v ≡ verdictOf (world t [] ledger) → n .fault ≡ t .fault → n .on ≡ t .on
     → n .ended ≡ endedOf t → n .count ≡ t .count → n .bytes ≡ storedOf (world t [] ledger) → lineTextOf v n ≡ lineFor t ledger
 unfolding lineOf
 said v n t ledger e k c d m b = rw (e, k, c, d, m, b)
@@ -118,15 +118,15 @@ said v n t ledger e k c d m b = rw (e, k, c, d, m, b)
 -- ---- stored bytes
 
 -- pairs by the rule with no end above f hold no more than f places
-total-le : (f lo : ℕ) (ps : Pairs) → Ruled lo ps → endsAtMost f ps ≡ true → total ps ≤ f - lo
+total-le : (f lo : ℕ) (ps : Pairs) → ObeyFrom lo ps → endsAtMost f ps ≡ true → total ps ≤ f - lo
 unfolding total endsAtMost
 total-le f lo none c h = omega arith
 total-le f lo (pair a b ps) c h =
     let q = and-eq-true-iff (leb b f) (endsAtMost f ps) .0 h in
     omega (arith, total-le f (suc b) ps (c .2) (q .1), leb-true b f (q .0), c .0, c .1)
 
-pub stored-whole : (t : Transfer) (file ledger : List ℕ) → t .len ≤ largest → fitsLedger t ledger ≡ true → storedCut t ledger ≡ storedOf (world t file ledger)
-unfolding storedCut storedOf
+pub stored-whole : (t : Transfer) (file ledger : List ℕ) → t .len ≤ largest → fitsWithoutFile t ledger ≡ true → storedSaturating t ledger ≡ storedOf (world t file ledger)
+unfolding storedSaturating storedOf
 stored-whole t file ledger l f =
     let g = fits-some t ledger f in
     omega (arith, total-le (t .len) 0 (pairsOf ledger) (ruled (world t (replicate (t .len) 0) ledger) (g .rule)) (g .ends))

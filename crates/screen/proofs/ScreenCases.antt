@@ -1,21 +1,21 @@
 -- Worked cases of the screen line, by computation.
 use mathlib.Core.Path.{refl}
-use Rattle.octets.specs.Decimal.{widthBy, width, inDigits, decimal}
-use Rattle.octets.specs.Digits.{fromLittle, fromBig, toLittle, toBig}
-use Rattle.answers.specs.Written.{roomNumber, writtenBy, writtenAfter}
+use Rattle.octets.specs.Decimal.{digitCountBy, digitCount, inDigits, decimal}
+use Rattle.octets.specs.Digits.{fromLittleEndian, fromBigEndian, toLittleEndian, toBigEndian}
+use Rattle.answers.specs.Written.{roomRefusal, writtenBy, writtenAfter}
 use Rattle.eblock.specs.Descriptor.{has, faultOf}
 use Rattle.eblock.specs.Header.{secondOf, thirdOf, headerBytes}
 use Rattle.ledger.specs.Pairs.{size, total, join, overlaps, inside, endsAtMost}
-use Rattle.ledger.specs.Ledger.{lengthWrong, zeros, rule, obeys, pairsOf, laidOut}
-use Rattle.transfer.specs.Channel.{stateNumber, heldNumber, nextNumber, leftNumber, heldBytes, numbersOf, readState, stateAt, putState, putFault, putCount}
-use Rattle.transfer.specs.Transfer.{sum, endedOf, usedOf, leftOf, isFinal, verdictOf, storedOf, fresh, startOf, startAfter}
+use Rattle.ledger.specs.Ledger.{lengthWrong, allZero, obeysFrom, obeys, pairsOf, laidOut}
+use Rattle.transfer.specs.Channel.{stateCode, heldLength, nextPlace, bytesLeft, heldBytes, encodeState, decodeState, stateAt, putState, putFault, putCount}
+use Rattle.transfer.specs.Transfer.{sum, endedOf, usedOf, leftOf, allEnded, verdictOf, storedOf, fresh, startOf, startAfter}
 use Rattle.transfer.specs.Header.{payloadLength, requestOf, claimFault}
-use Rattle.transfer.specs.Fit.{idle, heldFits, restFits, channelFits, channelsFit, apart, apartFrom, restsApart, countFits, faultFits, fitsLedger, fits}
-use Rattle.transfer.specs.Receive.{endChannel, beginPayload, stopWithFault, claimRange, applyHeader, judgeHeader, takeHeaderByte, storePayloadByte, takeByteIn, takeByte, takeBytes, refusalOf, receiveOf}
-use Rattle.transfer.specs.Calls.{callOf, runBy, begun}
-use Rattle.screen.specs.Screen.{brokenWord, onWord, guessWord, resultWord, endedWord, ofWord, unknownWord, bytesWord, lineFeed, countText, brokenText, endedText, frontText, bytesText, lineText, lineOf, screenNumber, screenOf, screenAfter}
+use Rattle.transfer.specs.Fit.{emptyFits, headerFits, payloadFits, channelFits, channelsFit, apart, apartFrom, restsApart, countFits, faultFits, fitsWithoutFile, fits}
+use Rattle.transfer.specs.Receive.{endChannel, expectPayload, stopWithFault, claimRange, applyRequest, applyHeader, takeHeaderByte, storePayloadByte, takeByteIn, takeByte, takeBytes, refusalOf, receiveOf}
+use Rattle.transfer.specs.Calls.{callOf, foldCalls, startedWorld}
+use Rattle.screen.specs.Screen.{brokenWord, onWord, guessWord, resultWord, endedWord, ofWord, unknownWord, bytesWord, lineFeed, countText, brokenText, endedText, frontText, bytesText, lineText, lineOf, screenRefusal, screenOf, screenAfter}
 use Rattle.screen.specs.ScreenCases.{ScreenCases}
 
 pub screen-cases : ScreenCases
-unfolding fromLittle fromBig toLittle toBig has faultOf secondOf thirdOf headerBytes size total join overlaps inside endsAtMost lengthWrong zeros rule obeys pairsOf laidOut stateNumber heldNumber nextNumber leftNumber heldBytes numbersOf readState stateAt putState putFault putCount sum endedOf usedOf leftOf isFinal verdictOf storedOf fresh startOf startAfter payloadLength requestOf claimFault idle heldFits restFits channelFits channelsFit apart apartFrom restsApart countFits faultFits fitsLedger fits endChannel beginPayload stopWithFault claimRange applyHeader judgeHeader takeHeaderByte storePayloadByte takeByteIn takeByte takeBytes refusalOf receiveOf callOf runBy begun widthBy width inDigits decimal brokenWord onWord guessWord resultWord endedWord ofWord unknownWord bytesWord lineFeed countText brokenText endedText frontText bytesText lineText lineOf roomNumber writtenBy writtenAfter screenNumber screenOf screenAfter
+unfolding fromLittleEndian fromBigEndian toLittleEndian toBigEndian has faultOf secondOf thirdOf headerBytes size total join overlaps inside endsAtMost lengthWrong allZero obeysFrom obeys pairsOf laidOut stateCode heldLength nextPlace bytesLeft heldBytes encodeState decodeState stateAt putState putFault putCount sum endedOf usedOf leftOf allEnded verdictOf storedOf fresh startOf startAfter payloadLength requestOf claimFault emptyFits headerFits payloadFits channelFits channelsFit apart apartFrom restsApart countFits faultFits fitsWithoutFile fits endChannel expectPayload stopWithFault claimRange applyRequest applyHeader takeHeaderByte storePayloadByte takeByteIn takeByte takeBytes refusalOf receiveOf callOf foldCalls startedWorld digitCountBy digitCount inDigits decimal brokenWord onWord guessWord resultWord endedWord ofWord unknownWord bytesWord lineFeed countText brokenText endedText frontText bytesText lineText lineOf roomRefusal writtenBy writtenAfter screenRefusal screenOf screenAfter
 screen-cases = ((refl, refl, refl, refl), ((refl, refl, refl, refl), ((refl, refl, refl, refl), ((refl, refl, refl, refl), ((refl, refl, refl, refl), tt)))))

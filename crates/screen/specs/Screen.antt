@@ -5,12 +5,12 @@ use mathlib.Core.List.{List, [], _∷_, _++_}
 use lib.ListN.{length}
 use Rattle.octets.specs.Decimal.{decimal}
 use Rattle.answers.specs.declared.written.Written.{Written}
-use Rattle.answers.specs.Written.{roomNumber, writtenBy, writtenAfter}
+use Rattle.answers.specs.Written.{roomRefusal, writtenBy, writtenAfter}
 use Rattle.transfer.specs.declared.state.Transfer.{Transfer}
 use Rattle.transfer.specs.Transfer.{endedOf, World, world, Verdict, guess, result, broken, verdictOf, storedOf}
-use Rattle.transfer.specs.Fit.{fitsLedger}
+use Rattle.transfer.specs.Fit.{fitsWithoutFile}
 use Rattle.verdicts.specs.declared.verdict.Verdict.{Verdict as Shown}
-use Rattle.verdicts.specs.Verdict.{verdictIs}
+use Rattle.verdicts.specs.Verdict.{toVerdict}
 use Rattle.screen.specs.declared.line.Numbers.{Numbers}
 
 -- ---- words
@@ -81,19 +81,19 @@ lineFor t ledger = lineOf (world t [] ledger)
 -- ---- written into lent bytes
 
 -- 1 where transfer and ledger don't fit, then 55; 0 where the line is written
-unfoldable pub screenNumber : Transfer → List ℕ → List ℕ → ℕ
-screenNumber t ledger out = cond (not (fitsLedger t ledger)) 1 (roomNumber (length (lineFor t ledger)) out)
+unfoldable pub screenRefusal : Transfer → List ℕ → List ℕ → ℕ
+screenRefusal t ledger out = cond (not (fitsWithoutFile t ledger)) 1 (roomRefusal (length (lineFor t ledger)) out)
 
 unfoldable pub screenOf : Transfer → List ℕ → List ℕ → Written
-screenOf t ledger out = writtenBy (screenNumber t ledger out) (length (lineFor t ledger))
+screenOf t ledger out = writtenBy (screenRefusal t ledger out) (length (lineFor t ledger))
 
 unfoldable pub screenAfter : Transfer → List ℕ → List ℕ → List ℕ
-screenAfter t ledger out = writtenAfter (screenNumber t ledger out) (lineFor t ledger) out
+screenAfter t ledger out = writtenAfter (screenRefusal t ledger out) (lineFor t ledger) out
 
 -- ---- as the code holds it
 
 abbrev pub frontTextOf : Shown → Numbers → List ℕ
-frontTextOf v n = frontText (verdictIs v) (n .fault) (n .on) (n .ended) (n .count)
+frontTextOf v n = frontText (toVerdict v) (n .fault) (n .on) (n .ended) (n .count)
 
 abbrev pub lineTextOf : Shown → Numbers → List ℕ
-lineTextOf v n = lineText (verdictIs v) (n .fault) (n .on) (n .ended) (n .count) (n .bytes)
+lineTextOf v n = lineText (toVerdict v) (n .fault) (n .on) (n .ended) (n .count) (n .bytes)

@@ -6,8 +6,8 @@ use lib.ListN.{length, replicate}
 use Rattle.octets.specs.Cases.{AllHold}
 use Rattle.answers.specs.declared.written.Written.the-variants.{Bytes, Refused}
 use Rattle.eblock.specs.Header.{headerBytes}
-use Rattle.transfer.specs.Calls.{Call, receive, begun, after}
-use Rattle.transfer.specs.Example.{first, second, third}
+use Rattle.transfer.specs.Calls.{Call, receive, startedWorld, after}
+use Rattle.transfer.specs.Example.{firstCall, secondCall, thirdCall}
 use Rattle.screen.specs.Screen.{lineOf, screenOf, screenAfter}
 
 -- from a file of 8 bytes and a ledger of one pair, the calls leave this line
@@ -21,13 +21,13 @@ filled n = replicate n 238
 
 abbrev pub Holds : Case → Type 0
 Holds k =
-    let w = after (begun (replicate 8 0) (replicate 2 7)) (k .calls) in
+    let w = after (startedWorld (replicate 8 0) (replicate 2 7)) (k .calls) in
     let n = length (k .line) in
     (lineOf w ≡ k .line)
-    × (screenOf (w .t) (w .lent .claimed) (filled 40) ≡ Bytes n)
-    × (screenAfter (w .t) (w .lent .claimed) (filled 40) ≡ k .line ++ filled (40 - n))
+    × (screenOf (w .t) (w .lent .ledger) (filled 40) ≡ Bytes n)
+    × (screenAfter (w .t) (w .lent .ledger) (filled 40) ≡ k .line ++ filled (40 - n))
     -- one byte less than it has
-    × (screenOf (w .t) (w .lent .claimed) (filled (n - 1)) ≡ Refused 55)
+    × (screenOf (w .t) (w .lent .ledger) (filled (n - 1)) ≡ Refused 55)
 
 -- GUESS ended 0 of ? bytes 4
 abbrev pub firstLine : List ℕ
@@ -51,11 +51,11 @@ underWayLine = 71 ∷ 85 ∷ 69 ∷ 83 ∷ 83 ∷ 32 ∷ 101 ∷ 110 ∷ 100 ∷
 
 abbrev pub cases : List Case
 cases =
-    record { calls = first ∷ []; line = firstLine }
-    ∷ record { calls = first ∷ second ∷ []; line = secondLine }
-    ∷ record { calls = first ∷ second ∷ third ∷ []; line = thirdLine }
+    record { calls = firstCall ∷ []; line = firstLine }
+    ∷ record { calls = firstCall ∷ secondCall ∷ []; line = secondLine }
+    ∷ record { calls = firstCall ∷ secondCall ∷ thirdCall ∷ []; line = thirdLine }
     -- bytes 3 and 4 asked for on channel 1, of which 3 is claimed
-    ∷ record { calls = first ∷ receive 1 (headerBytes 0 2 3) ∷ []; line = brokenLine }
+    ∷ record { calls = firstCall ∷ receive 1 (headerBytes 0 2 3) ∷ []; line = brokenLine }
     -- a count known, and two bytes of a payload of four
     ∷ record { calls = receive 0 (headerBytes 64 0 2) ∷ receive 1 (headerBytes 0 4 0 ++ (112 ∷ 108 ∷ [])) ∷ []; line = underWayLine }
     ∷ []

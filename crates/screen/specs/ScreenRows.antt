@@ -6,16 +6,16 @@ use mathlib.Core.List.{List}
 use lib.ListN.{length}
 use Rattle.answers.specs.Written.{Refuses, Writes}
 use Rattle.transfer.specs.declared.state.Transfer.{Transfer}
-use Rattle.transfer.specs.Fit.{fitsLedger}
+use Rattle.transfer.specs.Fit.{fitsWithoutFile}
 use Rattle.screen.specs.Screen.{lineFor, screenOf, screenAfter}
 
 -- the premises carry the order of the numbers
 pub record ScreenRows : Type 0 where
   -- 1: transfer and ledger don't fit
-  pub row-1 : (t : Transfer) (ledger out : List ℕ) → fitsLedger t ledger ≡ false → Refuses (screenOf t ledger out) (screenAfter t ledger out) out 1
+  pub row-1 : (t : Transfer) (ledger out : List ℕ) → fitsWithoutFile t ledger ≡ false → Refuses (screenOf t ledger out) (screenAfter t ledger out) out 1
   -- 55: the lent bytes are too few for the whole line
-  pub row-55 : (t : Transfer) (ledger out : List ℕ) → fitsLedger t ledger ≡ true → length out < length (lineFor t ledger)
+  pub row-55 : (t : Transfer) (ledger out : List ℕ) → fitsWithoutFile t ledger ≡ true → length out < length (lineFor t ledger)
       → Refuses (screenOf t ledger out) (screenAfter t ledger out) out 55
   -- otherwise the line is written, and the bytes after it are unchanged
-  pub row-written : (t : Transfer) (ledger out : List ℕ) → fitsLedger t ledger ≡ true → length (lineFor t ledger) ≤ length out
+  pub row-written : (t : Transfer) (ledger out : List ℕ) → fitsWithoutFile t ledger ≡ true → length (lineFor t ledger) ≤ length out
       → Writes (screenOf t ledger out) (screenAfter t ledger out) out (lineFor t ledger) (length (lineFor t ledger))

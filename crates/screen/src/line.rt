@@ -10,7 +10,7 @@ ghost use mathlib.Core.List.{_++_};
 ghost use Prim.Native.Nat.{_+_, _≤_};
 ghost use lib.ListN.{length};
 ghost use Rattle.octets.specs.Decimal.{decimal};
-ghost use Rattle.answers.specs.Written.{roomNumber, writtenBy, writtenAfter};
+ghost use Rattle.answers.specs.Written.{roomRefusal, writtenBy, writtenAfter};
 ghost use Rattle.answers.specs.WritesAt.{WritesAt};
 ghost use Rattle.screen.specs.Screen.{countText, brokenText, endedText, frontTextOf, lineTextOf, screenOf, screenAfter};
 
@@ -128,7 +128,7 @@ fn put_line(out: &mut [u8], v: Verdict, n: Numbers) -> usize
 
 // A text in the first of the lent bytes: 55 where they are too few.
 fn put_first(text: &[u8], out: &mut [u8]) -> Written
-    ensures { λ r. ⌜ (r ≡ writtenBy (roomNumber (length (now (text .entry))) (now (out .entry))) (length (now (text .entry)))) × (now (out .exit) ≡ writtenAfter (roomNumber (length (now (text .entry))) (now (out .entry))) (now (text .entry)) (now (out .entry))) ⌝ }
+    ensures { λ r. ⌜ (r ≡ writtenBy (roomRefusal (length (now (text .entry))) (now (out .entry))) (length (now (text .entry)))) × (now (out .exit) ≡ writtenAfter (roomRefusal (length (now (text .entry))) (now (out .entry))) (now (text .entry)) (now (out .entry))) ⌝ }
 {
     if out.len() < text.len() {
         return Written::Refused(55);
@@ -139,7 +139,7 @@ fn put_first(text: &[u8], out: &mut [u8]) -> Written
 
 // The line of these numbers in the first of the lent bytes.
 fn put_numbers(v: Verdict, n: Numbers, out: &mut [u8]) -> Written
-    ensures { λ r. ⌜ (r ≡ writtenBy (roomNumber (length (lineTextOf v n)) (now (out .entry))) (length (lineTextOf v n))) × (now (out .exit) ≡ writtenAfter (roomNumber (length (lineTextOf v n)) (now (out .entry))) (lineTextOf v n) (now (out .entry))) ⌝ }
+    ensures { λ r. ⌜ (r ≡ writtenBy (roomRefusal (length (lineTextOf v n)) (now (out .entry))) (length (lineTextOf v n))) × (now (out .exit) ≡ writtenAfter (roomRefusal (length (lineTextOf v n)) (now (out .entry))) (lineTextOf v n) (now (out .entry))) ⌝ }
 {
     let mut line = [0; LONGEST];
     let end = put_line(&mut line, v, n);

@@ -8,15 +8,15 @@ use native.Mathlib.Omega.{arith}
 use borrow.Author.Tests.{eq-eqb, ltb-true, ltb-false, eqb-true}
 use lib.Dec.{ltb, eqb}
 use lib.ListN.{length, getD}
-use Rattle.ledger.specs.Pairs.{Pairs, total, Ruled}
-use Rattle.transfer.specs.Channel.{numbersOf}
+use Rattle.ledger.specs.Pairs.{Pairs, total, ObeyFrom}
+use Rattle.transfer.specs.Channel.{encodeState}
 use Rattle.transfer.specs.Transfer.{sum, leftOf, World, Verdict, guess, result, broken, verdictOf, storedOf}
 use Rattle.transfer.specs.Receive.{isNonEmpty}
 use Rattle.transfer.specs.Fit.{pairLimit}
 use Rattle.transfer.specs.Calls.{Call, callOf, after}
 use Rattle.transfer.specs.Block.{Block, sizeOf, bytesIn}
-use Rattle.transfer.specs.Tally.{Tally, Stream, taken, accepted, blocksOf, countsOf, known, claimed, used, endedIn, verdict, empty, callOf as tallyCallOf}
-use Rattle.transfer.specs.AfterList.{Begun, tallyOf, Complete, HasByte, AfterList, Unchanged, EveryList}
+use Rattle.transfer.specs.Tally.{Tally, Stream, taken, accepted, blocksOf, countsOf, knownCount, claimed, usedIn, endedIn, tallyVerdict, empty, tallyCall as tallyCallOf}
+use Rattle.transfer.specs.AfterList.{StartedWith, tallyOf, Complete, HasByte, AfterList, Unchanged, EveryList}
 use Rattle.transfer.proofs.Start.{every-start-begins}
 use Rattle.transfer.proofs.BlockClaims.{sum-append, claims-holds, claims-total}
 use Rattle.transfer.proofs.BlockPayloads.{length-withPayloads}
@@ -82,7 +82,7 @@ words k b v C f g (reads-guess p q e) = (
 )
 
 final : Tally → Bool
-final t = eqb (length (countsOf (t .streams))) 1 && eqb (endedIn (t .streams)) (known (t .streams))
+final t = eqb (length (countsOf (t .streams))) 1 && eqb (endedIn (t .streams)) (knownCount (t .streams))
 
 only : (cs : List ℕ) → length cs ≡ 1 → cs ≡ getD cs 0 0 ∷ []
 only [] h = absurd (omega arith)
@@ -92,23 +92,23 @@ only (n ∷ m ∷ cs) h = absurd (omega arith)
 final-complete : (t : Tally) → final t ≡ true → Complete t
 unfolding final
 final-complete t h =
-    let q = and-eq-true-iff (eqb (length (countsOf (t .streams))) 1) (eqb (endedIn (t .streams)) (known (t .streams))) .0 h in
-    (known (t .streams), only (countsOf (t .streams)) (eqb-true (length (countsOf (t .streams))) 1 (q .0)), eqb-true (endedIn (t .streams)) (known (t .streams)) (q .1))
+    let q = and-eq-true-iff (eqb (length (countsOf (t .streams))) 1) (eqb (endedIn (t .streams)) (knownCount (t .streams))) .0 h in
+    (knownCount (t .streams), only (countsOf (t .streams)) (eqb-true (length (countsOf (t .streams))) 1 (q .0)), eqb-true (endedIn (t .streams)) (knownCount (t .streams)) (q .1))
 
 complete-final : (t : Tally) → Complete t → final t ≡ true
 unfolding final
 complete-final t h =
-    rw (eq-eqb (length (countsOf (t .streams))) 1 (ap length (h .1)), eq-eqb (endedIn (t .streams)) (known (t .streams)) (h .2 ∙ sym (ap (λ cs. getD cs 0 0) (h .1))))
+    rw (eq-eqb (length (countsOf (t .streams))) 1 (ap length (h .1)), eq-eqb (endedIn (t .streams)) (knownCount (t .streams)) (h .2 ∙ sym (ap (λ cs. getD cs 0 0) (h .1))))
 
 -- ---- the byte count
 
 left-bytes : (ss : List Stream) → AllProper ss → sum (λ k. k .left) (map rowOf ss) + bytesIn (blocksOf ss) ≡ sum sizeOf (blocksOf ss)
-unfolding sum blocksOf rowOf numbersOf
+unfolding sum blocksOf rowOf encodeState
 left-bytes [] a = refl
 left-bytes (s ∷ ss) a =
     omega (arith, left-bytes ss (a .1), kind-left (stateFrom s) (accepted s) (isNonEmpty (taken s)) (kind s (a .0)), sum-append sizeOf (accepted s) (blocksOf ss), sum-append (λ (x : Block). length (x .body)) (accepted s) (blocksOf ss))
 
-module _ (F R : ℕ) (before : Pairs) (file : List ℕ) (ruled : Ruled 0 before) where
+module _ (F R : ℕ) (before : Pairs) (file : List ℕ) (ruled : ObeyFrom 0 before) where
   stored-is : (t : Tally) → Invariant F R before t → storedOf (worldOf F R before file t) ≡ bytesIn (blocksOf (t .streams)) + total before
   unfolding storedOf leftOf worldOf transferOf
   stored-is t i =
@@ -150,14 +150,14 @@ module _ (F R : ℕ) (before : Pairs) (file : List ℕ) (ruled : Ruled 0 before)
           has p v h = unfold worldOf in has-withPayloads p v (blocksOf (t .streams)) file (proper-bodies (t .streams) (i .proper)) (omega (arith, i .apart p)) (below p v h) h
 
       -- as many have ended as are announced, and no more are used
-      all-ended : Complete t → Count (countsOf (t .streams)) (used (t .streams)) → used (t .streams) ≤ endedIn (t .streams)
+      all-ended : Complete t → Count (countsOf (t .streams)) (usedIn (t .streams)) → usedIn (t .streams) ≤ endedIn (t .streams)
       all-ended c (unknown e) = let z : _≡_ {A = ℕ} 0 1 = ap length (sym e ∙ c .1) in absurd (omega (arith, z))
       all-ended c (announced n e e₀ e₁ e₂) =
           let same : n ≡ c .0 = ap (λ cs. getD cs 0 0) (sym e ∙ c .1) in
           omega (arith, same, c .2)
 
-      by-word : verdict t ≡ word (t .fault) (final t)
-      by-word = unfold verdict final in refl
+      by-word : tallyVerdict t ≡ word (t .fault) (final t)
+      by-word = unfold tallyVerdict final in refl
 
       says : ((verdictOf (worldOf F R before file t) ≡ broken) ↔ (0 < t .fault)) × ((verdictOf (worldOf F R before file t) ≡ result) ↔ ((t .fault ≡ 0) × Complete t))
           × ((verdictOf (worldOf F R before file t) ≡ guess) ↔ ((t .fault ≡ 0) × (Complete t → ⊥)))
@@ -167,13 +167,13 @@ module _ (F R : ℕ) (before : Pairs) (file : List ℕ) (ruled : Ruled 0 before)
 
 -- ---- every list
 
-after-list-is : (w : World) (file : List ℕ) (R : ℕ) (before : Pairs) → Begun w file R before → (ks : List Call) → AfterList R before file (after w ks) (tallyOf (length file) R before ks)
+after-list-is : (w : World) (file : List ℕ) (R : ℕ) (before : Pairs) → StartedWith w file R before → (ks : List Call) → AfterList R before file (after w ks) (tallyOf (length file) R before ks)
 after-list-is w file R before b ks =
     let a = along w file R before b ks in
     subst (λ v. AfterList R before file v (tallyOf (length file) R before ks)) (sym (world-along w file R before b ks))
     (after-tally (length file) R before file (a .ruled) (tallyOf (length file) R before ks) refl (a .few) (a .kept))
 
-grew : (w : World) (file : List ℕ) (R : ℕ) (before : Pairs) → Begun w file R before → (ks more : List Call)
+grew : (w : World) (file : List ℕ) (R : ℕ) (before : Pairs) → StartedWith w file R before → (ks more : List Call)
     → Grown (blocksOf (tallyOf (length file) R before ks .streams)) (blocksOf (tallyOf (length file) R before (ks ++ more) .streams))
 grew w file R before b ks more =
     let a = along w file R before b ks in
@@ -182,7 +182,7 @@ grew w file R before b ks more =
     (run (length file) R before file (a .ruled) refl (a .few) more t (a .kept) .grown)
 
 -- a complete tally shows RESULT or BROKEN, and after either no call changes anything
-unchanged : (w : World) (file : List ℕ) (R : ℕ) (before : Pairs) → Begun w file R before → (ks : List Call) → Complete (tallyOf (length file) R before ks) → (more : List Call)
+unchanged : (w : World) (file : List ℕ) (R : ℕ) (before : Pairs) → StartedWith w file R before → (ks : List Call) → Complete (tallyOf (length file) R before ks) → (more : List Call)
     → Unchanged (after w ks) (after w (ks ++ more))
 unchanged w file R before b ks c more =
     subst (Unchanged (after w ks)) (sym (run-append callOf w ks more ∙ rows .stays (after w ks) (λ g. after-list-is w file R before b ks .guess-is .0 g .1 c) more))

@@ -6,7 +6,7 @@ use lib.ListN.{length}
 use Rattle.ledger.specs.Pairs.{Pairs, size}
 use Rattle.transfer.specs.Transfer.{World, result, verdictOf}
 use Rattle.transfer.specs.Calls.{Call, after}
-use Rattle.transfer.specs.AfterList.{Begun, tallyOf}
+use Rattle.transfer.specs.AfterList.{StartedWith, tallyOf}
 use Rattle.transfer.specs.Sending.{SentChannel, sentBlocks, nonEmptyPayloads, WellFormed, Arrival}
 use Rattle.transfer.specs.Arrivals.{AllTaken}
 use Rattle.transfer.proofs.TallyFromStart.{along}
@@ -14,7 +14,7 @@ use Rattle.transfer.proofs.AfterList.{every-list}
 use Rattle.transfer.proofs.ArrivalTaken.{pieces-taken}
 use Rattle.transfer.proofs.CompleteSending.{lived, lived-bytes, lived-well}
 
-pub only-well-formed : (w : World) (file : List ℕ) (R : ℕ) (before : Pairs) → Begun w file R before → (ks : List Call) → AllTaken w ks → verdictOf (after w ks) ≡ result
+pub only-well-formed : (w : World) (file : List ℕ) (R : ℕ) (before : Pairs) → StartedWith w file R before → (ks : List Call) → AllTaken w ks → verdictOf (after w ks) ≡ result
     → (s : List SentChannel) × Arrival s ks × ((r : ℕ) → nonEmptyPayloads (sentBlocks s) + size before ≤ r → WellFormed (length file) r before s)
 only-well-formed w file R before b ks whole v =
     let a = along w file R before b ks in

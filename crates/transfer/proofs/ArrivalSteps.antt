@@ -10,13 +10,13 @@ use borrow.Author.Tests.{lt-leb, le-ltb, eq-eqb, ne-eqb}
 use lib.Dec.{ltb, eqb}
 use lib.ListN.{length}
 use lib.Seq.{getD-set-other, ext-getD}
-use Rattle.ledger.specs.Pairs.{Pairs, Ruled}
+use Rattle.ledger.specs.Pairs.{Pairs, ObeyFrom}
 use Rattle.transfer.specs.Channel.{channelCount}
 use Rattle.transfer.specs.Transfer.{guess, result}
 use Rattle.transfer.specs.Receive.{Outcome, afterByte, takeByte, Answer, refused, took, takeBytes, isNonEmpty, isEnded}
-use Rattle.transfer.specs.Calls.{Call, receive, runBy}
-use Rattle.transfer.specs.Block.{hasEnd}
-use Rattle.transfer.specs.Tally.{Tally, Stream, intact, taken, accepted, countsOf, known, endedIn, verdict, empty, streamAt, withStream, takeByte as tallyByteOf, refusalOf, callOf}
+use Rattle.transfer.specs.Calls.{Call, receive, foldCalls}
+use Rattle.transfer.specs.Block.{hasEnded}
+use Rattle.transfer.specs.Tally.{Tally, Stream, intact, taken, accepted, countsOf, knownCount, endedIn, tallyVerdict, empty, streamAt, withStream, tallyByte as tallyByteOf, tallyRefusal, tallyCall}
 use Rattle.transfer.specs.StateFrom.{stateFrom}
 use Rattle.transfer.specs.Sending.{piecesOn}
 use Rattle.transfer.proofs.ReceivePieces.{bytes-goes, bytes-stops}
@@ -33,7 +33,7 @@ use Rattle.transfer.proofs.SendingBegun.{Underway, counts-are, on-chann
 use Rattle.transfer.proofs.SendingFaultless.{Takes, takes-byte}
 use Rattle.transfer.proofs.SendingPieces.{pieces-here, pieces-other, pieces-none}
 
-module _ (F R : ℕ) (before : Pairs) (ruled : Ruled 0 before) (n : ℕ) (all : List Stream) (sent : Sendable F R before n all) where
+module _ (F R : ℕ) (before : Pairs) (ruled : ObeyFrom 0 before) (n : ℕ) (all : List Stream) (sent : Sendable F R before n all) where
   -- without a fault so far, and the calls ks are to come
   pub record Way (t : Tally) (ks : List Call) : Type 0 where
     pub clean : t .fault ≡ 0
@@ -52,15 +52,15 @@ module _ (F R : ℕ) (before : Pairs) (ruled : Ruled 0 before) (n : ℕ) (all : 
 
   -- ---- the verdict
 
-  pub guess-still : (t : Tally) (ks : List Call) (c b : ℕ) (m : List ℕ) → Way t ks → piecesOn c ks ≡ b ∷ m → verdict t ≡ guess
-  unfolding verdict
+  pub guess-still : (t : Tally) (ks : List Call) (c b : ℕ) (m : List ℕ) → Way t ks → piecesOn c ks ≡ b ∷ m → tallyVerdict t ≡ guess
+  unfolding tallyVerdict
   guess-still t ks c b m w e = rw (le-ltb 0 (t .fault) (omega (arith, w .clean))) (go (counts-are F R before n all sent (t .streams) (underway t ks w)))
     where
       less : endedIn (t .streams) < n
       less = ended-below F R before n all sent (t .streams) (underway t ks w) c b m (ap (λ bs. taken (streamAt t c) ++ bs) (sym e) ∙ w .comes c)
 
       go : (countsOf (t .streams) ≡ []) ⊎ (countsOf (t .streams) ≡ n ∷ [])
-          → cond (eqb (length (countsOf (t .streams))) 1 && eqb (endedIn (t .streams)) (known (t .streams))) result guess ≡ guess
+          → cond (eqb (length (countsOf (t .streams))) 1 && eqb (endedIn (t .streams)) (knownCount (t .streams))) result guess ≡ guess
       go (inl h) = rw h
       go (inr h) = rw (h, ne-eqb (endedIn (t .streams)) n (λ q. omega (arith, less)))
 
@@ -72,8 +72,8 @@ module _ (F R : ℕ) (before : Pairs) (ruled : Ruled 0 before) (n : ℕ) (all : 
       same : (c : ℕ) → taken (streamAt t c) ≡ taken (streamIn all c)
       same c = sym (append-nil (taken (streamAt t c))) ∙ ap (λ bs. taken (streamAt t c) ++ bs) (sym (none c)) ∙ w .comes c
 
-  pub result-then : (t : Tally) (ks : List Call) → Way t ks → ((c : ℕ) → piecesOn c ks ≡ []) → verdict t ≡ result
-  unfolding verdict
+  pub result-then : (t : Tally) (ks : List Call) → Way t ks → ((c : ℕ) → piecesOn c ks ≡ []) → tallyVerdict t ≡ result
+  unfolding tallyVerdict
   result-then t ks w none = rw (le-ltb 0 (t .fault) (omega (arith, w .clean)), all-there t ks w none, sent .counts-are, eq-eqb (endedIn all) n (sent .ended-are))
 
   -- ---- a byte
@@ -94,7 +94,7 @@ module _ (F R : ℕ) (before : Pairs) (ruled : Ruled 0 before) (n : ℕ) (all : 
     k : c < channelCount
     k = on-channel F R before n all sent (t .streams) u c b (bs ++ piecesOn c ks) e
 
-    alive : hasEnd (accepted (streamAt t c)) ≡ false
+    alive : hasEnded (accepted (streamAt t c)) ≡ false
     alive = not-ended F R before n all sent (t .streams) u c b (bs ++ piecesOn c ks) e
 
     takes : Takes (tallyByteOf F R before t c b) next (bs ++ piecesOn c ks)
@@ -150,34 +150,34 @@ module _ (F R : ℕ) (before : Pairs) (ruled : Ruled 0 before) (n : ℕ) (all : 
           (T, bytes-stops N t T b bs k (q .0) ∙ ap (λ j. (took j, T)) e, way-without T c ks (subst (λ m. Way T (receive c m ∷ ks)) last (way-next t c b bs ks w)))
 
   pub call-taken : (t : Tally) (c b : ℕ) (bs : List ℕ) (ks : List Call) → Way t (receive c (b ∷ bs) ∷ ks)
-      → (t′ : Tally) × (callOf F R before t (receive c (b ∷ bs)) ≡ (took (suc (length bs)), t′)) × Way t′ ks
+      → (t′ : Tally) × (tallyCall F R before t (receive c (b ∷ bs)) ≡ (took (suc (length bs)), t′)) × Way t′ ks
   call-taken t c b bs ks w =
       let i = bytes (b ∷ bs) t c 0 ks w in
       let e : 0 + suc (length bs) ≡ suc (length bs) = omega arith in
       (i .0, goes-through ∙ i .1 ∙ ap (λ j. (took j, i .0)) e, i .2)
     where
-      guesses : verdict t ≡ guess
+      guesses : tallyVerdict t ≡ guess
       guesses = guess-still t (receive c (b ∷ bs) ∷ ks) c b (bs ++ piecesOn c ks) w (pieces-here c (b ∷ bs) ks)
 
-      not-refused : refusalOf t c (b ∷ bs) ≡ 0
-      not-refused = unfold refusalOf in rw (lt-leb channelCount c (k t c b bs ks w), guesses, alive t c b bs ks w)
+      not-refused : tallyRefusal t c (b ∷ bs) ≡ 0
+      not-refused = unfold tallyRefusal in rw (lt-leb channelCount c (k t c b bs ks w), guesses, alive t c b bs ks w)
 
-      goes-through : callOf F R before t (receive c (b ∷ bs)) ≡ takeBytes (λ v x. tallyByteOf F R before v c x) t (b ∷ bs) 0
-      goes-through = unfold callOf in rw not-refused
+      goes-through : tallyCall F R before t (receive c (b ∷ bs)) ≡ takeBytes (λ v x. tallyByteOf F R before v c x) t (b ∷ bs) 0
+      goes-through = unfold tallyCall in rw not-refused
 
-  empty-call : (t : Tally) (c : ℕ) → callOf F R before t (receive c []) .1 ≡ t
-  unfolding callOf takeBytes
-  empty-call t c = go (ltb 0 (refusalOf t c []))
+  empty-call : (t : Tally) (c : ℕ) → tallyCall F R before t (receive c []) .1 ≡ t
+  unfolding tallyCall takeBytes
+  empty-call t c = go (ltb 0 (tallyRefusal t c []))
     where
-      go : (b : Bool) → cond {A = Answer × Tally} b (refused (refusalOf t c []), t) (took 0, t) .1 ≡ t
+      go : (b : Bool) → cond {A = Answer × Tally} b (refused (tallyRefusal t c []), t) (took 0, t) .1 ≡ t
       go true = refl
       go false = refl
 
-  pub run-taken : (pre post : List Call) (t : Tally) → Way t (pre ++ post) → Way (runBy (callOf F R before) t pre .1) post
-  unfolding runBy
+  pub run-taken : (pre post : List Call) (t : Tally) → Way t (pre ++ post) → Way (foldCalls (tallyCall F R before) t pre .1) post
+  unfolding foldCalls
   run-taken [] post t w = w
   run-taken (receive c [] ∷ pre) post t w =
-      run-taken pre post (callOf F R before t (receive c []) .1) (subst (λ v. Way v (pre ++ post)) (sym (empty-call t c)) (way-without t c (pre ++ post) w))
+      run-taken pre post (tallyCall F R before t (receive c []) .1) (subst (λ v. Way v (pre ++ post)) (sym (empty-call t c)) (way-without t c (pre ++ post) w))
   run-taken (receive c (b ∷ bs) ∷ pre) post t w =
       let i = call-taken t c b bs (pre ++ post) w in
-      run-taken pre post (callOf F R before t (receive c (b ∷ bs)) .1) (subst (λ v. Way v (pre ++ post)) (sym (ap (λ a. a .1) (i .1))) (i .2))
+      run-taken pre post (tallyCall F R before t (receive c (b ∷ bs)) .1) (subst (λ v. Way v (pre ++ post)) (sym (ap (λ a. a .1) (i .1))) (i .2))

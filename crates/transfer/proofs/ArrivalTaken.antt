@@ -13,15 +13,15 @@ use Rattle.ledger.specs.Pairs.{Pairs}
 use Rattle.transfer.specs.Channel.{channelCount}
 use Rattle.transfer.specs.Transfer.{World}
 use Rattle.transfer.specs.Receive.{Answer, refused, took}
-use Rattle.transfer.specs.Calls.{Call, receive, callOf, runBy, after}
+use Rattle.transfer.specs.Calls.{Call, receive, callOf, foldCalls, after}
 use Rattle.transfer.specs.Tally.{intact, taken, empty, streamAt}
-use Rattle.transfer.specs.AfterList.{Begun, tallyOf}
+use Rattle.transfer.specs.AfterList.{StartedWith, tallyOf}
 use Rattle.transfer.specs.EachCall.{Adds}
 use Rattle.transfer.specs.Sending.{piecesOn}
 use Rattle.transfer.specs.Arrivals.{AllTaken}
 use Rattle.transfer.proofs.EachCall.{each-call}
 
-module _ (w : World) (file : List ℕ) (R : ℕ) (before : Pairs) (begun : Begun w file R before) (ks : List Call) (whole : AllTaken w ks) where
+module _ (w : World) (file : List ℕ) (R : ℕ) (before : Pairs) (begun : StartedWith w file R before) (ks : List Call) (whole : AllTaken w ks) where
   abbrev bytesAfter : List Call → ℕ → List ℕ
   bytesAfter pre c = taken (streamAt (tallyOf (length file) R before pre) c)
 
@@ -88,4 +88,4 @@ module _ (w : World) (file : List ℕ) (R : ℕ) (before : Pairs) (begun : Begun
       at (suc n) (suc c) = at n c
 
       nothing : (c : ℕ) → bytesAfter [] c ≡ []
-      nothing c = unfold runBy empty in at channelCount c
+      nothing c = unfold foldCalls empty in at channelCount c

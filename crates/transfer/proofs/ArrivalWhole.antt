@@ -5,15 +5,15 @@ use mathlib.Core.Logic.{inl, inr}
 use mathlib.Core.List.{List, [], _∷_, _++_, append-nil}
 use native.Mathlib.Omega.{arith}
 use lib.ListN.{length, getD}
-use Rattle.ledger.specs.Pairs.{Pairs, Ruled}
+use Rattle.ledger.specs.Pairs.{Pairs, ObeyFrom}
 use Rattle.transfer.specs.Transfer.{World, guess, result, verdictOf}
 use Rattle.transfer.specs.Receive.{took}
 use Rattle.transfer.specs.Fit.{pairLimit}
 use Rattle.transfer.specs.Calls.{Call, receive, callOf, after}
 use Rattle.transfer.specs.Block.{Block, withPayloads}
-use Rattle.transfer.specs.Tally.{Tally, blocksOf, verdict, empty}
-use Rattle.transfer.specs.AfterList.{Begun, tallyOf, HasByte}
-use Rattle.transfer.specs.Sending.{SentChannel, WellFormedBlocks, WellFormedChannels, sentBlocks, WellFormed, piecesOn, Arrival, offered}
+use Rattle.transfer.specs.Tally.{Tally, blocksOf, tallyVerdict, empty}
+use Rattle.transfer.specs.AfterList.{StartedWith, tallyOf, HasByte}
+use Rattle.transfer.specs.Sending.{SentChannel, WellFormedBlocks, WellFormedChannels, sentBlocks, WellFormed, piecesOn, Arrival, totalPieceBytes}
 use Rattle.transfer.specs.Arrivals.{Arrives}
 use Rattle.transfer.proofs.TallyTransfer.{worldOf}
 use Rattle.transfer.proofs.TallyInvariant.{Invariant}
@@ -50,14 +50,14 @@ sent-inside F p v (x ∷ xs) s (inr h) = sent-inside F p v xs (s .1) h
 
 -- ---- an arrival
 
-module _ (w : World) (file : List ℕ) (R : ℕ) (before : Pairs) (begun : Begun w file R before) (s : List SentChannel) (wf : WellFormed (length file) R before s) (ks : List Call) (arrival : Arrival s ks) where
+module _ (w : World) (file : List ℕ) (R : ℕ) (before : Pairs) (begun : StartedWith w file R before) (s : List SentChannel) (wf : WellFormed (length file) R before s) (ks : List Call) (arrival : Arrival s ks) where
   abbrev F : ℕ
   F = length file
 
   abbrev tally : List Call → Tally
   tally pre = tallyOf F R before pre
 
-  start : Ruled 0 before × (R ≤ pairLimit) × Invariant F R before empty × (w ≡ worldOf F R before file empty)
+  start : ObeyFrom 0 before × (R ≤ pairLimit) × Invariant F R before empty × (w ≡ worldOf F R before file empty)
   start = begins w file R before begun
 
   sent : Sendable F R before (length s) (streamsOf s)
@@ -81,15 +81,15 @@ module _ (w : World) (file : List ℕ) (R : ℕ) (before : Pairs) (begun : Begun
       ∙ ap (λ a. a .0) (call F R before file (start .0) refl (start .1) (tally pre) (receive c (b ∷ bs)) (o .kept) .out)
       ∙ ap (λ a. a .0) (call-taken F R before (start .0) (length s) (streamsOf s) sent (tally pre) c b bs post o .1)
 
-  shown : (pre post : List Call) → OnWay pre post → verdictOf (after w pre) ≡ verdict (tally pre)
+  shown : (pre post : List Call) → OnWay pre post → verdictOf (after w pre) ≡ tallyVerdict (tally pre)
   shown pre post o = ap verdictOf (after-is pre) ∙ verdict-is F R before file (tally pre) (o .kept)
 
-  shown-guess : (pre post : List Call) → OnWay pre post → 0 < offered post → verdictOf (after w pre) ≡ guess
+  shown-guess : (pre post : List Call) → OnWay pre post → 0 < totalPieceBytes post → verdictOf (after w pre) ≡ guess
   shown-guess pre post o h =
       let p = some-offered post h in
       shown pre post o ∙ guess-still F R before (start .0) (length s) (streamsOf s) sent (tally pre) post (p .0) (p .1) (p .2 .0) o (p .2 .1)
 
-  shown-result : (pre post : List Call) → OnWay pre post → offered post ≡ 0 → verdictOf (after w pre) ≡ result
+  shown-result : (pre post : List Call) → OnWay pre post → totalPieceBytes post ≡ 0 → verdictOf (after w pre) ≡ result
   shown-result pre post o h = shown pre post o ∙ result-then F R before (start .0) (length s) (streamsOf s) sent (tally pre) post o (none-offered post h)
 
   -- ---- the file
@@ -121,13 +121,13 @@ module _ (w : World) (file : List ℕ) (R : ℕ) (before : Pairs) (begun : Begun
   all-of-it =
       record {
         all-taken = λ pre post c b bs e. taken-whole pre post c b bs (way pre (receive c (b ∷ bs) ∷ post) e);
-        shows-guess = λ pre post e h. shown-guess pre post (way pre post e) (omega (arith, h, ap offered e, offered-append pre post));
-        shows-result = λ pre post e h. shown-result pre post (way pre post e) (omega (arith, h, ap offered e, offered-append pre post));
+        shows-guess = λ pre post e h. shown-guess pre post (way pre post e) (omega (arith, h, ap totalPieceBytes e, offered-append pre post));
+        shows-result = λ pre post e h. shown-result pre post (way pre post e) (omega (arith, h, ap totalPieceBytes e, offered-append pre post));
         file-is = file-sent;
         payloads-in-file = whole-stand File (sentBlocks s) (sent-whole F (sentBlocks s) blocks) at-place;
         rest-stays = λ p h. ap (λ f. getD f p 0) file-sent ∙ none-withPayloads p (sentBlocks s) file h;
       }
 
-pub arrives : (w : World) (file : List ℕ) (R : ℕ) (before : Pairs) → Begun w file R before → (s : List SentChannel) → WellFormed (length file) R before s → (ks : List Call) → Arrival s ks
+pub arrives : (w : World) (file : List ℕ) (R : ℕ) (before : Pairs) → StartedWith w file R before → (s : List SentChannel) → WellFormed (length file) R before s → (ks : List Call) → Arrival s ks
     → Arrives w file s ks
 arrives = all-of-it

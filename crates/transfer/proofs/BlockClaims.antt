@@ -7,7 +7,7 @@ use native.Mathlib.Omega.{arith}
 use native.Mathlib.Decide.{ℕ-discrete}
 use borrow.Author.Tests.{eq-eqb, ne-eqb}
 use lib.Dec.{eqb}
-use Rattle.ledger.specs.Pairs.{Pairs, size, total, inRange, contains, Ruled, join}
+use Rattle.ledger.specs.Pairs.{Pairs, size, total, inRange, contains, ObeyFrom, join}
 use Rattle.ledger.proofs.PairsPlaces.{Where, under, within, past, stand, inRange-le}
 use Rattle.ledger.proofs.PairsJoin.{join-holds, join-ruled, join-size}
 use Rattle.ledger.proofs.PairsUnique.{ruled-unique}
@@ -44,10 +44,10 @@ claim-cases P x ps f g = go (ℕ-discrete (sizeOf x) 0)
     go (yes h) = rw (eq-eqb (sizeOf x) 0 h) (f h)
     go (no h) = rw (ne-eqb (sizeOf x) 0 h) (g (omega arith))
 
-pub claim-ruled : (x : Block) (ps : Pairs) → Ruled 0 ps → Ruled 0 (addClaim x ps)
-claim-ruled x ps c = claim-cases (Ruled 0) x ps (λ h. c) (λ h. join-ruled (placeOf x) (placeOf x + sizeOf x) 0 ps (omega arith) (omega arith) c)
+pub claim-ruled : (x : Block) (ps : Pairs) → ObeyFrom 0 ps → ObeyFrom 0 (addClaim x ps)
+claim-ruled x ps c = claim-cases (ObeyFrom 0) x ps (λ h. c) (λ h. join-ruled (placeOf x) (placeOf x + sizeOf x) 0 ps (omega arith) (omega arith) c)
 
-pub claim-holds : (q : ℕ) (x : Block) (ps : Pairs) → Ruled 0 ps → contains q (addClaim x ps) ≡ max (hitBy q x) (contains q ps)
+pub claim-holds : (q : ℕ) (x : Block) (ps : Pairs) → ObeyFrom 0 ps → contains q (addClaim x ps) ≡ max (hitBy q x) (contains q ps)
 claim-holds q x ps c =
     claim-cases (λ r. contains q r ≡ max (hitBy q x) (contains q ps)) x ps (λ h. at h (stand (placeOf x) (placeOf x + sizeOf x) q))
     (λ h. join-holds (placeOf x) (placeOf x + sizeOf x) 0 q ps (omega arith) c)
@@ -57,7 +57,7 @@ claim-holds q x ps c =
     at h (within y z w) = absurd (omega arith)
     at h (past y z w) = omega arith
 
-pub claim-total : (x : Block) (ps : Pairs) → Ruled 0 ps → ((q : ℕ) → hitBy q x + contains q ps ≤ 1) → total (addClaim x ps) ≡ sizeOf x + total ps
+pub claim-total : (x : Block) (ps : Pairs) → ObeyFrom 0 ps → ((q : ℕ) → hitBy q x + contains q ps ≤ 1) → total (addClaim x ps) ≡ sizeOf x + total ps
 claim-total x ps c d =
     claim-cases (λ r. total r ≡ sizeOf x + total ps) x ps (λ h. omega arith)
     (λ h. omega (arith, join-total (placeOf x) (placeOf x + sizeOf x) 0 ps (omega arith) (omega arith) c d))
@@ -69,20 +69,20 @@ unfolding claimsIn
 claims-append [] b ps = refl
 claims-append (x ∷ a) b ps = ap (addClaim x) (claims-append a b ps)
 
-pub claims-ruled : (xs : List Block) (ps : Pairs) → Ruled 0 ps → Ruled 0 (claimsIn xs ps)
+pub claims-ruled : (xs : List Block) (ps : Pairs) → ObeyFrom 0 ps → ObeyFrom 0 (claimsIn xs ps)
 unfolding claimsIn
 claims-ruled [] ps c = c
 claims-ruled (x ∷ xs) ps c = claim-ruled x (claimsIn xs ps) (claims-ruled xs ps c)
 
 -- a place is held where a block claims it or it was held before
-pub claims-holds : (q : ℕ) (xs : List Block) (ps : Pairs) → Ruled 0 ps → contains q (claimsIn xs ps) ≡ max (min 1 (cover q xs)) (contains q ps)
+pub claims-holds : (q : ℕ) (xs : List Block) (ps : Pairs) → ObeyFrom 0 ps → contains q (claimsIn xs ps) ≡ max (min 1 (cover q xs)) (contains q ps)
 unfolding claimsIn sum
 claims-holds q [] ps c = omega arith
 claims-holds q (x ∷ xs) ps c =
     omega (arith, claim-holds q x (claimsIn xs ps) (claims-ruled xs ps c), claims-holds q xs ps c, inRange-le (placeOf x) (placeOf x + sizeOf x) q)
 
 -- blocks that share no place add their lengths
-pub claims-total : (xs : List Block) (ps : Pairs) → Ruled 0 ps → ((q : ℕ) → cover q xs + contains q ps ≤ 1) → total (claimsIn xs ps) ≡ sum sizeOf xs + total ps
+pub claims-total : (xs : List Block) (ps : Pairs) → ObeyFrom 0 ps → ((q : ℕ) → cover q xs + contains q ps ≤ 1) → total (claimsIn xs ps) ≡ sum sizeOf xs + total ps
 unfolding claimsIn sum
 claims-total [] ps c d = omega arith
 claims-total (x ∷ xs) ps c d =
@@ -97,7 +97,7 @@ claims-size (x ∷ xs) ps =
     (λ h. rw (ne-eqb (sizeOf x) 0 (λ e. omega arith)) (omega (arith, claims-size xs ps, join-size (placeOf x) (placeOf x + sizeOf x) (claimsIn xs ps))))
 
 -- a block put in anywhere is claimed last
-pub claims-insert : (a : List Block) (x : Block) (b : List Block) (ps : Pairs) → Ruled 0 ps → claimsIn (a ++ x ∷ b) ps ≡ addClaim x (claimsIn (a ++ b) ps)
+pub claims-insert : (a : List Block) (x : Block) (b : List Block) (ps : Pairs) → ObeyFrom 0 ps → claimsIn (a ++ x ∷ b) ps ≡ addClaim x (claimsIn (a ++ b) ps)
 unfolding sum
 claims-insert a x b ps c =
     let without = claims-ruled (a ++ b) ps c in

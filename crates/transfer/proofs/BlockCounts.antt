@@ -10,13 +10,13 @@ use borrow.Author.Tests.{eq-eqb, ne-eqb}
 use lib.Dec.{eqb}
 use Rattle.eblock.specs.Header.{thirdOf}
 use Rattle.transfer.specs.Transfer.{sum}
-use Rattle.transfer.specs.Header.{isCount}
+use Rattle.transfer.specs.Header.{isEodc}
 use Rattle.transfer.specs.Block.{Block, countsIn}
 
 pub counts-append : (a b : List Block) → countsIn (a ++ b) ≡ countsIn a ++ countsIn b
 unfolding countsIn
 counts-append [] b = refl
-counts-append (x ∷ a) b = go (isCount (x .head)) (counts-append a b)
+counts-append (x ∷ a) b = go (isEodc (x .head)) (counts-append a b)
   where
     go : (t : Bool) → countsIn (a ++ b) ≡ countsIn a ++ countsIn b
         → cond t (thirdOf (x .head) ∷ countsIn (a ++ b)) (countsIn (a ++ b)) ≡ cond t (thirdOf (x .head) ∷ countsIn a) (countsIn a) ++ countsIn b
@@ -28,7 +28,7 @@ pub counts-same : (a : List Block) (x y : Block) (b : List Block) → x .head �
 unfolding countsIn
 counts-same a x y b h = rw (counts-append a (x ∷ b), counts-append a (y ∷ b), h)
 
-pub counts-without : (a : List Block) (x : Block) (b : List Block) → isCount (x .head) ≡ false → countsIn (a ++ x ∷ b) ≡ countsIn (a ++ b)
+pub counts-without : (a : List Block) (x : Block) (b : List Block) → isEodc (x .head) ≡ false → countsIn (a ++ x ∷ b) ≡ countsIn (a ++ b)
 unfolding countsIn
 counts-without a x b h = rw (counts-append a (x ∷ b), counts-append a b, h)
 
@@ -37,20 +37,20 @@ append-nothing [] b h = (refl, h)
 append-nothing (x ∷ a) b h = let z : _≡_ {A = ℕ} 0 1 = cc in absurd (omega arith)
 
 -- a count put in anywhere among blocks without one is the only one
-pub counts-first : (a : List Block) (x : Block) (b : List Block) → isCount (x .head) ≡ true → countsIn (a ++ b) ≡ [] → countsIn (a ++ x ∷ b) ≡ thirdOf (x .head) ∷ []
+pub counts-first : (a : List Block) (x : Block) (b : List Block) → isEodc (x .head) ≡ true → countsIn (a ++ b) ≡ [] → countsIn (a ++ x ∷ b) ≡ thirdOf (x .head) ∷ []
 unfolding countsIn
 counts-first a x b h k =
     let e : (countsIn a ≡ []) × (countsIn b ≡ []) = append-nothing (countsIn a) (countsIn b) (sym (counts-append a b) ∙ k) in
     rw (counts-append a (x ∷ b), h, e .0, e .1)
 
 -- a number of each count, added up
-pub sum-counts : (f : ℕ → ℕ) (xs : List Block) → sum f (countsIn xs) ≡ sum (λ (x : Block). cond (isCount (x .head)) (f (thirdOf (x .head))) 0) xs
+pub sum-counts : (f : ℕ → ℕ) (xs : List Block) → sum f (countsIn xs) ≡ sum (λ (x : Block). cond (isEodc (x .head)) (f (thirdOf (x .head))) 0) xs
 unfolding sum countsIn
 sum-counts f [] = refl
-sum-counts f (x ∷ xs) = go (isCount (x .head)) (sum-counts f xs)
+sum-counts f (x ∷ xs) = go (isEodc (x .head)) (sum-counts f xs)
   where
-    go : (t : Bool) → sum f (countsIn xs) ≡ sum (λ (x : Block). cond (isCount (x .head)) (f (thirdOf (x .head))) 0) xs
-        → sum f (cond t (thirdOf (x .head) ∷ countsIn xs) (countsIn xs)) ≡ cond t (f (thirdOf (x .head))) 0 + sum (λ (x : Block). cond (isCount (x .head)) (f (thirdOf (x .head))) 0) xs
+    go : (t : Bool) → sum f (countsIn xs) ≡ sum (λ (x : Block). cond (isEodc (x .head)) (f (thirdOf (x .head))) 0) xs
+        → sum f (cond t (thirdOf (x .head) ∷ countsIn xs) (countsIn xs)) ≡ cond t (f (thirdOf (x .head))) 0 + sum (λ (x : Block). cond (isEodc (x .head)) (f (thirdOf (x .head))) 0) xs
     go true i = omega (arith, i)
     go false i = omega (arith, i)
 

@@ -10,7 +10,7 @@ use lib.Seq.{take-at, drop-at, take-all}
 use Rattle.eblock.specs.Header.{headerLength}
 use Rattle.transfer.specs.Channel.{heldLimit}
 use Rattle.transfer.specs.Header.{endsChannel, payloadLength}
-use Rattle.transfer.specs.Block.{Block, block, sizeOf, blockBytes, cutBy, begunHeaderBy}
+use Rattle.transfer.specs.Block.{Block, block, sizeOf, blockBytes, cutBy, partialHeaderBy}
 use Rattle.transfer.proofs.BlockPayloads.{Bodies}
 
 pub blockBytes-append : (a b : List Block) → blockBytes (a ++ b) ≡ blockBytes a ++ blockBytes b
@@ -35,12 +35,12 @@ bodies-done (x ∷ xs) d = (omega (arith, d .1), bodies-done xs (d .3))
 
 -- k cuts take bs to the blocks xs and the header begun r
 abbrev pub Cuts : ℕ → List ℕ → List Block → List ℕ → Type 0
-Cuts k bs xs r = (cutBy k bs ≡ xs) × (begunHeaderBy k bs ≡ r)
+Cuts k bs xs r = (cutBy k bs ≡ xs) × (partialHeaderBy k bs ≡ r)
 
 -- one whole block in front
 pub cuts-block : (k : ℕ) (h p bs : List ℕ) (xs : List Block) (r : List ℕ) → length h ≡ headerLength → length p ≡ payloadLength h → Cuts k bs xs r
     → Cuts (suc k) (h ++ (p ++ bs)) (block h p ∷ xs) r
-unfolding cutBy begunHeaderBy
+unfolding cutBy partialHeaderBy
 cuts-block k h p bs xs r e f c =
     let far = le-ltb (length (h ++ (p ++ bs))) headerLength (omega (arith, length-append h (p ++ bs))) in
     let behind = drop-at h (p ++ bs) headerLength e in (
@@ -63,13 +63,13 @@ cuts-blocks (x ∷ done) bs xs r (suc k) d h f =
 
 -- fewer than 17 bytes are no block
 pub cuts-short : (k : ℕ) (r : List ℕ) → length r ≤ heldLimit → Cuts k r [] r
-unfolding cutBy begunHeaderBy
+unfolding cutBy partialHeaderBy
 cuts-short zero r h = (refl, refl)
 cuts-short (suc k) r h = let near = lt-ltb (length r) headerLength (omega arith) in (rw near, rw near)
 
 -- a header and some of its payload
 pub cuts-part : (k : ℕ) (h p : List ℕ) → length h ≡ headerLength → length p ≤ payloadLength h → length (h ++ p) ≤ k → Cuts k (h ++ p) (block h p ∷ []) []
-unfolding cutBy begunHeaderBy
+unfolding cutBy partialHeaderBy
 cuts-part zero h p e f g = absurd (omega (arith, length-append h p))
 cuts-part (suc k) h p e f g =
     let far = le-ltb (length (h ++ p)) headerLength (omega (arith, length-append h p)) in

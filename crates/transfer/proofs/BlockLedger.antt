@@ -6,7 +6,7 @@ use mathlib.Core.Bool.{true}
 use mathlib.Core.List.{List, [], _∷_}
 use native.Mathlib.Omega.{arith}
 use native.Mathlib.Decide.{decLt}
-use Rattle.ledger.specs.Pairs.{Pairs, size, contains, Ruled}
+use Rattle.ledger.specs.Pairs.{Pairs, size, contains, ObeyFrom}
 use Rattle.ledger.specs.Ledger.{obeys, pairsOf, laidOut, Contains}
 use Rattle.ledger.proofs.PairsPlaces.{inRange-in, Where, under, within, past, stand}
 use Rattle.ledger.proofs.LedgerLayout.{length-laidOut, pairsOf-laidOut, rule-laidOut}
@@ -32,8 +32,8 @@ claims-cover p [] h = absurd h
 claims-cover p (x ∷ xs) (inl h) = omega (arith, inRange-in (placeOf x) (placeOf x + sizeOf x) p (h .0) (h .1))
 claims-cover p (x ∷ xs) (inr h) = omega (arith, claims-cover p xs h)
 
-module _ (R : ℕ) (before : Pairs) (xs : List Block) (ruled : Ruled 0 before) (apart : (q : ℕ) → cover q xs + contains q before ≤ 1) (room : size (claimsIn xs before) ≤ R) where
-  all : Ruled 0 (claimsIn xs before)
+module _ (R : ℕ) (before : Pairs) (xs : List Block) (ruled : ObeyFrom 0 before) (apart : (q : ℕ) → cover q xs + contains q before ≤ 1) (room : size (claimsIn xs before) ≤ R) where
+  all : ObeyFrom 0 (claimsIn xs before)
   all = claims-ruled xs before ruled
 
   rule-kept : obeys (laidOut R (claimsIn xs before)) ≡ true

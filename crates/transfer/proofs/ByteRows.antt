@@ -8,16 +8,16 @@ use native.Mathlib.Omega.{arith}
 use borrow.Author.Tests.{ne-eqb}
 use lib.Dec.{ltb}
 use lib.ListN.{getD, set}
-use Rattle.ledger.specs.Pairs.{Pairs, Ruled}
+use Rattle.ledger.specs.Pairs.{Pairs, ObeyFrom}
 use Rattle.ledger.specs.Ledger.{pairsOf, laidOut}
 use Rattle.eblock.specs.Header.{secondOf}
 use Rattle.transfer.specs.declared.state.Channel.{Channel}
 use Rattle.transfer.specs.declared.state.Transfer.{Transfer}
-use Rattle.transfer.specs.Channel.{blank, unused, header, payload, ended, channelAt, readState, stateAt, putState, putFault, putCount}
+use Rattle.transfer.specs.Channel.{blank, unused, header, payload, ended, channelAt, decodeState, stateAt, putState, putFault, putCount}
 use Rattle.transfer.specs.Transfer.{sum, oneIfActive, endedOf, usedOf, World, world, withTransfer}
-use Rattle.transfer.specs.Header.{isCount, endsChannel, payloadLength, HeaderRequest, counts, claims, nothing, faulty, claimFault}
+use Rattle.transfer.specs.Header.{isEodc, endsChannel, payloadLength, HeaderRequest, counts, claims, nothing, faulty, claimFault}
 use Rattle.transfer.specs.Judgement.{HeaderAsks, for-count, for-claim, Union, ClaimJudged}
-use Rattle.transfer.specs.Receive.{continues, stops, notTaken, stopWithFault, endChannel, beginPayload, claimRange, applyHeader, storePayloadByte, takeByte}
+use Rattle.transfer.specs.Receive.{continues, stops, notTaken, stopWithFault, endChannel, expectPayload, claimRange, applyRequest, storePayloadByte, takeByte}
 use Rattle.transfer.specs.ByteRows.{Seventeenth, ByteRows}
 use Rattle.transfer.proofs.JudgementByTransfer.{asked-only}
 use Rattle.transfer.proofs.Judgement.{union-is, claim-only}
@@ -37,10 +37,10 @@ alive-at (k ∷ ks) zero e = rw e (omega arith)
 alive-at (k ∷ ks) (suc c) e = omega (arith, alive-at ks c e)
 
 header-alive : (t : Transfer) (c : ℕ) (h : List ℕ) → stateAt t c ≡ header h → endedOf t < usedOf t
-unfolding stateAt readState usedOf
+unfolding stateAt decodeState usedOf
 header-alive t c h s = omega (arith, alive-at (t .channels) c (go (channelAt t c .state) _ s))
   where
-    go : (n : ℕ) (r : List ℕ) → readState n r (channelAt t c .next) (channelAt t c .left) ≡ header h → n ≡ 1
+    go : (n : ℕ) (r : List ℕ) → decodeState n r (channelAt t c .next) (channelAt t c .left) ≡ header h → n ≡ 1
     go zero r e = cc
     go (suc zero) r e = refl
     go (suc (suc zero)) r e = cc
@@ -49,74 +49,74 @@ header-alive t c h s = omega (arith, alive-at (t .channels) c (go (channelAt t c
 
 -- ---- a 17th byte
 
-range-asked : (F known used : ℕ) (h : List ℕ) (s e : ℕ) → HeaderAsks F known used h (claims s e) → (isCount h ≡ false) × (0 < secondOf h) × (s < e)
+range-asked : (F known used : ℕ) (h : List ℕ) (s e : ℕ) → HeaderAsks F known used h (claims s e) → (isEodc h ≡ false) × (0 < secondOf h) × (s < e)
 range-asked F known used h _ _ (for-claim d q l f) = (q, l, omega arith)
 
 module _ (w : World) (c b : ℕ) (h : List ℕ) where
   abbrev whole : List ℕ
   whole = h ++ (b ∷ [])
 
-  heeded : (a : HeaderRequest) → Seventeenth w c b h a → takeByte w c b ≡ applyHeader w c whole a
-  heeded a s = byte-judged w c b h (s .in-header) (omega (arith, s .sixteen)) ∙ ap (applyHeader w c whole) (sym (asked-only (w .t .len) (w .t .count) (usedOf (w .t)) whole a (s .asks)))
+  heeded : (a : HeaderRequest) → Seventeenth w c b h a → takeByte w c b ≡ applyRequest w c whole a
+  heeded a s = byte-judged w c b h (s .in-header) (omega (arith, s .sixteen)) ∙ ap (applyRequest w c whole) (sym (asked-only (w .t .len) (w .t .count) (usedOf (w .t)) whole a (s .asks)))
 
   header-fault : (k : ℕ) → Seventeenth w c b h (faulty k) → takeByte w c b ≡ stops (withTransfer w (putFault (putState (w .t) c (header [])) k c))
-  unfolding applyHeader stopWithFault
+  unfolding applyRequest stopWithFault
   header-fault k s = heeded (faulty k) s
 
-  count-goes : (n : ℕ) → Seventeenth w c b h (counts n) → endsChannel whole ≡ false → takeByte w c b ≡ continues (withTransfer w (putState (putCount (w .t) n) c (header [])))
-  unfolding applyHeader beginPayload
-  count-goes n s z = heeded (counts n) s ∙ rw z
+  count-continues : (n : ℕ) → Seventeenth w c b h (counts n) → endsChannel whole ≡ false → takeByte w c b ≡ continues (withTransfer w (putState (putCount (w .t) n) c (header [])))
+  unfolding applyRequest expectPayload
+  count-continues n s z = heeded (counts n) s ∙ rw z
 
   -- n is no less than the channels used, so fewer than n have ended
   count-ends : (n : ℕ) → Seventeenth w c b h (counts n) → endsChannel whole ≡ true → takeByte w c b ≡ stops (withTransfer w (putState (putCount (w .t) n) c ended))
-  unfolding applyHeader beginPayload
+  unfolding applyRequest expectPayload
   count-ends n s z =
       heeded (counts n) s ∙ rw z (ends-channel (withTransfer w (putCount (w .t) n)) c (inr (unfold putCount endedOf in λ e. omega (arith, e, few n (s .asks), header-alive (w .t) c h (s .in-header)))))
     where
       few : (n : ℕ) → HeaderAsks (w .t .len) (w .t .count) (usedOf (w .t)) whole (counts n) → usedOf (w .t) ≤ n
       few _ (for-count d q k n₀ n₁ n₂) = n₂
 
-  empty-goes : Seventeenth w c b h nothing → endsChannel whole ≡ false → takeByte w c b ≡ continues (withTransfer w (putState (w .t) c (header [])))
-  unfolding applyHeader beginPayload
-  empty-goes s z = heeded nothing s ∙ rw z
+  empty-continues : Seventeenth w c b h nothing → endsChannel whole ≡ false → takeByte w c b ≡ continues (withTransfer w (putState (w .t) c (header [])))
+  unfolding applyRequest expectPayload
+  empty-continues s z = heeded nothing s ∙ rw z
 
   empty-last : Seventeenth w c b h nothing → endsChannel whole ≡ true → takeByte w c b ≡ endChannel w c
-  unfolding applyHeader beginPayload
+  unfolding applyRequest expectPayload
   empty-last s z = heeded nothing s ∙ rw z
 
-  module _ (s e : ℕ) (r : Ruled 0 (pairsOf (w .lent .claimed))) where
-    judged : Seventeenth w c b h (claims s e) → (k : ℕ) → ClaimJudged (w .t .pairs) (pairsOf (w .lent .claimed)) s e k → claimFault (w .t .pairs) (pairsOf (w .lent .claimed)) s e ≡ k
-    judged x k j = sym (claim-only (w .t .pairs) (pairsOf (w .lent .claimed)) s e (range-asked (w .t .len) (w .t .count) (usedOf (w .t)) whole s e (x .asks) .2) r k j)
+  module _ (s e : ℕ) (r : ObeyFrom 0 (pairsOf (w .lent .ledger))) where
+    judged : Seventeenth w c b h (claims s e) → (k : ℕ) → ClaimJudged (w .t .pairs) (pairsOf (w .lent .ledger)) s e k → claimFault (w .t .pairs) (pairsOf (w .lent .ledger)) s e ≡ k
+    judged x k j = sym (claim-only (w .t .pairs) (pairsOf (w .lent .ledger)) s e (range-asked (w .t .len) (w .t .count) (usedOf (w .t)) whole s e (x .asks) .2) r k j)
 
-    claim-fault : (k : ℕ) → Seventeenth w c b h (claims s e) → ClaimJudged (w .t .pairs) (pairsOf (w .lent .claimed)) s e k → 0 < k
+    claim-fault : (k : ℕ) → Seventeenth w c b h (claims s e) → ClaimJudged (w .t .pairs) (pairsOf (w .lent .ledger)) s e k → 0 < k
         → takeByte w c b ≡ stops (withTransfer w (putFault (putState (w .t) c (header [])) k c))
     unfolding stopWithFault
     claim-fault zero x j p = absurd (omega arith)
     claim-fault (suc k) x j p = heeded (claims s e) x ∙ claim-faulty w c whole s e k (judged x (suc k) j)
 
-    claimed : (m : Pairs) → Seventeenth w c b h (claims s e) → ClaimJudged (w .t .pairs) (pairsOf (w .lent .claimed)) s e 0 → Union s e (pairsOf (w .lent .claimed)) m
+    claimed : (m : Pairs) → Seventeenth w c b h (claims s e) → ClaimJudged (w .t .pairs) (pairsOf (w .lent .ledger)) s e 0 → Union s e (pairsOf (w .lent .ledger)) m
         → takeByte w c b ≡ continues (world (putState (w .t) c (payload s (secondOf whole) (endsChannel whole))) (w .lent .file) (laidOut (w .t .pairs) m))
-    unfolding beginPayload claimRange payloadLength
+    unfolding expectPayload claimRange payloadLength
     claimed m x j u =
         heeded (claims s e) x ∙ claim-opens w c whole s e (judged x 0 j) ∙ begins (secondOf whole) refl
       where
-        a : (isCount whole ≡ false) × (0 < secondOf whole) × (s < e)
+        a : (isEodc whole ≡ false) × (0 < secondOf whole) × (s < e)
         a = range-asked (w .t .len) (w .t .count) (usedOf (w .t)) whole s e (x .asks)
 
         begins : (n : ℕ) → secondOf whole ≡ n
-            → beginPayload (claimRange w s e) c s (payloadLength whole) (endsChannel whole)
+            → expectPayload (claimRange w s e) c s (payloadLength whole) (endsChannel whole)
             ≡ continues (world (putState (w .t) c (payload s n (endsChannel whole))) (w .lent .file) (laidOut (w .t .pairs) m))
         begins zero y = absurd (omega (arith, a .1))
-        begins (suc n) y = rw (a .0, y, union-is (w .t .pairs) (pairsOf (w .lent .claimed)) s e (a .2) r m u)
+        begins (suc n) y = rw (a .0, y, union-is (w .t .pairs) (pairsOf (w .lent .ledger)) s e (a .2) r m u)
 
 -- ---- a payload's byte
 
 module _ (w : World) (c b p : ℕ) where
   abbrev pub with-byte : World
-  with-byte = world (w .t) (set (w .lent .file) p b) (w .lent .claimed)
+  with-byte = world (w .t) (set (w .lent .file) p b) (w .lent .ledger)
 
   stored : (n : ℕ) (e : Bool) → stateAt (w .t) c ≡ payload p (suc (suc n)) e → takeByte w c b ≡ continues (withTransfer with-byte (putState (w .t) c (payload (suc p) (suc n) e)))
-  unfolding storePayloadByte beginPayload
+  unfolding storePayloadByte expectPayload
   stored n e s = byte-payload w c b p (suc (suc n)) e s
 
   none-left : (e : Bool) → stateAt (w .t) c ≡ payload p 0 e → takeByte w c b ≡ notTaken w
@@ -124,11 +124,11 @@ module _ (w : World) (c b p : ℕ) where
   none-left e s = byte-payload w c b p 0 e s
 
   last-stored : stateAt (w .t) c ≡ payload p 1 false → takeByte w c b ≡ continues (withTransfer with-byte (putState (w .t) c (header [])))
-  unfolding storePayloadByte beginPayload
+  unfolding storePayloadByte expectPayload
   last-stored s = byte-payload w c b p 1 false s
 
   pub last-byte : stateAt (w .t) c ≡ payload p 1 true → takeByte w c b ≡ endChannel with-byte c
-  unfolding storePayloadByte beginPayload
+  unfolding storePayloadByte expectPayload
   last-byte s = byte-payload w c b p 1 true s
 
 pub byte-rows : ByteRows
@@ -137,9 +137,9 @@ byte-rows =
       first-held = first-held;
       next-held = byte-held;
       header-fault = λ w c b k h. header-fault w c b h k;
-      count-goes = λ w c b n h. count-goes w c b h n;
+      count-continues = λ w c b n h. count-continues w c b h n;
       count-ends = λ w c b n h. count-ends w c b h n;
-      empty-goes = empty-goes;
+      empty-continues = empty-continues;
       empty-ends = λ w c b h s z n. empty-last w c b h s z ∙ ends-channel w c n;
       empty-20 = λ w c b h s z n e. empty-last w c b h s z ∙ ends-20 w c n e;
       claim-fault = λ w c b k s e h x r. claim-fault w c b h s e r k x;
@@ -147,6 +147,6 @@ byte-rows =
       stored = stored;
       last-stored = last-stored;
       last-ends = λ w c b p s n. last-byte w c b p s ∙ ends-channel (with-byte w c b p) c n;
-      ended-leaves = byte-ended;
-      none-left-leaves = none-left;
+      ended-not-taken = byte-ended;
+      none-left-not-taken = none-left;
     }

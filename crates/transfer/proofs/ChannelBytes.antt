@@ -10,12 +10,12 @@ use lib.ListN.{length}
 use Rattle.ledger.specs.Pairs.{inRange}
 use Rattle.ledger.proofs.PairsPlaces.{inRange-in, Where, under, within, past, stand}
 use Rattle.eblock.specs.Header.{headerLength, thirdOf}
-use Rattle.transfer.specs.Channel.{heldLimit, State, unused, header, payload, ended, stateNumber, nextNumber, leftNumber}
+use Rattle.transfer.specs.Channel.{heldLimit, State, unused, header, payload, ended, stateCode, nextPlace, bytesLeft}
 use Rattle.transfer.specs.Transfer.{sum}
 use Rattle.transfer.specs.Header.{endsChannel, payloadLength}
 use Rattle.transfer.specs.Receive.{isNonEmpty, isEnded}
 use Rattle.transfer.proofs.ChannelReadBack.{Stands}
-use Rattle.transfer.specs.Block.{Block, block, sizeOf, isWhole, cut, cutBy, begunHeader, endsItsChannel, hasEnd, bytesIn, blockBytes}
+use Rattle.transfer.specs.Block.{Block, block, sizeOf, isWhole, cut, cutBy, partialHeader, isCompleteEnd, hasEnded, bytesIn, blockBytes}
 use Rattle.transfer.specs.Tally.{Stream, intact, faulted, taken, accepted, oneIf}
 use Rattle.transfer.proofs.BlockClaims.{sum-append, hitBy, cover}
 use Rattle.transfer.proofs.BlockPayloads.{Bodies, bodies-append}
@@ -50,13 +50,13 @@ pub stateFrom-payload : (bs : List ℕ) (done : List Block) (h p : List ℕ) →
     → stateFrom (intact bs) ≡ payload (thirdOf h + length p) (payloadLength h - length p) (endsChannel h)
 unfolding stateFrom stateAfterBlock
 stateFrom-payload bs done h p d k q u e =
-    rw (u, e, cuts-payload done h p d k (omega arith) .0, viewOn-last done (block h p) (begunHeader (blockBytes done ++ (h ++ p))), lt-ltb (length p) (payloadLength h) q)
+    rw (u, e, cuts-payload done h p d k (omega arith) .0, viewOn-last done (block h p) (partialHeader (blockBytes done ++ (h ++ p))), lt-ltb (length p) (payloadLength h) q)
 
 pub stateFrom-end : (bs : List ℕ) (done : List Block) (h p : List ℕ) → Done done → length h ≡ headerLength → length p ≡ payloadLength h → endsChannel h ≡ true → isNonEmpty bs ≡ true → bs ≡ blockBytes done ++ (h ++ p)
     → stateFrom (intact bs) ≡ ended
 unfolding stateFrom stateAfterBlock
 stateFrom-end bs done h p d k q z u e =
-    rw (u, e, cuts-payload done h p d k (omega arith) .0, viewOn-last done (block h p) (begunHeader (blockBytes done ++ (h ++ p))), le-ltb (length p) (payloadLength h) (omega arith), z)
+    rw (u, e, cuts-payload done h p d k (omega arith) .0, viewOn-last done (block h p) (partialHeader (blockBytes done ++ (h ++ p))), le-ltb (length p) (payloadLength h) (omega arith), z)
 
 pub kind : (s : Stream) → Proper s → Kind (stateFrom s) (accepted s) (isNonEmpty (taken s))
 unfolding accepted
@@ -78,26 +78,26 @@ kind-stands x xs u (filling done h p e f d q g) = rw e tt
 kind-stands x xs u (finished done h p e f d q z g) = rw e tt
 
 -- used where a byte was taken
-pub kind-used : (x : State) (xs : List Block) (u : Bool) → Kind x xs u → oneIf u ≡ cond (eqb (stateNumber x) 0) 0 1
-unfolding stateNumber
+pub kind-used : (x : State) (xs : List Block) (u : Bool) → Kind x xs u → oneIf u ≡ cond (eqb (stateCode x) 0) 0 1
+unfolding stateCode
 kind-used x xs u (untouched e f g) = rw (e, g)
 kind-used x xs u (heading r e d h g) = rw (e, g)
 kind-used x xs u (filling done h p e f d q g) = rw (e, g) (go (endsChannel h))
   where
-    go : (t : Bool) → _≡_ {A = ℕ} 1 (cond (eqb (stateNumber (payload (thirdOf h + length p) (payloadLength h - length p) t)) 0) 0 1)
+    go : (t : Bool) → _≡_ {A = ℕ} 1 (cond (eqb (stateCode (payload (thirdOf h + length p) (payloadLength h - length p) t)) 0) 0 1)
     go true = refl
     go false = refl
 kind-used x xs u (finished done h p e f d q z g) = rw (e, g)
 
 -- ended where a whole block with bit 8 was accepted
-pub kind-ended : (x : State) (xs : List Block) (u : Bool) → Kind x xs u → hasEnd xs ≡ isEnded x
-unfolding hasEnd
+pub kind-ended : (x : State) (xs : List Block) (u : Bool) → Kind x xs u → hasEnded xs ≡ isEnded x
+unfolding hasEnded
 kind-ended x xs u (untouched e f g) = rw (e, f)
 kind-ended x xs u (heading r e d h g) = rw e (hasEnd-done xs d)
 kind-ended x xs u (filling done h p e f d q g) =
-    rw (e, f, hasEnd-last done (block h p) d) (unfold endsItsChannel isWhole in rw (lt-leb (payloadLength h) (length p) q) (and-false (endsChannel h)))
+    rw (e, f, hasEnd-last done (block h p) d) (unfold isCompleteEnd isWhole in rw (lt-leb (payloadLength h) (length p) q) (and-false (endsChannel h)))
 kind-ended x xs u (finished done h p e f d q z g) =
-    rw (e, f, hasEnd-last done (block h p) d) (unfold endsItsChannel isWhole in rw (z, le-leb (payloadLength h) (length p) (omega arith)))
+    rw (e, f, hasEnd-last done (block h p) d) (unfold isCompleteEnd isWhole in rw (z, le-leb (payloadLength h) (length p) (omega arith)))
 
 pub kind-bodies : (x : State) (xs : List Block) (u : Bool) → Kind x xs u → Bodies xs
 kind-bodies x xs u (untouched e f g) = rw f tt
@@ -111,8 +111,8 @@ done-full [] d = refl
 done-full (x ∷ xs) d = omega (arith, d .1, done-full xs (d .3))
 
 -- with the last payload's bytes left, all bytes have come
-pub kind-left : (x : State) (xs : List Block) (u : Bool) → Kind x xs u → leftNumber x + bytesIn xs ≡ sum sizeOf xs
-unfolding leftNumber sum
+pub kind-left : (x : State) (xs : List Block) (u : Bool) → Kind x xs u → bytesLeft x + bytesIn xs ≡ sum sizeOf xs
+unfolding bytesLeft sum
 kind-left x xs u (untouched e f g) = rw (e, f)
 kind-left x xs u (heading r e d h g) = rw e (omega (arith, done-full xs d))
 kind-left x xs u (filling done h p e f d q g) =
@@ -129,8 +129,8 @@ inRange-nothing a b q h = go (stand a b q)
     go (past x y w) = w
 
 -- the places of the bytes left are claimed by its blocks
-pub kind-rest : (x : State) (xs : List Block) (u : Bool) (q : ℕ) → Kind x xs u → inRange (nextNumber x) (nextNumber x + leftNumber x) q ≤ cover q xs
-unfolding nextNumber leftNumber sum
+pub kind-rest : (x : State) (xs : List Block) (u : Bool) (q : ℕ) → Kind x xs u → inRange (nextPlace x) (nextPlace x + bytesLeft x) q ≤ cover q xs
+unfolding nextPlace bytesLeft sum
 kind-rest x xs u q (untouched e f g) = rw e (omega (arith, inRange-nothing 0 (0 + 0) q (omega arith)))
 kind-rest x xs u q (heading r e d h g) = rw e (omega (arith, inRange-nothing 0 (0 + 0) q (omega arith)))
 kind-rest x xs u q (filling done h p e f d k g) = rw (e, f) (go (stand (thirdOf h + length p) (thirdOf h + length p + (payloadLength h - length p)) q))

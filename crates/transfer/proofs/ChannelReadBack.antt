@@ -7,7 +7,7 @@ use native.Mathlib.Omega.{arith}
 use lib.ListN.{length, take, drop, replicate, length-append, length-replicate}
 use lib.Seq.{getD-set-same, set-set, take-at, drop-at, length-take-le}
 use Rattle.transfer.specs.declared.state.Transfer.{Transfer}
-use Rattle.transfer.specs.Channel.{heldLimit, blank, State, unused, header, payload, ended, stateNumber, heldNumber, nextNumber, leftNumber, heldBytes, numbersOf, readState, stateAt, putState}
+use Rattle.transfer.specs.Channel.{heldLimit, blank, State, unused, header, payload, ended, stateCode, heldLength, nextPlace, bytesLeft, heldBytes, encodeState, decodeState, stateAt, putState}
 
 -- the transfer has the channel c, and its held bytes
 pub record Has (t : Transfer) (c : ℕ) : Type 0 where
@@ -30,8 +30,8 @@ length-heldBytes (payload p n e) s = refl
 length-heldBytes ended s = refl
 
 -- the numbers and the bytes of a state mean it
-pub read-back : (x : State) (rest : List ℕ) → readState (stateNumber x) (take (heldNumber x) (heldBytes x ++ rest)) (nextNumber x) (leftNumber x) ≡ x
-unfolding readState stateNumber heldNumber heldBytes nextNumber leftNumber
+pub read-back : (x : State) (rest : List ℕ) → decodeState (stateCode x) (take (heldLength x) (heldBytes x ++ rest)) (nextPlace x) (bytesLeft x) ≡ x
+unfolding decodeState stateCode heldLength heldBytes nextPlace bytesLeft
 read-back unused rest = refl
 read-back (header h) rest =
     ap header (ap (take (length h)) (append-assoc h (replicate (heldLimit - length h) 0) rest) ∙ take-at h _ (length h) refl)
@@ -44,10 +44,10 @@ module _ (t : Transfer) (c : ℕ) (a : Has t c) where
   front-length = length-take-le (heldLimit * c) (t .heads) (omega (arith, a .bytes))
 
   pub get-put : (x : State) → stateAt (putState t c x) c ≡ x
-  unfolding stateAt putState numbersOf
+  unfolding stateAt putState encodeState
   get-put x =
       rw (
-        getD-set-same (t .channels) c (numbersOf x) blank (a .row),
+        getD-set-same (t .channels) c (encodeState x) blank (a .row),
         drop-at (take (heldLimit * c) (t .heads)) (heldBytes x ++ drop (heldLimit * c + heldLimit) (t .heads)) (heldLimit * c) front-length,
       )
       (read-back x (drop (heldLimit * c + heldLimit) (t .heads)))
@@ -61,4 +61,4 @@ module _ (t : Transfer) (c : ℕ) (a : Has t c) where
       let f : take (heldLimit * c) (front ++ (heldBytes x ++ back)) ≡ front = take-at front (heldBytes x ++ back) (heldLimit * c) front-length in
       let b : drop (heldLimit * c + heldLimit) (front ++ (heldBytes x ++ back)) ≡ back =
       ap (drop (heldLimit * c + heldLimit)) (sym (append-assoc front (heldBytes x) back)) ∙ drop-at (front ++ heldBytes x) back (heldLimit * c + heldLimit) n in
-      rw (set-set (t .channels) c (numbersOf x) (numbersOf y), f, b)
+      rw (set-set (t .channels) c (encodeState x) (encodeState y), f, b)

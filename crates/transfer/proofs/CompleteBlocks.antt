@@ -11,7 +11,7 @@ use Rattle.transfer.specs.Channel.{State}
 use Rattle.transfer.specs.Transfer.{sum}
 use Rattle.transfer.specs.Receive.{isNonEmpty, isEnded}
 use Rattle.transfer.specs.Block.{Block, block, placeOf, sizeOf}
-use Rattle.transfer.specs.Tally.{Stream, taken, accepted, blocksOf, oneIf, used, endedIn}
+use Rattle.transfer.specs.Tally.{Stream, taken, accepted, blocksOf, oneIf, usedIn, endedIn}
 use Rattle.transfer.specs.AfterList.{HasByte, PayloadsInFile}
 use Rattle.transfer.proofs.BlockCut.{Done}
 use Rattle.transfer.specs.StateFrom.{stateFrom}
@@ -37,7 +37,7 @@ kind-whole x xs u (heading r e d k g) h = whole-done xs d
 kind-whole x xs u (filling done y p e f d q g) h = absurd (omega (arith, rw (e, g) at h))
 kind-whole x xs u (finished done y p e f d q z g) h = rw f (whole-append done (block y p ∷ []) (whole-done done d) (q, tt))
 
-pub whole-all : (ss : List Stream) → AllProper ss → used ss ≤ endedIn ss → AllWhole (blocksOf ss)
+pub whole-all : (ss : List Stream) → AllProper ss → usedIn ss ≤ endedIn ss → AllWhole (blocksOf ss)
 unfolding blocksOf sum
 whole-all [] a h = tt
 whole-all (s ∷ ss) a h =

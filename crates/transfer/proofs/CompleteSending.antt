@@ -7,15 +7,15 @@ use native.Mathlib.Omega.{arith}
 use native.Mathlib.Decide.{ℕ-discrete}
 use borrow.Author.Tests.{eq-eqb, ne-eqb}
 use lib.ListN.{length, getD}
-use Rattle.ledger.specs.Pairs.{Pairs, size, Ruled}
+use Rattle.ledger.specs.Pairs.{Pairs, size, ObeyFrom}
 use Rattle.ledger.proofs.PairsPlaces.{inRange-in}
 use Rattle.eblock.specs.Header.{headerLength, countLimit}
 use Rattle.transfer.specs.Channel.{channelCount}
 use Rattle.transfer.specs.Transfer.{sum}
 use Rattle.transfer.specs.Header.{endsChannel, payloadLength}
 use Rattle.transfer.specs.Receive.{isNonEmpty, isEnded}
-use Rattle.transfer.specs.Block.{Block, block, placeOf, sizeOf, blockBytes, cut, cutBy, countsIn, hasEnd}
-use Rattle.transfer.specs.Tally.{Tally, Stream, intact, faulted, taken, accepted, blocksOf, countsOf, claimed, oneIf, used, endedIn}
+use Rattle.transfer.specs.Block.{Block, block, placeOf, sizeOf, blockBytes, cut, cutBy, countsIn, hasEnded}
+use Rattle.transfer.specs.Tally.{Tally, Stream, intact, faulted, taken, accepted, blocksOf, countsOf, claimed, oneIf, usedIn, endedIn}
 use Rattle.transfer.specs.StateFrom.{stateFrom}
 use Rattle.transfer.specs.AfterList.{Complete}
 use Rattle.transfer.specs.Sending.{SentChannel, WellFormedBlocks, EndsAtLast, WellFormedChannels, sentBlocks, timesSentOn, nonEmptyPayloads, WellFormed, sentOn}
@@ -38,11 +38,11 @@ data Closed (s : Stream) : Type 0 where
   at-last : (done : List Block) (h p : List ℕ) → Done done → length h ≡ headerLength → length p ≡ payloadLength h → endsChannel h ≡ true → isNonEmpty (taken s) ≡ true
       → accepted s ≡ done ++ (block h p ∷ []) → taken s ≡ blockBytes done ++ (h ++ p) → Closed s
 
-closed : (bs : List ℕ) → Shape bs → oneIf (isNonEmpty bs) ≤ oneIf (hasEnd (cut bs)) → Closed (intact bs)
+closed : (bs : List ℕ) → Shape bs → oneIf (isNonEmpty bs) ≤ oneIf (hasEnded (cut bs)) → Closed (intact bs)
 unfolding accepted
 closed bs o h = go o
   where
-    ends : hasEnd (cut bs) ≡ isEnded (stateFrom (intact bs))
+    ends : hasEnded (cut bs) ≡ isEnded (stateFrom (intact bs))
     ends = unfold accepted in kind-ended (stateFrom (intact bs)) (accepted (intact bs)) (isNonEmpty bs) (kind (intact bs) o)
 
     alive : isNonEmpty bs ≡ true → isEnded (stateFrom (intact bs)) ≡ false → ⊥
@@ -89,7 +89,7 @@ abbrev AllClosed : List Stream → Type 0
 AllClosed [] = Unit {0}
 AllClosed (s ∷ ss) = Closed s × AllClosed ss
 
-all-closed : (ss : List Stream) → AllProper ss → AllSound ss → used ss ≤ endedIn ss → AllClosed ss
+all-closed : (ss : List Stream) → AllProper ss → AllSound ss → usedIn ss ≤ endedIn ss → AllClosed ss
 unfolding sum
 all-closed [] a b h = tt
 all-closed (intact bs ∷ ss) a b h = (
@@ -115,12 +115,12 @@ sentChannels-blocks c (s ∷ ss) a = go (a .0) (sentChannels-blocks (suc c) ss (
     go (never e f) i = rw (e, f) i
     go (at-last done h p d k q z u f e) i = rw u (ap (λ r. accepted s ++ r) i)
 
-sentChannels-length : (c : ℕ) (ss : List Stream) → length (livesFrom c ss) ≡ used ss
+sentChannels-length : (c : ℕ) (ss : List Stream) → length (livesFrom c ss) ≡ usedIn ss
 unfolding livesFrom sum
 sentChannels-length c [] = refl
 sentChannels-length c (s ∷ ss) = go (isNonEmpty (taken s)) (sentChannels-length (suc c) ss)
   where
-    go : (b : Bool) → length (livesFrom (suc c) ss) ≡ used ss → length (cond b (record { number = c; blocks = accepted s } ∷ livesFrom (suc c) ss) (livesFrom (suc c) ss)) ≡ oneIf b + used ss
+    go : (b : Bool) → length (livesFrom (suc c) ss) ≡ usedIn ss → length (cond b (record { number = c; blocks = accepted s } ∷ livesFrom (suc c) ss) (livesFrom (suc c) ss)) ≡ oneIf b + usedIn ss
     go true i = omega (arith, i)
     go false i = omega (arith, i)
 
@@ -198,18 +198,18 @@ sentChannels-bytes (suc d) c (s ∷ ss) a = go (isNonEmpty (taken s)) (sentChann
 
 -- ---- a complete tally
 
-module _ (F R : ℕ) (before : Pairs) (ruled : Ruled 0 before) (t : Tally) (i : Invariant F R before t) (z : t .fault ≡ 0) (whole : Complete t) where
+module _ (F R : ℕ) (before : Pairs) (ruled : ObeyFrom 0 before) (t : Tally) (i : Invariant F R before t) (z : t .fault ≡ 0) (whole : Complete t) where
   abbrev pub lived : List SentChannel
   lived = livesFrom 0 (t .streams)
 
   -- as many have ended as are announced, and no more are used
-  used-is : Count (countsOf (t .streams)) (used (t .streams)) → (used (t .streams) ≡ whole .0) × (0 < whole .0) × (whole .0 ≤ countLimit)
+  used-is : Count (countsOf (t .streams)) (usedIn (t .streams)) → (usedIn (t .streams) ≡ whole .0) × (0 < whole .0) × (whole .0 ≤ countLimit)
   used-is (unknown e) = let y : _≡_ {A = ℕ} 0 1 = ap length (sym e ∙ whole .1) in absurd (omega (arith, y))
   used-is (announced n e e₀ e₁ e₂) =
       let same : n ≡ whole .0 = ap (λ cs. getD cs 0 0) (sym e ∙ whole .1) in
       (omega (arith, same, whole .2, ended-le (t .streams) (i .proper)), omega (arith, same), omega (arith, same))
 
-  counted : (used (t .streams) ≡ whole .0) × (0 < whole .0) × (whole .0 ≤ countLimit)
+  counted : (usedIn (t .streams) ≡ whole .0) × (0 < whole .0) × (whole .0 ≤ countLimit)
   counted = used-is (i .count)
 
   all-ended : AllClosed (t .streams)

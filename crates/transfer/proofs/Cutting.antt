@@ -8,7 +8,7 @@ use borrow.Author.Tests.{le-ltb}
 use lib.ListN.{length, take, drop, length-append, take-append-drop, length-take, length-drop, drop-of-length-le}
 use Rattle.eblock.specs.Header.{headerLength}
 use Rattle.transfer.specs.Header.{payloadLength}
-use Rattle.transfer.specs.Block.{Block, block, sizeOf, blockBytes, cutBy, begunHeaderBy}
+use Rattle.transfer.specs.Block.{Block, block, sizeOf, blockBytes, cutBy, partialHeaderBy}
 use Rattle.transfer.specs.Cutting.{WholeButLast, Cutting}
 use Rattle.transfer.proofs.BlockCut.{Cuts, cuts-short}
 
@@ -22,8 +22,8 @@ body bs = take (payloadLength (head bs)) (drop headerLength bs)
 abbrev rest : List ℕ → List ℕ
 rest bs = drop (payloadLength (head bs)) (drop headerLength bs)
 
-cuts-first : (k : ℕ) (bs : List ℕ) → headerLength ≤ length bs → Cuts (suc k) bs (block (head bs) (body bs) ∷ cutBy k (rest bs)) (begunHeaderBy k (rest bs))
-unfolding cutBy begunHeaderBy
+cuts-first : (k : ℕ) (bs : List ℕ) → headerLength ≤ length bs → Cuts (suc k) bs (block (head bs) (body bs) ∷ cutBy k (rest bs)) (partialHeaderBy k (rest bs))
+unfolding cutBy partialHeaderBy
 cuts-first k bs h = let far = le-ltb (length bs) headerLength h in (rw far, rw far)
 
 -- as many cuts as there are bytes are enough, and so they are for what is after the first block
@@ -33,18 +33,18 @@ fewer k bs q h = omega (arith, length-drop (payloadLength (head bs)) (drop heade
 split : (bs : List ℕ) → head bs ++ (body bs ++ rest bs) ≡ bs
 split bs = ap (λ r. head bs ++ r) (take-append-drop (payloadLength (head bs)) (drop headerLength bs)) ∙ take-append-drop headerLength bs
 
-together : (k : ℕ) (bs : List ℕ) → blockBytes (cutBy k bs) ++ begunHeaderBy k bs ≡ bs
+together : (k : ℕ) (bs : List ℕ) → blockBytes (cutBy k bs) ++ partialHeaderBy k bs ≡ bs
 unfolding blockBytes
-together zero bs = unfold cutBy begunHeaderBy in refl
+together zero bs = unfold cutBy partialHeaderBy in refl
 together (suc k) bs = go (decLt (length bs) headerLength) (together k (rest bs))
   where
-    go : Dec (length bs < headerLength) → blockBytes (cutBy k (rest bs)) ++ begunHeaderBy k (rest bs) ≡ rest bs → blockBytes (cutBy (suc k) bs) ++ begunHeaderBy (suc k) bs ≡ bs
+    go : Dec (length bs < headerLength) → blockBytes (cutBy k (rest bs)) ++ partialHeaderBy k (rest bs) ≡ rest bs → blockBytes (cutBy (suc k) bs) ++ partialHeaderBy (suc k) bs ≡ bs
     go (yes h) i = let c = cuts-short (suc k) bs (omega arith) in rw (c .0, c .1)
     go (no h) i =
         let c = cuts-first k bs (omega arith) in
         let xs = blockBytes (cutBy k (rest bs)) in
         rw (c .0, c .1)
-        (append-assoc (head bs) (body bs ++ xs) (begunHeaderBy k (rest bs)) ∙ ap (λ r. head bs ++ r) (append-assoc (body bs) xs (begunHeaderBy k (rest bs)) ∙ ap (λ r. body bs ++ r) i) ∙ split bs)
+        (append-assoc (head bs) (body bs ++ xs) (partialHeaderBy k (rest bs)) ∙ ap (λ r. head bs ++ r) (append-assoc (body bs) xs (partialHeaderBy k (rest bs)) ∙ ap (λ r. body bs ++ r) i) ∙ split bs)
 
 -- where blocks are cut after it, a payload is whole
 is-whole : (k : ℕ) (bs : List ℕ) (y : Block) (ys : List Block) → cutBy k (rest bs) ≡ y ∷ ys → length (body bs) ≡ payloadLength (head bs)
@@ -72,30 +72,30 @@ whole (suc k) bs = go (decLt (length bs) headerLength) (whole k (rest bs))
     go (yes h) w = rw (cuts-short (suc k) bs (omega arith) .0) tt
     go (no h) w = rw (cuts-first k bs (omega arith) .0) (on (cutBy k (rest bs)) refl (omega arith) w)
 
-begun : (k : ℕ) (bs : List ℕ) → length bs ≤ k → length (begunHeaderBy k bs) < headerLength
-begun zero bs q = unfold begunHeaderBy in omega arith
+begun : (k : ℕ) (bs : List ℕ) → length bs ≤ k → length (partialHeaderBy k bs) < headerLength
+begun zero bs q = unfold partialHeaderBy in omega arith
 begun (suc k) bs q = go (decLt (length bs) headerLength) (λ h. begun k (rest bs) (fewer k bs q h))
   where
-    go : Dec (length bs < headerLength) → (headerLength ≤ length bs → length (begunHeaderBy k (rest bs)) < headerLength) → length (begunHeaderBy (suc k) bs) < headerLength
+    go : Dec (length bs < headerLength) → (headerLength ≤ length bs → length (partialHeaderBy k (rest bs)) < headerLength) → length (partialHeaderBy (suc k) bs) < headerLength
     go (yes h) i = rw (cuts-short (suc k) bs (omega arith) .1) h
     go (no h) i = rw (cuts-first k bs (omega arith) .1) (i (omega arith))
 
 no-last : (front : List Block) (x : Block) → [] ≡ front ++ (x ∷ []) → ⊥
 no-last front x e = let z : _≡_ {A = ℕ} 0 (length (front ++ (x ∷ []))) = ap length e in omega (arith, z, length-append front (x ∷ []))
 
-behind : (k : ℕ) (bs : List ℕ) (front : List Block) (x : Block) → length bs ≤ k → cutBy k bs ≡ front ++ (x ∷ []) → length (x .body) < sizeOf x → begunHeaderBy k bs ≡ []
+behind : (k : ℕ) (bs : List ℕ) (front : List Block) (x : Block) → length bs ≤ k → cutBy k bs ≡ front ++ (x ∷ []) → length (x .body) < sizeOf x → partialHeaderBy k bs ≡ []
 behind zero bs front x q e l = absurd (no-last front x (sym (cuts-short zero bs (omega arith) .0) ∙ e))
 behind (suc k) bs front x q e l = go (decLt (length bs) headerLength) front e (λ f h d. behind k (rest bs) f x (fewer k bs q h) d l)
   where
     go : Dec (length bs < headerLength) → (front : List Block) → cutBy (suc k) bs ≡ front ++ (x ∷ [])
-        → ((f : List Block) → headerLength ≤ length bs → cutBy k (rest bs) ≡ f ++ (x ∷ []) → begunHeaderBy k (rest bs) ≡ []) → begunHeaderBy (suc k) bs ≡ []
+        → ((f : List Block) → headerLength ≤ length bs → cutBy k (rest bs) ≡ f ++ (x ∷ []) → partialHeaderBy k (rest bs) ≡ []) → partialHeaderBy (suc k) bs ≡ []
     go (yes h) front e i = absurd (no-last front x (sym (cuts-short (suc k) bs (omega arith) .0) ∙ e))
     go (no h) [] e i =
         let c = cuts-first k bs (omega arith) in
         let same : block (head bs) (body bs) ∷ cutBy k (rest bs) ≡ x ∷ [] = sym (c .0) ∙ e in
         let x-is : block (head bs) (body bs) ≡ x = cc in
         let short : length (body bs) < payloadLength (head bs) = subst (λ (y : Block). length (y .body) < sizeOf y) (sym x-is) l in
-        c .1 ∙ ap (begunHeaderBy k) (drop-of-length-le (drop headerLength bs) {i = payloadLength (head bs)} (omega (arith, short, length-take (payloadLength (head bs)) (drop headerLength bs)))) ∙ cuts-short k [] (omega arith) .1
+        c .1 ∙ ap (partialHeaderBy k) (drop-of-length-le (drop headerLength bs) {i = payloadLength (head bs)} (omega (arith, short, length-take (payloadLength (head bs)) (drop headerLength bs)))) ∙ cuts-short k [] (omega arith) .1
     go (no h) (y ∷ f) e i =
         let c = cuts-first k bs (omega arith) in
         let same : block (head bs) (body bs) ∷ cutBy k (rest bs) ≡ y ∷ (f ++ (x ∷ [])) = sym (c .0) ∙ e in

@@ -1,7 +1,7 @@
 -- Demand 3, put together.
 use Rattle.transfer.specs.Arrivals.{EveryArrival}
-use Rattle.transfer.specs.Example.{plaid, calls, Example}
-use Rattle.transfer.specs.Calls.{begun}
+use Rattle.transfer.specs.Example.{exampleSending, calls, Example}
+use Rattle.transfer.specs.Calls.{startedWorld}
 use Rattle.transfer.specs.Demand.{Demand3}
 use Rattle.ledger.specs.Pairs.{none}
 use lib.ListN.{replicate}
@@ -27,7 +27,7 @@ example =
       well-formed = well-formed;
       arrival = arrival;
       begins = begins;
-      arrives = arrives (begun (replicate 8 0) (replicate 4 7)) (replicate 8 0) 2 none begins plaid well-formed calls arrival;
+      arrives = arrives (startedWorld (replicate 8 0) (replicate 4 7)) (replicate 8 0) 2 none begins exampleSending well-formed calls arrival;
     }
 
 pub demand-3 : Demand3

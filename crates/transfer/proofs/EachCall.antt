@@ -14,10 +14,10 @@ use Rattle.transfer.specs.Channel.{channelCount, heldLimit}
 use Rattle.transfer.specs.Transfer.{World}
 use Rattle.transfer.specs.Header.{requestOf}
 use Rattle.transfer.specs.Receive.{Outcome, continues, stops, notTaken, Answer, refused, took, takeBytes, isGuess, isNonEmpty}
-use Rattle.transfer.specs.Calls.{Call, receive, callOf, runBy, after}
-use Rattle.transfer.specs.Block.{cut, begunHeader, hasEnd}
-use Rattle.transfer.specs.Tally.{Tally, Stream, intact, faulted, taken, accepted, countedStreams, known, claimed, used, endedIn, verdict, empty, streamAt, withStream, withFault, keepBytes, applyJudgement, requestFault, takeByteAfter, takeByte, refusalOf, callOf as tallyCallOf}
-use Rattle.transfer.specs.AfterList.{Begun, tallyOf}
+use Rattle.transfer.specs.Calls.{Call, receive, callOf, foldCalls, after}
+use Rattle.transfer.specs.Block.{cut, partialHeader, hasEnded}
+use Rattle.transfer.specs.Tally.{Tally, Stream, intact, faulted, taken, accepted, countedStreams, knownCount, claimed, usedIn, endedIn, tallyVerdict, empty, streamAt, withStream, tallyWithFault, keepBytes, applyJudgement, requestFault, tallyByteAfter, tallyByte, tallyRefusal, tallyCall as tallyCallOf}
+use Rattle.transfer.specs.AfterList.{StartedWith, tallyOf}
 use Rattle.transfer.specs.EachCall.{Adds, EachCall}
 use Rattle.transfer.proofs.ReceivePieces.{bytes-goes, bytes-stops, bytes-leaves}
 use Rattle.transfer.proofs.Rows.{run-append}
@@ -33,7 +33,7 @@ record More (t u : Tally) (c b : ℕ) : Type 0 where
   number : length (u .streams) ≡ length (t .streams)
 
 abbrev Over : Tally → ℕ → Type 0
-Over u c = (0 < u .fault) ⊎ (hasEnd (accepted (streamAt u c)) ≡ true)
+Over u c = (0 < u .fault) ⊎ (hasEnded (accepted (streamAt u c)) ≡ true)
 
 abbrev Leads : Tally → ℕ → ℕ → Outcome Tally → Type 0
 Leads t c b (continues u) = More t u c b
@@ -53,15 +53,15 @@ module _ (t : Tally) (c b : ℕ) (h : c < length (t .streams)) where
 
   keeps-leads : Leads t c b (keepBytes t c longer)
   unfolding keepBytes
-  keeps-leads = go (hasEnd (cut longer)) refl (ltb 0 (known (countedStreams next)) && eqb (endedIn (countedStreams t)) (known (countedStreams next)))
+  keeps-leads = go (hasEnded (cut longer)) refl (ltb 0 (knownCount (countedStreams next)) && eqb (endedIn (countedStreams t)) (knownCount (countedStreams next)))
     where
       next : Tally
       next = withStream t c (intact longer)
 
-      ended : hasEnd (cut longer) ≡ true → hasEnd (accepted (getD (set (t .streams) c (intact longer)) c (intact []))) ≡ true
-      ended e = ap (λ s. hasEnd (accepted s)) (at (intact longer)) ∙ (unfold accepted in e)
+      ended : hasEnded (cut longer) ≡ true → hasEnded (accepted (getD (set (t .streams) c (intact longer)) c (intact []))) ≡ true
+      ended e = ap (λ s. hasEnded (accepted s)) (at (intact longer)) ∙ (unfold accepted in e)
 
-      go : (x : Bool) → hasEnd (cut longer) ≡ x → (y : Bool) → Leads t c b (cond x (stops (cond y (withFault next 20 c) next)) (continues next))
+      go : (x : Bool) → hasEnded (cut longer) ≡ x → (y : Bool) → Leads t c b (cond x (stops (cond y (tallyWithFault next 20 c) next)) (continues next))
       go true e true = (adds (intact longer) 20 c refl, inr (ended e))
       go true e false = (adds (intact longer) (t .fault) (t .on) refl, inr (ended e))
       go false e y = adds (intact longer) (t .fault) (t .on) refl
@@ -71,13 +71,13 @@ module _ (t : Tally) (c b : ℕ) (h : c < length (t .streams)) where
   judged-leads zero = keeps-leads
   judged-leads (suc k) = (adds (faulted longer) (suc k) c refl, inl (omega arith))
 
-  byte-leads : (F R : ℕ) (before : Pairs) → Leads t c b (takeByte F R before t c b)
-  unfolding takeByte takeByteAfter
+  byte-leads : (F R : ℕ) (before : Pairs) → Leads t c b (tallyByte F R before t c b)
+  unfolding tallyByte tallyByteAfter
   byte-leads F R before =
-      go (not (isNonEmpty (taken (streamAt t c))) && (ltb 0 (known (countedStreams t)) && eqb (used (countedStreams t)) (known (countedStreams t)))) (eqb (length (begunHeader (taken (streamAt t c)))) heldLimit)
-      (requestFault R (claimed before (countedStreams t)) (requestOf F (known (countedStreams t)) (used (countedStreams t)) (begunHeader (taken (streamAt t c)) ++ (b ∷ []))))
+      go (not (isNonEmpty (taken (streamAt t c))) && (ltb 0 (knownCount (countedStreams t)) && eqb (usedIn (countedStreams t)) (knownCount (countedStreams t)))) (eqb (length (partialHeader (taken (streamAt t c)))) heldLimit)
+      (requestFault R (claimed before (countedStreams t)) (requestOf F (knownCount (countedStreams t)) (usedIn (countedStreams t)) (partialHeader (taken (streamAt t c)) ++ (b ∷ []))))
     where
-      go : (x y : Bool) (k : ℕ) → Leads t c b (cond x (notTaken (withFault t 19 c)) (cond y (applyJudgement t c longer k) (keepBytes t c longer)))
+      go : (x y : Bool) (k : ℕ) → Leads t c b (cond x (notTaken (tallyWithFault t 19 c)) (cond y (applyJudgement t c longer k) (keepBytes t c longer)))
       go true y k = (refl, omega arith)
       go false true k = judged-leads k
       go false false k = keeps-leads
@@ -86,7 +86,7 @@ module _ (t : Tally) (c b : ℕ) (h : c < length (t .streams)) where
 
 module _ (F R : ℕ) (before : Pairs) where
   abbrev steps : ℕ → Tally → ℕ → Outcome Tally
-  steps c u x = takeByte F R before u c x
+  steps c u x = tallyByte F R before u c x
 
   -- n of its bytes are taken, after k that were before
   abbrev Takes : Tally → ℕ → List ℕ → ℕ → Type 0
@@ -97,9 +97,9 @@ module _ (F R : ℕ) (before : Pairs) where
   piece-adds [] t c k h =
       let e : k ≡ k + 0 = omega arith in
       (0, ap took e, record { few = omega arith; more = sym (append-nil (taken (streamAt t c))); others = λ d n. refl; fewer = λ q. absurd (omega arith) })
-  piece-adds (b ∷ piece) t c k h = go (takeByte F R before t c b) refl (byte-leads t c b h F R before) (λ u g. piece-adds piece u c (suc k) g)
+  piece-adds (b ∷ piece) t c k h = go (tallyByte F R before t c b) refl (byte-leads t c b h F R before) (λ u g. piece-adds piece u c (suc k) g)
     where
-      go : (r : Outcome Tally) → takeByte F R before t c b ≡ r → Leads t c b r → ((u : Tally) → c < length (u .streams) → Takes u c piece (suc k)) → Takes t c (b ∷ piece) k
+      go : (r : Outcome Tally) → tallyByte F R before t c b ≡ r → Leads t c b r → ((u : Tally) → c < length (u .streams) → Takes u c piece (suc k)) → Takes t c (b ∷ piece) k
       go (continues u) e m i =
           let r = i u (omega (arith, h, m .number)) in
           let a = r .2 in
@@ -132,8 +132,8 @@ module _ (F R : ℕ) (before : Pairs) where
 
   pub call-adds : (t : Tally) (c : ℕ) (piece : List ℕ) → length (t .streams) ≡ channelCount
       → let r = tallyCallOf F R before t (receive c piece) in Answered t c piece (r .0) (r .1)
-  unfolding tallyCallOf refusalOf
-  call-adds t c piece h = go (leb channelCount c) (isGuess (verdict t)) (isNonEmpty piece && hasEnd (accepted (streamAt t c))) refl
+  unfolding tallyCallOf tallyRefusal
+  call-adds t c piece h = go (leb channelCount c) (isGuess (tallyVerdict t)) (isNonEmpty piece && hasEnded (accepted (streamAt t c))) refl
     where
       go : (x y z : Bool) → leb channelCount c ≡ x
           → let n : ℕ = cond x 2 (cond (not y) 3 (cond z 4 0)) in
@@ -149,7 +149,7 @@ module _ (F R : ℕ) (before : Pairs) where
 
 -- ---- each call of a list
 
-module _ (w : World) (file : List ℕ) (R : ℕ) (before : Pairs) (b : Begun w file R before) (ks : List Call) (c : ℕ) (piece : List ℕ) where
+module _ (w : World) (file : List ℕ) (R : ℕ) (before : Pairs) (b : StartedWith w file R before) (ks : List Call) (c : ℕ) (piece : List ℕ) where
   abbrev sofar : Tally
   sofar = tallyOf (length file) R before ks
 
@@ -157,7 +157,7 @@ module _ (w : World) (file : List ℕ) (R : ℕ) (before : Pairs) (b : Begun w f
   then = tallyOf (length file) R before (ks ++ (receive c piece ∷ []))
 
   then-is : then ≡ tallyCallOf (length file) R before sofar (receive c piece) .1
-  then-is = run-append (tallyCallOf (length file) R before) empty ks (receive c piece ∷ []) ∙ (unfold runBy in refl)
+  then-is = run-append (tallyCallOf (length file) R before) empty ks (receive c piece ∷ []) ∙ (unfold foldCalls in refl)
 
   answer-is : callOf (after w ks) (receive c piece) .0 ≡ tallyCallOf (length file) R before sofar (receive c piece) .0
   answer-is =

@@ -5,32 +5,32 @@ use native.Mathlib.Omega.{arith}
 use native.Mathlib.Decide.{ℕ-discrete}
 use borrow.Author.Tests.{eq-eqb, ne-eqb}
 use lib.ListN.{replicate}
-use Rattle.octets.specs.Digits.{fromLittle, fromBig, toLittle, toBig}
+use Rattle.octets.specs.Digits.{fromLittleEndian, fromBigEndian, toLittleEndian, toBigEndian}
 use Rattle.ledger.specs.Pairs.{none, size, inRange, contains}
 use Rattle.ledger.proofs.PairsPlaces.{Where, under, within, past, stand}
 use Rattle.eblock.specs.Descriptor.{has, faultOf}
 use Rattle.eblock.specs.Header.{secondOf, thirdOf, headerBytes}
 use Rattle.transfer.specs.Transfer.{sum}
 use Rattle.transfer.specs.Header.{payloadLength}
-use Rattle.transfer.specs.Calls.{begun}
+use Rattle.transfer.specs.Calls.{startedWorld}
 use Rattle.transfer.specs.Block.{blockBytes, countsIn}
-use Rattle.transfer.specs.AfterList.{Begun}
+use Rattle.transfer.specs.AfterList.{StartedWith}
 use Rattle.transfer.specs.Sending.{sentBlocks, timesSentOn, payloadsHolding, WellFormed, sentOn, piecesOn, Arrival}
-use Rattle.transfer.specs.Example.{plaid, calls}
+use Rattle.transfer.specs.Example.{exampleSending, calls}
 use Rattle.transfer.proofs.Start.{every-start-begins}
 
-once : (c : ℕ) → timesSentOn c plaid ≤ 1
+once : (c : ℕ) → timesSentOn c exampleSending ≤ 1
 unfolding sum
 once c = go (ℕ-discrete 0 c) (ℕ-discrete 1 c)
   where
-    go : Dec (0 ≡ c) → Dec (1 ≡ c) → timesSentOn c plaid ≤ 1
+    go : Dec (0 ≡ c) → Dec (1 ≡ c) → timesSentOn c exampleSending ≤ 1
     go (yes a) (yes b) = absurd (omega (arith, a, b))
     go (yes a) (no b) = rw (eq-eqb 0 c a, ne-eqb 1 c b) (omega arith)
     go (no a) (yes b) = rw (ne-eqb 0 c a, eq-eqb 1 c b) (omega arith)
     go (no a) (no b) = rw (ne-eqb 0 c a, ne-eqb 1 c b) (omega arith)
 
-apart : (p : ℕ) → payloadsHolding p (sentBlocks plaid) + contains p none ≤ 1
-unfolding sum sentBlocks contains payloadLength secondOf thirdOf headerBytes fromBig fromLittle toBig toLittle has
+apart : (p : ℕ) → payloadsHolding p (sentBlocks exampleSending) + contains p none ≤ 1
+unfolding sum sentBlocks contains payloadLength secondOf thirdOf headerBytes fromBigEndian fromLittleEndian toBigEndian toLittleEndian has
 apart p = go (stand 0 4 p) (stand 2 2 p) (stand 4 8 p)
   where
     go : Where 0 4 p → Where 2 2 p → Where 4 8 p → inRange 0 4 p + (inRange 2 2 p + (inRange 4 8 p + 0)) + 0 ≤ 1
@@ -50,8 +50,8 @@ apart p = go (stand 0 4 p) (stand 2 2 p) (stand 4 8 p)
     go (past a b d) (past x y e) (under x′ e′) = omega arith
     go (past a b d) (past x y e) (past x′ y′ e′) = omega arith
 
-pub well-formed : WellFormed 8 2 none plaid
-unfolding sum sentBlocks countsIn size payloadLength secondOf thirdOf headerBytes fromBig fromLittle toBig toLittle has faultOf
+pub well-formed : WellFormed 8 2 none exampleSending
+unfolding sum sentBlocks countsIn size payloadLength secondOf thirdOf headerBytes fromBigEndian fromLittleEndian toBigEndian toLittleEndian has faultOf
 well-formed =
     record {
       some = omega arith;
@@ -73,11 +73,11 @@ well-formed =
       room = omega arith;
     }
 
-pub arrival : Arrival plaid calls
-unfolding sentOn piecesOn blockBytes headerBytes toBig toLittle
+pub arrival : Arrival exampleSending calls
+unfolding sentOn piecesOn blockBytes headerBytes toBigEndian toLittleEndian
 arrival zero = refl
 arrival (suc zero) = refl
 arrival (suc (suc c)) = rw (ne-eqb 0 (suc (suc c)) (λ e. omega arith), ne-eqb 1 (suc (suc c)) (λ e. omega arith))
 
-pub begins : Begun (begun (replicate 8 0) (replicate 4 7)) (replicate 8 0) 2 none
+pub begins : StartedWith (startedWorld (replicate 8 0) (replicate 4 7)) (replicate 8 0) 2 none
 begins = every-start-begins (replicate 8 0) (replicate 4 7) refl (omega arith)

@@ -11,11 +11,11 @@ use lib.Dec.{leb, ltb, eqb}
 use lib.ListN.{length, getD, take, drop, length-take, List·getD-eq-default}
 use lib.Seq.{getD-take, getD-drop, drop-drop}
 use Rattle.ledger.specs.Pairs.{Pairs, inside}
-use Rattle.ledger.specs.Ledger.{zeros}
+use Rattle.ledger.specs.Ledger.{allZero}
 use Rattle.ledger.proofs.LedgerRule.{zeros-at, at-zeros}
 use Rattle.transfer.specs.declared.state.Channel.{Channel}
 use Rattle.transfer.specs.Channel.{heldLimit, blank}
-use Rattle.transfer.specs.Fit.{idle, heldFits, restFits, channelFits, channelsFit}
+use Rattle.transfer.specs.Fit.{emptyFits, headerFits, payloadFits, channelFits, channelsFit}
 use Rattle.transfer.specs.Fitting.{InPayload}
 use Rattle.transfer.proofs.FitChannelKinds.{Stage, some-left, resting, collecting, storing}
 
@@ -29,35 +29,35 @@ Lies ps k = InPayload k → inside (k .next) (k .next + k .left) ps ≡ true
 
 -- what the test of one channel says
 abbrev pub ChannelSays : Pairs → Channel → List ℕ → Type 0
-ChannelSays ps k held = Stage k × (zeros (drop (k .held) held) ≡ true) × Lies ps k
+ChannelSays ps k held = Stage k × (allZero (drop (k .held) held) ≡ true) × Lies ps k
 
 module _ (ps : Pairs) (k : Channel) (held : List ℕ) where
-  idle-says : (k .state ≡ 0) ⊎ (k .state ≡ 4) → idle k held ≡ true → ChannelSays ps k held
-  unfolding idle
+  idle-says : (k .state ≡ 0) ⊎ (k .state ≡ 4) → emptyFits k held ≡ true → ChannelSays ps k held
+  unfolding emptyFits
   idle-says e h =
-      let a = both (eqb (k .held) 0) (zeros held && (eqb (k .next) 0 && eqb (k .left) 0)) h in
-      let b = both (zeros held) (eqb (k .next) 0 && eqb (k .left) 0) (a .1) in
+      let a = both (eqb (k .held) 0) (allZero held && (eqb (k .next) 0 && eqb (k .left) 0)) h in
+      let b = both (allZero held) (eqb (k .next) 0 && eqb (k .left) 0) (a .1) in
       let c = both (eqb (k .next) 0) (eqb (k .left) 0) (b .1) in
       let z = eqb-true (k .held) 0 (a .0) in
       let l = eqb-true (k .left) 0 (c .1) in
       let s = resting e z (eqb-true (k .next) 0 (c .0)) l in
       (s, rw z (b .0), λ y. absurd (omega (arith, l, some-left k s y)))
 
-  header-says : k .state ≡ 1 → heldFits k held ≡ true → ChannelSays ps k held
-  unfolding heldFits
+  header-says : k .state ≡ 1 → headerFits k held ≡ true → ChannelSays ps k held
+  unfolding headerFits
   header-says e h =
-      let a = both (leb (k .held) heldLimit) (zeros (drop (k .held) held) && (eqb (k .next) 0 && eqb (k .left) 0)) h in
-      let b = both (zeros (drop (k .held) held)) (eqb (k .next) 0 && eqb (k .left) 0) (a .1) in
+      let a = both (leb (k .held) heldLimit) (allZero (drop (k .held) held) && (eqb (k .next) 0 && eqb (k .left) 0)) h in
+      let b = both (allZero (drop (k .held) held)) (eqb (k .next) 0 && eqb (k .left) 0) (a .1) in
       let c = both (eqb (k .next) 0) (eqb (k .left) 0) (b .1) in
       let l = eqb-true (k .left) 0 (c .1) in
       let s = collecting e (leb-true (k .held) heldLimit (a .0)) (eqb-true (k .next) 0 (c .0)) l in
       (s, b .0, λ y. absurd (omega (arith, l, some-left k s y)))
 
-  payload-says : InPayload k → restFits ps k held ≡ true → ChannelSays ps k held
-  unfolding restFits
+  payload-says : InPayload k → payloadFits ps k held ≡ true → ChannelSays ps k held
+  unfolding payloadFits
   payload-says e h =
-      let a = both (eqb (k .held) 0) (zeros held && (ltb 0 (k .left) && inside (k .next) (k .next + k .left) ps)) h in
-      let b = both (zeros held) (ltb 0 (k .left) && inside (k .next) (k .next + k .left) ps) (a .1) in
+      let a = both (eqb (k .held) 0) (allZero held && (ltb 0 (k .left) && inside (k .next) (k .next + k .left) ps)) h in
+      let b = both (allZero held) (ltb 0 (k .left) && inside (k .next) (k .next + k .left) ps) (a .1) in
       let c = both (ltb 0 (k .left)) (inside (k .next) (k .next + k .left) ps) (b .1) in
       let z = eqb-true (k .held) 0 (a .0) in
       (storing e z (ltb-true 0 (k .left) (c .0)), rw z (b .0), λ y. c .1)
@@ -71,11 +71,11 @@ module _ (ps : Pairs) (k : Channel) (held : List ℕ) where
   channel-says (suc (suc (suc (suc zero)))) e h = idle-says (inr e) h
   channel-says (suc (suc (suc (suc (suc n))))) e h = absurd (false≢true h)
 
-  all-zero : k .held ≡ 0 → zeros (drop (k .held) held) ≡ true → zeros held ≡ true
+  all-zero : k .held ≡ 0 → allZero (drop (k .held) held) ≡ true → allZero held ≡ true
   all-zero h z = rw h at z
 
-  pub channel-fits : Stage k → zeros (drop (k .held) held) ≡ true → Lies ps k → channelFits ps (k .state) k held ≡ true
-  unfolding channelFits idle heldFits restFits
+  pub channel-fits : Stage k → allZero (drop (k .held) held) ≡ true → Lies ps k → channelFits ps (k .state) k held ≡ true
+  unfolding channelFits emptyFits headerFits payloadFits
   channel-fits (resting (inl e) h p n) z i = rw (e, h, p, n, all-zero h z)
   channel-fits (resting (inr e) h p n) z i = rw (e, h, p, n, all-zero h z)
   channel-fits (collecting e h p n) z i = rw (e, le-leb (k .held) heldLimit h, p, n, z)
@@ -90,12 +90,12 @@ module _ (heads : List ℕ) (c n : ℕ) where
   byte-at : (j : ℕ) → n + j < heldLimit → getD (drop n (bytesAt heads c)) j 0 ≡ getD heads (heldLimit * c + (n + j)) 0
   byte-at j h = getD-drop n (bytesAt heads c) j 0 ∙ getD-take heldLimit (drop (heldLimit * c) heads) (n + j) 0 h ∙ getD-drop (heldLimit * c) heads (n + j) 0
 
-  pub zeros-byte : zeros (drop n (bytesAt heads c)) ≡ true → (i : ℕ) → n ≤ i → i < heldLimit → getD heads (heldLimit * c + i) 0 ≡ 0
+  pub zeros-byte : allZero (drop n (bytesAt heads c)) ≡ true → (i : ℕ) → n ≤ i → i < heldLimit → getD heads (heldLimit * c + i) 0 ≡ 0
   zeros-byte z i h g =
       let e : i ≡ n + (i - n) = omega arith in
       ap (λ m. getD heads (heldLimit * c + m) 0) e ∙ sym (byte-at (i - n) (omega arith)) ∙ zeros-at (drop n (bytesAt heads c)) (i - n) z
 
-  pub byte-zeros : ((i : ℕ) → n ≤ i → i < heldLimit → getD heads (heldLimit * c + i) 0 ≡ 0) → zeros (drop n (bytesAt heads c)) ≡ true
+  pub byte-zeros : ((i : ℕ) → n ≤ i → i < heldLimit → getD heads (heldLimit * c + i) 0 ≡ 0) → allZero (drop n (bytesAt heads c)) ≡ true
   byte-zeros h = at-zeros (drop n (bytesAt heads c)) (λ j. go j (decLt (n + j) heldLimit))
     where
       go : (j : ℕ) → Dec (n + j < heldLimit) → getD (drop n (bytesAt heads c)) j 0 ≡ 0

@@ -7,15 +7,15 @@ use mathlib.Core.List.{List, [], _∷_, map}
 use native.Mathlib.Omega.{arith}
 use lib.ListN.{length, getD, drop, length-map, List·getD-append}
 use lib.Seq.{getD-drop}
-use Rattle.ledger.specs.Pairs.{Pairs, Ruled}
+use Rattle.ledger.specs.Pairs.{Pairs, ObeyFrom}
 use Rattle.ledger.specs.Ledger.{obeys}
 use Rattle.ledger.proofs.LedgerLayout.{length-laidOut, rule-laidOut}
-use Rattle.transfer.specs.Channel.{heldLimit, State, heldBytes, numbersOf}
+use Rattle.transfer.specs.Channel.{heldLimit, State, heldBytes, encodeState}
 use Rattle.transfer.specs.Transfer.{sum}
 use Rattle.transfer.specs.Receive.{isNonEmpty}
 use Rattle.transfer.specs.Fit.{pairLimit, fits}
 use Rattle.transfer.specs.Block.{Block}
-use Rattle.transfer.specs.Tally.{Tally, Stream, taken, accepted, blocksOf, countsOf, known, claimed, used, streamAt}
+use Rattle.transfer.specs.Tally.{Tally, Stream, taken, accepted, blocksOf, countsOf, knownCount, claimed, usedIn, streamAt}
 use Rattle.transfer.specs.StateFrom.{stateFrom}
 use Rattle.transfer.proofs.ChannelReadBack.{length-heldBytes}
 use Rattle.transfer.proofs.BlockClaims.{sum-append, hitBy, cover, claims-ruled, claims-holds}
@@ -38,13 +38,13 @@ kind-steady x xs u (finished done h p e f d q z g) = rw e tt
 
 -- the bytes left are claimed by the blocks
 rests-covered : (p : ℕ) (ss : List Stream) → AllProper ss → sum (waits p) (map rowOf ss) ≤ cover p (blocksOf ss)
-unfolding sum blocksOf rowOf numbersOf
+unfolding sum blocksOf rowOf encodeState
 rests-covered p [] a = omega arith
 rests-covered p (s ∷ ss) a =
     omega (arith, kind-rest (stateFrom s) (accepted s) (isNonEmpty (taken s)) p (kind s (a .0)), rests-covered p ss (a .1), sum-append (hitBy p) (accepted s) (blocksOf ss))
 
-module _ (F R : ℕ) (before : Pairs) (file : List ℕ) (t : Tally) (c₀ : Ruled 0 before) (l : length file ≡ F) (r : R ≤ pairLimit) (i : Invariant F R before t) where
-  all-ruled : Ruled 0 (claimed before (t .streams))
+module _ (F R : ℕ) (before : Pairs) (file : List ℕ) (t : Tally) (c₀ : ObeyFrom 0 before) (l : length file ≡ F) (r : R ≤ pairLimit) (i : Invariant F R before t) where
+  all-ruled : ObeyFrom 0 (claimed before (t .streams))
   all-ruled = claims-ruled (blocksOf (t .streams)) before c₀
 
   pub together-always : Together (worldOf F R before file t)
@@ -62,7 +62,7 @@ module _ (F R : ℕ) (before : Pairs) (file : List ℕ) (t : Tally) (c₀ : Rule
         bytes-zero = λ c j h u v.
             let x = stateFrom (streamAt t c) in
             sym (getD-drop (heldLimit * c) (headsOf (t .streams)) j 0) ∙ ap (λ m. getD m j 0) (heads-drop (t .streams) c (i .proper) (omega (arith, i .number)))
-            ∙ List·getD-append (heldBytes x) (headsOf (drop (suc c) (t .streams))) 0 j (omega (arith, length-heldBytes x (steady-stands x (steady c)))) ∙ steady-zero x j (unfold rowOf numbersOf in rw (row-at (t .streams) c) at u) v;
+            ∙ List·getD-append (heldBytes x) (headsOf (drop (suc c) (t .streams))) 0 j (omega (arith, length-heldBytes x (steady-stands x (steady c)))) ∙ steady-zero x j (unfold rowOf encodeState in rw (row-at (t .streams) c) at u) v;
         rests = λ p. rw (pairs-are F R before file c₀ t i) (omega (arith, rests-covered p (t .streams) (i .proper), claims-holds p (blocksOf (t .streams)) before c₀, i .apart p));
         count = count-says (i .count);
         fault = fault-says (i .fault);
@@ -71,15 +71,15 @@ module _ (F R : ℕ) (before : Pairs) (file : List ℕ) (t : Tally) (c₀ : Rule
       steady : (c : ℕ) → Steady (stateFrom (streamAt t c))
       steady c = kind-steady (stateFrom (streamAt t c)) (accepted (streamAt t c)) (isNonEmpty (taken (streamAt t c))) (kind (streamAt t c) (proper-at (t .streams) c (i .proper)))
 
-      count-says : Count (countsOf (t .streams)) (used (t .streams)) → CountSays (transferOf F R t)
+      count-says : Count (countsOf (t .streams)) (usedIn (t .streams)) → CountSays (transferOf F R t)
       count-says (unknown x) = inl (ap (λ m. getD m 0 0) x)
       count-says (announced n x x₀ x₁ x₂) =
-          let k : known (t .streams) ≡ n = ap (λ m. getD m 0 0) x in
+          let k : knownCount (t .streams) ≡ n = ap (λ m. getD m 0 0) x in
           inr (omega arith, omega arith, omega (arith, used-is F R t (i .proper)))
 
       fault-says : Fault (t .fault) (t .on) → FaultSays (transferOf F R t)
       fault-says (no-fault x y) = inl (x, y)
       fault-says (fault-of x y z) = inr (x, y, z)
 
-pub fits-always : (F R : ℕ) (before : Pairs) (file : List ℕ) (t : Tally) → Ruled 0 before → length file ≡ F → R ≤ pairLimit → Invariant F R before t → fits (worldOf F R before file t) ≡ true
+pub fits-always : (F R : ℕ) (before : Pairs) (file : List ℕ) (t : Tally) → ObeyFrom 0 before → length file ≡ F → R ≤ pairLimit → Invariant F R before t → fits (worldOf F R before file t) ≡ true
 fits-always F R before file t c l r i = together-fits (worldOf F R before file t) (together-always F R before file t c l r i)

@@ -9,12 +9,12 @@ use native.Mathlib.Decide.{ℕ-discrete, decLt}
 use lib.Dec.{eqb}
 use lib.ListN.{length, getD, set, take, drop, length-append, length-drop, length-set, List·getD-append}
 use lib.Seq.{length-take-le, getD-append-add, getD-set-same, getD-set-other, getD-take, getD-drop}
-use Rattle.ledger.specs.Pairs.{Pairs, size, inRange, contains, Ruled, join, endsAtMost}
+use Rattle.ledger.specs.Pairs.{Pairs, size, inRange, contains, ObeyFrom, join, endsAtMost}
 use Rattle.ledger.specs.Ledger.{obeys, pairsOf, laidOut}
 use Rattle.ledger.proofs.PairsJoin.{join-holds, join-ruled, join-ends}
 use Rattle.ledger.proofs.LedgerLayout.{length-laidOut, pairsOf-laidOut, rule-laidOut}
 use Rattle.eblock.specs.Header.{countLimit}
-use Rattle.transfer.specs.Channel.{channelCount, heldLimit, blank, State, nextNumber, leftNumber, heldBytes, numbersOf, channelAt, putState, putFault, putCount}
+use Rattle.transfer.specs.Channel.{channelCount, heldLimit, blank, State, nextPlace, bytesLeft, heldBytes, encodeState, channelAt, putState, putFault, putCount}
 use Rattle.transfer.specs.Transfer.{sum, oneIfEnded, oneIfActive, endedOf, usedOf, World, world, withTransfer}
 use Rattle.transfer.specs.Receive.{claimRange}
 use Rattle.transfer.proofs.ChannelReadBack.{length-heldBytes}
@@ -61,7 +61,7 @@ Room w c = 0 < w .t .count → usedOf (w .t) < w .t .count + oneIfUsed (channelA
 
 module _ (w : World) (f : Together w) (c : ℕ) (h : c < channelCount) where
   pub put-keeps : (x : State) → Steady x → Room w c
-      → ((p : ℕ) → sum (waits p) (w .t .channels) + inRange (nextNumber x) (nextNumber x + leftNumber x) p ≤ contains p (pairsOf (w .lent .claimed)) + waits p (channelAt (w .t) c))
+      → ((p : ℕ) → sum (waits p) (w .t .channels) + inRange (nextPlace x) (nextPlace x + bytesLeft x) p ≤ contains p (pairsOf (w .lent .ledger)) + waits p (channelAt (w .t) c))
       → Together (withTransfer w (putState (w .t) c x))
   unfolding putState
   put-keeps x s room r =
@@ -71,11 +71,11 @@ module _ (w : World) (f : Together w) (c : ℕ) (h : c < channelCount) where
         pairs = f .pairs;
         rule = f .rule;
         ends = f .ends;
-        channels = length-set (w .t .channels) c (numbersOf x) ∙ f .channels;
+        channels = length-set (w .t .channels) c (encodeState x) ∙ f .channels;
         heads = written-length (w .t .heads) (heldBytes x) (heldLimit * c) heldLimit bytes fit ∙ f .heads;
         stages = λ d g. staged d g (ℕ-discrete d c);
         bytes-zero = λ d i g u v. zeroed d i g u v (ℕ-discrete d c);
-        rests = λ p. omega (arith, r p, sum-set (waits p) blank (w .t .channels) c (numbersOf x) row, same-rest p);
+        rests = λ p. omega (arith, r p, sum-set (waits p) blank (w .t .channels) c (encodeState x) row, same-rest p);
         count = counted (f .count);
         fault = f .fault;
       }
@@ -89,22 +89,22 @@ module _ (w : World) (f : Together w) (c : ℕ) (h : c < channelCount) where
       fit : heldLimit * c + heldLimit ≤ length (w .t .heads)
       fit = omega (arith, f .heads)
 
-      same-rest : (p : ℕ) → waits p (numbersOf x) ≡ inRange (nextNumber x) (nextNumber x + leftNumber x) p
-      same-rest p = unfold numbersOf in refl
+      same-rest : (p : ℕ) → waits p (encodeState x) ≡ inRange (nextPlace x) (nextPlace x + bytesLeft x) p
+      same-rest p = unfold encodeState in refl
 
-      here : getD (set (w .t .channels) c (numbersOf x)) c blank ≡ numbersOf x
-      here = getD-set-same (w .t .channels) c (numbersOf x) blank row
+      here : getD (set (w .t .channels) c (encodeState x)) c blank ≡ encodeState x
+      here = getD-set-same (w .t .channels) c (encodeState x) blank row
 
-      elsewhere : (d : ℕ) → d ≢ c → getD (set (w .t .channels) c (numbersOf x)) d blank ≡ channelAt (w .t) d
-      elsewhere d n = getD-set-other (w .t .channels) c d (numbersOf x) blank n
+      elsewhere : (d : ℕ) → d ≢ c → getD (set (w .t .channels) c (encodeState x)) d blank ≡ channelAt (w .t) d
+      elsewhere d n = getD-set-other (w .t .channels) c d (encodeState x) blank n
 
-      staged : (d : ℕ) → d < channelCount → Dec (d ≡ c) → Stage (getD (set (w .t .channels) c (numbersOf x)) d blank)
+      staged : (d : ℕ) → d < channelCount → Dec (d ≡ c) → Stage (getD (set (w .t .channels) c (encodeState x)) d blank)
       staged d g (yes e) = rw (e, here) (steady-stage x s)
       staged d g (no n) = rw (elsewhere d n) (f .stages d g)
 
-      zeroed : (d i : ℕ) → d < channelCount → getD (set (w .t .channels) c (numbersOf x)) d blank .held ≤ i → i < heldLimit → Dec (d ≡ c)
+      zeroed : (d i : ℕ) → d < channelCount → getD (set (w .t .channels) c (encodeState x)) d blank .held ≤ i → i < heldLimit → Dec (d ≡ c)
           → getD (written (w .t .heads) (heldBytes x) (heldLimit * c) heldLimit bytes fit) (heldLimit * d + i) 0 ≡ 0
-      zeroed d i g u v (yes e) = rw e (written-here (w .t .heads) (heldBytes x) (heldLimit * c) heldLimit bytes fit i v ∙ steady-zero x i (unfold numbersOf in rw (e, here) at u) v)
+      zeroed d i g u v (yes e) = rw e (written-here (w .t .heads) (heldBytes x) (heldLimit * c) heldLimit bytes fit i v ∙ steady-zero x i (unfold encodeState in rw (e, here) at u) v)
       zeroed d i g u v (no n) = same (decLt d c) ∙ f .bytes-zero d i g (rw (elsewhere d n) at u) v
         where
           same : Dec (d < c) → getD (written (w .t .heads) (heldBytes x) (heldLimit * c) heldLimit bytes fit) (heldLimit * d + i) 0 ≡ getD (w .t .heads) (heldLimit * d + i) 0
@@ -125,11 +125,11 @@ module _ (w : World) (f : Together w) (c : ℕ) (h : c < channelCount) where
                 omega (
                   arith,
                   room (q .0),
-                  sum-set oneIfEnded blank (w .t .channels) c (numbersOf x) row,
-                  sum-set oneIfActive blank (w .t .channels) c (numbersOf x) row,
+                  sum-set oneIfEnded blank (w .t .channels) c (encodeState x) row,
+                  sum-set oneIfActive blank (w .t .channels) c (encodeState x) row,
                   used-one (channelAt (w .t) c) (state-known (channelAt (w .t) c) (f .stages c h)),
-                  used-one (numbersOf x) (state-known (numbersOf x) (steady-stage x s)),
-                  at-most-one (eqb (numbersOf x .state) 0),
+                  used-one (encodeState x) (state-known (encodeState x) (steady-stage x s)),
+                  at-most-one (eqb (encodeState x .state) 0),
                 )),
           )
 
@@ -173,7 +173,7 @@ module _ (w : World) (f : Together w) where
   -- ---- file or ledger changed
 
   lent-keeps : (file claimed : List ℕ) → length file ≡ length (w .lent .file) → length claimed ≡ 2 * w .t .pairs → obeys claimed ≡ true → endsAtMost (w .t .len) (pairsOf claimed) ≡ true
-      → ((p : ℕ) → contains p (pairsOf (w .lent .claimed)) ≤ contains p (pairsOf claimed)) → Together (world (w .t) file claimed)
+      → ((p : ℕ) → contains p (pairsOf (w .lent .ledger)) ≤ contains p (pairsOf claimed)) → Together (world (w .t) file claimed)
   lent-keeps file claimed l n o e m =
       record {
         file = l ∙ f .file;
@@ -190,24 +190,24 @@ module _ (w : World) (f : Together w) where
         fault = f .fault;
       }
 
-  pub store-keeps : (p b : ℕ) → Together (world (w .t) (set (w .lent .file) p b) (w .lent .claimed))
-  store-keeps p b = lent-keeps (set (w .lent .file) p b) (w .lent .claimed) (length-set (w .lent .file) p b) (f .entries) (f .rule) (f .ends) (λ p. omega arith)
+  pub store-keeps : (p b : ℕ) → Together (world (w .t) (set (w .lent .file) p b) (w .lent .ledger))
+  store-keeps p b = lent-keeps (set (w .lent .file) p b) (w .lent .ledger) (length-set (w .lent .file) p b) (f .entries) (f .rule) (f .ends) (λ p. omega arith)
 
-  module _ (s e : ℕ) (g : s < e) (k : size (join s e (pairsOf (w .lent .claimed))) ≤ w .t .pairs) where
+  module _ (s e : ℕ) (g : s < e) (k : size (join s e (pairsOf (w .lent .ledger))) ≤ w .t .pairs) where
     abbrev joined : Pairs
-    joined = join s e (pairsOf (w .lent .claimed))
+    joined = join s e (pairsOf (w .lent .ledger))
 
-    joined-ruled : Ruled 0 joined
-    joined-ruled = join-ruled s e 0 (pairsOf (w .lent .claimed)) g (omega arith) (ruled w (f .rule))
+    joined-ruled : ObeyFrom 0 joined
+    joined-ruled = join-ruled s e 0 (pairsOf (w .lent .ledger)) g (omega arith) (ruled w (f .rule))
 
     claimed-pairs : pairsOf (laidOut (w .t .pairs) joined) ≡ joined
     claimed-pairs = pairsOf-laidOut (w .t .pairs) 0 joined joined-ruled k
 
-    pub claimed-holds : (p : ℕ) → contains p (pairsOf (laidOut (w .t .pairs) joined)) ≡ max (inRange s e p) (contains p (pairsOf (w .lent .claimed)))
-    claimed-holds p = ap (contains p) claimed-pairs ∙ join-holds s e 0 p (pairsOf (w .lent .claimed)) g (ruled w (f .rule))
+    pub claimed-holds : (p : ℕ) → contains p (pairsOf (laidOut (w .t .pairs) joined)) ≡ max (inRange s e p) (contains p (pairsOf (w .lent .ledger)))
+    claimed-holds p = ap (contains p) claimed-pairs ∙ join-holds s e 0 p (pairsOf (w .lent .ledger)) g (ruled w (f .rule))
 
     pub claim-keeps : e ≤ w .t .len → Together (claimRange w s e)
     unfolding claimRange obeys
     claim-keeps q =
         lent-keeps (w .lent .file) (laidOut (w .t .pairs) joined) refl (length-laidOut (w .t .pairs) joined) (rule-laidOut (w .t .pairs) 0 joined joined-ruled)
-        (rw claimed-pairs (join-ends s e (w .t .len) (pairsOf (w .lent .claimed)) q (f .ends))) (λ p. omega (arith, claimed-holds p))
+        (rw claimed-pairs (join-ends s e (w .t .len) (pairsOf (w .lent .ledger)) q (f .ends))) (λ p. omega (arith, claimed-holds p))

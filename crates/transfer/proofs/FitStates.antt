@@ -7,7 +7,7 @@ use mathlib.Core.List.{_++_}
 use native.Mathlib.Omega.{arith}
 use lib.ListN.{length, getD, replicate, getD-replicate}
 use lib.Seq.{getD-append-add}
-use Rattle.transfer.specs.Channel.{heldLimit, State, unused, header, payload, ended, stateNumber, heldNumber, nextNumber, leftNumber, heldBytes, numbersOf}
+use Rattle.transfer.specs.Channel.{heldLimit, State, unused, header, payload, ended, stateCode, heldLength, nextPlace, bytesLeft, heldBytes, encodeState}
 use Rattle.transfer.proofs.ChannelReadBack.{Stands}
 use Rattle.transfer.proofs.FitChannelKinds.{Stage, resting, collecting, storing}
 
@@ -23,8 +23,8 @@ steady-stands (header r) s = s
 steady-stands (payload p n e) s = tt
 steady-stands ended s = tt
 
-pub steady-stage : (x : State) → Steady x → Stage (numbersOf x)
-unfolding numbersOf stateNumber heldNumber nextNumber leftNumber
+pub steady-stage : (x : State) → Steady x → Stage (encodeState x)
+unfolding encodeState stateCode heldLength nextPlace bytesLeft
 steady-stage unused s = resting (inl refl) refl refl refl
 steady-stage (header r) s = collecting refl s refl refl
 steady-stage (payload p n true) s = storing (inr refl) refl s
@@ -32,8 +32,8 @@ steady-stage (payload p n false) s = storing (inl refl) refl s
 steady-stage ended s = resting (inr refl) refl refl refl
 
 -- what it doesn't hold is 0
-pub steady-zero : (x : State) (i : ℕ) → heldNumber x ≤ i → i < heldLimit → getD (heldBytes x) i 0 ≡ 0
-unfolding heldNumber heldBytes
+pub steady-zero : (x : State) (i : ℕ) → heldLength x ≤ i → i < heldLimit → getD (heldBytes x) i 0 ≡ 0
+unfolding heldLength heldBytes
 steady-zero unused i h g = getD-replicate {A = ℕ} heldLimit i 0 0 g
 steady-zero (header r) i h g =
     let e : i ≡ length r + (i - length r) = omega arith in

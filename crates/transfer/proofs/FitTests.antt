@@ -14,7 +14,7 @@ use Rattle.eblock.specs.Header.{countLimit}
 use Rattle.transfer.specs.declared.state.Transfer.{Transfer}
 use Rattle.transfer.specs.Channel.{channelCount, heldLimit, channelAt}
 use Rattle.transfer.specs.Transfer.{usedOf, World}
-use Rattle.transfer.specs.Fit.{pairLimit, channelsFit, restsApart, countFits, faultFits, fitsLedger, fits}
+use Rattle.transfer.specs.Fit.{pairLimit, channelsFit, restsApart, countFits, faultFits, fitsWithoutFile, fits}
 use Rattle.transfer.proofs.FitByChannel.{CountSays, FaultSays, Together, rests-of, rest-inside}
 use Rattle.transfer.proofs.FitChannels.{both, ChannelSays, bytesAt, channel-says, channel-fits, zeros-byte, byte-zeros, channels-at, at-channels}
 use Rattle.transfer.proofs.FitRests.{apart-says, rests-say, rests-apart}
@@ -55,11 +55,11 @@ fault-fits t (inr q) = rw (ne-eqb (t .fault) 0 (λ e. omega arith), le-leb 11 (t
 
 -- ---- all but the file's length
 
-pub ledger-together : (w : World) → fitsLedger (w .t) (w .lent .claimed) ≡ true → length (w .lent .file) ≡ w .t .len → Together w
-unfolding fitsLedger
+pub ledger-together : (w : World) → fitsWithoutFile (w .t) (w .lent .ledger) ≡ true → length (w .lent .file) ≡ w .t .len → Together w
+unfolding fitsWithoutFile
 ledger-together w h f =
     let t = w .t in
-    let l = w .lent .claimed in
+    let l = w .lent .ledger in
     let a₁ = both (leb (t .pairs) pairLimit) _ h in
     let a₂ = both (eqb (length l) (2 * t .pairs)) _ (a₁ .1) in
     let a₃ = both (obeys l) _ (a₂ .1) in
@@ -88,11 +88,11 @@ ledger-together w h f =
       fault = fault-says t (a₉ .1);
     }
 
-pub together-ledger : (w : World) → Together w → fitsLedger (w .t) (w .lent .claimed) ≡ true
-unfolding fitsLedger
+pub together-ledger : (w : World) → Together w → fitsWithoutFile (w .t) (w .lent .ledger) ≡ true
+unfolding fitsWithoutFile
 together-ledger w f =
     let t = w .t in
-    let l = w .lent .claimed in
+    let l = w .lent .ledger in
     rw (
       le-leb (t .pairs) pairLimit (f .pairs),
       eq-eqb (length l) (2 * t .pairs) (f .entries),
@@ -113,7 +113,7 @@ together-ledger w f =
 pub fits-together : (w : World) → fits w ≡ true → Together w
 unfolding fits
 fits-together w h =
-    let a = both (eqb (length (w .lent .file)) (w .t .len)) (fitsLedger (w .t) (w .lent .claimed)) h in
+    let a = both (eqb (length (w .lent .file)) (w .t .len)) (fitsWithoutFile (w .t) (w .lent .ledger)) h in
     ledger-together w (a .1) (eqb-true (length (w .lent .file)) (w .t .len) (a .0))
 
 pub together-fits : (w : World) → Together w → fits w ≡ true

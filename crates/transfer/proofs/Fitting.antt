@@ -13,7 +13,7 @@ use Rattle.transfer.specs.Channel.{channelCount}
 use Rattle.transfer.specs.Transfer.{usedOf, endedOf, sum, World, world}
 use Rattle.transfer.specs.Receive.{Outcome, continues, stops, notTaken, afterByte, refused, takeBytes, takeByte, refusalOf, receiveOf}
 use Rattle.transfer.specs.Calls.{Call, receive, callOf}
-use Rattle.transfer.specs.Fit.{fitsLedger}
+use Rattle.transfer.specs.Fit.{fitsWithoutFile}
 use Rattle.transfer.specs.Fitting.{Fit, Fitting}
 use Rattle.transfer.proofs.ReceivePieces.{bytes-none, bytes-goes, bytes-stops, bytes-leaves}
 use Rattle.transfer.proofs.Rows.{rows}
@@ -49,7 +49,7 @@ call-keeps w (receive c piece) f = go (leb channelCount c) refl
         taken false = piece-keeps c (leb-false channelCount c e) piece w 0 f
 
 -- a file of as many zeros will do
-fits-without-file : (t : Transfer) (claimed : List ℕ) → (fitsLedger t claimed ≡ true) ↔ ((file : List ℕ) → length file ≡ t .len → Fit (world t file claimed))
+fits-without-file : (t : Transfer) (claimed : List ℕ) → (fitsWithoutFile t claimed ≡ true) ↔ ((file : List ℕ) → length file ≡ t .len → Fit (world t file claimed))
 fits-without-file t claimed =
     let some : List ℕ = replicate (t .len) 0 in
     let w = world t some claimed in (

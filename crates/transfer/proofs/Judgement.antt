@@ -8,19 +8,19 @@ use native.Mathlib.Omega.{arith}
 use native.Mathlib.Decide.{ℕ-discrete}
 use borrow.Author.Tests.{lt-ltb, le-ltb, ltb-true, ltb-false}
 use lib.Dec.{ltb}
-use Rattle.ledger.specs.Pairs.{Pairs, size, inRange, contains, Ruled, join, overlaps}
+use Rattle.ledger.specs.Pairs.{Pairs, size, inRange, contains, ObeyFrom, join, overlaps}
 use Rattle.ledger.proofs.PairsPlaces.{inRange-in, Where, under, within, past, stand, holds-le}
 use Rattle.ledger.proofs.PairsJoin.{join-holds, join-ruled}
 use Rattle.ledger.proofs.PairsUnique.{ruled-unique}
 use Rattle.ledger.proofs.PairsOverlap.{shares-none, none-shares, shares-some}
 use Rattle.eblock.specs.Descriptor.{has, faultOf}
 use Rattle.eblock.specs.Header.{countLimit, descriptorOf, secondOf, thirdOf}
-use Rattle.transfer.specs.Header.{isCount, payloadLength, HeaderRequest, counts, claims, nothing, requestOf, claimFault}
+use Rattle.transfer.specs.Header.{isEodc, payloadLength, HeaderRequest, counts, claims, nothing, requestOf, claimFault}
 use Rattle.transfer.specs.Judgement.{HeaderAsks, for-count, for-nothing, for-claim, Union, ClaimJudged, by-17, by-18, is-claimed, Judgement}
 use Rattle.transfer.specs.Tally.{requestFault}
 use Rattle.transfer.proofs.JudgementByTransfer.{Numbered, asked, asked-only}
 
-module _ (R : ℕ) (ps : Pairs) (s e : ℕ) (h : s < e) (ruled : Ruled 0 ps) where
+module _ (R : ℕ) (ps : Pairs) (s e : ℕ) (h : s < e) (ruled : ObeyFrom 0 ps) where
   joined : Union s e ps (join s e ps)
   joined = record { ruled = join-ruled s e 0 ps h (omega arith) ruled; places = λ p. join-holds s e 0 p ps h ruled }
 
@@ -81,23 +81,23 @@ module _ (R : ℕ) (ps : Pairs) (s e : ℕ) (h : s < e) (ruled : Ruled 0 ps) whe
 
 -- no fault: an accepted descriptor, then a count that may come or a payload that is empty or may be claimed
 pub faultless : (F R known used : ℕ) (ps : Pairs) (h : List ℕ) → faultOf (descriptorOf h) ≡ 0
-    → (isCount h ≡ true → (known ≡ 0) × (0 < thirdOf h) × (thirdOf h ≤ countLimit) × (used ≤ thirdOf h))
-    → (isCount h ≡ false → 0 < secondOf h → (thirdOf h + secondOf h ≤ F) × (overlaps (thirdOf h) (thirdOf h + secondOf h) ps ≡ false) × (size (join (thirdOf h) (thirdOf h + secondOf h) ps) ≤ R))
+    → (isEodc h ≡ true → (known ≡ 0) × (0 < thirdOf h) × (thirdOf h ≤ countLimit) × (used ≤ thirdOf h))
+    → (isEodc h ≡ false → 0 < secondOf h → (thirdOf h + secondOf h ≤ F) × (overlaps (thirdOf h) (thirdOf h + secondOf h) ps ≡ false) × (size (join (thirdOf h) (thirdOf h + secondOf h) ps) ≤ R))
     → requestFault R ps (requestOf F known used h) ≡ 0
 unfolding requestFault claimFault
-faultless F R known used ps h d n p = go (isCount h) refl
+faultless F R known used ps h d n p = go (isEodc h) refl
   where
     asks : (a : HeaderRequest) → HeaderAsks F known used h a → requestFault R ps a ≡ 0 → requestFault R ps (requestOf F known used h) ≡ 0
     asks a q z = ap (requestFault R ps) (sym (asked-only F known used h a q)) ∙ z
 
-    claimable : isCount h ≡ false → 0 < secondOf h → claimFault R ps (thirdOf h) (thirdOf h + secondOf h) ≡ 0
+    claimable : isEodc h ≡ false → 0 < secondOf h → claimFault R ps (thirdOf h) (thirdOf h + secondOf h) ≡ 0
     claimable q l = let k = p q l in rw (k .1, le-ltb R (size (join (thirdOf h) (thirdOf h + secondOf h) ps)) (k .2))
 
-    sized : isCount h ≡ false → Dec (secondOf h ≡ 0) → requestFault R ps (requestOf F known used h) ≡ 0
+    sized : isEodc h ≡ false → Dec (secondOf h ≡ 0) → requestFault R ps (requestOf F known used h) ≡ 0
     sized q (yes e) = asks nothing (for-nothing d q e) refl
     sized q (no e) = asks (claims (thirdOf h) (thirdOf h + secondOf h)) (for-claim d q (omega arith) (p q (omega arith) .0)) (claimable q (omega arith))
 
-    go : (q : Bool) → isCount h ≡ q → requestFault R ps (requestOf F known used h) ≡ 0
+    go : (q : Bool) → isEodc h ≡ q → requestFault R ps (requestOf F known used h) ≡ 0
     go true q = let k = n q in asks (counts (thirdOf h)) (for-count d q (k .0) (k .1) (k .2) (k .3)) refl
     go false q = sized q (ℕ-discrete (secondOf h) 0)
 
@@ -109,8 +109,8 @@ judgement =
       asked-only = asked-only;
       claim-is = claim-is;
       claim-only = λ R ps s e k h ruled c. claim-only R ps s e h ruled k c;
-      nine-end = λ r. refl;
-      nine-count = λ r. refl;
-      none-follow = λ h q. rw q;
-      so-many-follow = λ h q. rw q;
+      ends-by-descriptor = λ r. refl;
+      eodc-by-descriptor = λ r. refl;
+      eodc-length = λ h q. rw q;
+      data-length = λ h q. rw q;
     }

@@ -11,7 +11,7 @@ use lib.Dec.{ltb, eqb}
 use Rattle.eblock.specs.Descriptor.{faultOf}
 use Rattle.eblock.proofs.Table.{fault-numbers}
 use Rattle.eblock.specs.Header.{countLimit, descriptorOf, secondOf, thirdOf}
-use Rattle.transfer.specs.Header.{isCount, HeaderRequest, counts, claims, nothing, faulty, requestOf}
+use Rattle.transfer.specs.Header.{isEodc, HeaderRequest, counts, claims, nothing, faulty, requestOf}
 use Rattle.transfer.specs.Judgement.{HeaderAsks, by-descriptor, by-14, by-15, for-count, for-nothing, by-16, for-claim}
 
 -- none, or from 11 to 18
@@ -37,7 +37,7 @@ module _ (F known used : ℕ) (h : List ℕ) where
       inr (⊎-elim (λ (y : ltb countLimit (thirdOf h) ≡ true). inl (ltb-true countLimit (thirdOf h) y)) (λ (y : ltb (thirdOf h) used ≡ true). inr (ltb-true (thirdOf h) used y)) (or-true _ _ x)))
       (or-true _ _ e)
 
-  count-asked : faultOf (descriptorOf h) ≡ 0 → isCount h ≡ true
+  count-asked : faultOf (descriptorOf h) ≡ 0 → isEodc h ≡ true
       → Says (cond (ltb 0 known) (faulty 14) (cond (eqb (thirdOf h) 0 || (ltb countLimit (thirdOf h) || ltb (thirdOf h) used)) (faulty 15) (counts (thirdOf h))))
   count-asked d q = go (ltb 0 known) (eqb (thirdOf h) 0 || (ltb countLimit (thirdOf h) || ltb (thirdOf h) used)) refl refl
     where
@@ -50,7 +50,7 @@ module _ (F known used : ℕ) (h : List ℕ) where
           let n : thirdOf h ≢ 0 = eqb-false (thirdOf h) 0 (a .0) in
           for-count d q (omega (arith, ltb-false 0 known x)) (omega arith) (ltb-false countLimit (thirdOf h) (b .0)) (ltb-false (thirdOf h) used (b .1))
 
-  range-asked : faultOf (descriptorOf h) ≡ 0 → isCount h ≡ false
+  range-asked : faultOf (descriptorOf h) ≡ 0 → isEodc h ≡ false
       → Says (cond (eqb (secondOf h) 0) nothing (cond (ltb F (thirdOf h + secondOf h)) (faulty 16) (claims (thirdOf h) (thirdOf h + secondOf h))))
   range-asked d q = go (eqb (secondOf h) 0) (ltb F (thirdOf h + secondOf h)) refl refl
     where
@@ -62,9 +62,9 @@ module _ (F known used : ℕ) (h : List ℕ) where
 
   pub asked : Says (requestOf F known used h)
   unfolding requestOf
-  asked = go (ltb 0 (faultOf (descriptorOf h))) (isCount h) refl refl
+  asked = go (ltb 0 (faultOf (descriptorOf h))) (isEodc h) refl refl
     where
-      go : (u v : Bool) → ltb 0 (faultOf (descriptorOf h)) ≡ u → isCount h ≡ v
+      go : (u v : Bool) → ltb 0 (faultOf (descriptorOf h)) ≡ u → isEodc h ≡ v
           → Says (cond u (faulty (faultOf (descriptorOf h)))
           (cond v
           (cond (ltb 0 known) (faulty 14) (cond (eqb (thirdOf h) 0 || (ltb countLimit (thirdOf h) || ltb (thirdOf h) used)) (faulty 15) (counts (thirdOf h))))

@@ -11,9 +11,9 @@ use lib.ListN.{length}
 use Rattle.ledger.specs.Ledger.{pairsOf}
 use Rattle.transfer.specs.declared.state.Transfer.{Transfer}
 use Rattle.transfer.specs.Channel.{heldLimit, unused, header, payload, ended, stateAt, putState, putFault}
-use Rattle.transfer.specs.Transfer.{endedOf, usedOf, World, withTransfer, isFinal}
+use Rattle.transfer.specs.Transfer.{endedOf, usedOf, World, withTransfer, allEnded}
 use Rattle.transfer.specs.Header.{endsChannel, payloadLength, claims, requestOf, claimFault}
-use Rattle.transfer.specs.Receive.{continues, stops, notTaken, stopWithFault, endChannel, beginPayload, claimRange, applyHeader, judgeHeader, takeHeaderByte, storePayloadByte, takeByteIn, takeByte}
+use Rattle.transfer.specs.Receive.{continues, stops, notTaken, stopWithFault, endChannel, expectPayload, claimRange, applyRequest, applyHeader, takeHeaderByte, storePayloadByte, takeByteIn, takeByte}
 
 module _ (w : World) (c b : ℕ) where
   pub byte-unused : stateAt (w .t) c ≡ unused
@@ -27,8 +27,8 @@ module _ (w : World) (c b : ℕ) where
   byte-held h s l = rw (s, lt-ltb (length h) heldLimit l)
 
   pub byte-judged : (h : List ℕ) → stateAt (w .t) c ≡ header h → heldLimit ≤ length h
-      → takeByte w c b ≡ applyHeader w c (h ++ (b ∷ [])) (requestOf (w .t .len) (w .t .count) (usedOf (w .t)) (h ++ (b ∷ [])))
-  unfolding takeByte takeByteIn takeHeaderByte judgeHeader
+      → takeByte w c b ≡ applyRequest w c (h ++ (b ∷ [])) (requestOf (w .t .len) (w .t .count) (usedOf (w .t)) (h ++ (b ∷ [])))
+  unfolding takeByte takeByteIn takeHeaderByte applyHeader
   byte-judged h s l = rw (s, le-ltb (length h) heldLimit l)
 
   pub byte-payload : (p n : ℕ) (e : Bool) → stateAt (w .t) c ≡ payload p n e → takeByte w c b ≡ storePayloadByte w c p n e b
@@ -40,17 +40,17 @@ module _ (w : World) (c b : ℕ) where
   byte-ended s = rw s
 
 module _ (w : World) (c : ℕ) (h : List ℕ) (s e : ℕ) where
-  pub claim-faulty : (k : ℕ) → claimFault (w .t .pairs) (pairsOf (w .lent .claimed)) s e ≡ suc k → applyHeader w c h (claims s e) ≡ stopWithFault w c (suc k)
-  unfolding applyHeader
+  pub claim-faulty : (k : ℕ) → claimFault (w .t .pairs) (pairsOf (w .lent .ledger)) s e ≡ suc k → applyRequest w c h (claims s e) ≡ stopWithFault w c (suc k)
+  unfolding applyRequest
   claim-faulty k q = rw (q, lt-ltb 0 (suc k) (omega arith))
 
-  pub claim-opens : claimFault (w .t .pairs) (pairsOf (w .lent .claimed)) s e ≡ 0
-      → applyHeader w c h (claims s e) ≡ beginPayload (claimRange w s e) c s (payloadLength h) (endsChannel h)
-  unfolding applyHeader
+  pub claim-opens : claimFault (w .t .pairs) (pairsOf (w .lent .ledger)) s e ≡ 0
+      → applyRequest w c h (claims s e) ≡ expectPayload (claimRange w s e) c s (payloadLength h) (endsChannel h)
+  unfolding applyRequest
   claim-opens q = rw q
 
-not-final : (t : Transfer) → (t .count ≡ 0) ⊎ (endedOf t ≢ t .count) → isFinal t ≡ false
-unfolding isFinal
+not-final : (t : Transfer) → (t .count ≡ 0) ⊎ (endedOf t ≢ t .count) → allEnded t ≡ false
+unfolding allEnded
 not-final t (inl z) = rw z
 not-final t (inr n) = rw (ne-eqb (endedOf t) (t .count) n) (and-false (ltb 0 (t .count)))
 
@@ -59,5 +59,5 @@ unfolding endChannel
 ends-channel w c n = rw (not-final (w .t) n)
 
 pub ends-20 : (w : World) (c : ℕ) → 0 < w .t .count → endedOf (w .t) ≡ w .t .count → endChannel w c ≡ stops (withTransfer w (putFault (putState (w .t) c (header [])) 20 c))
-unfolding endChannel stopWithFault isFinal
+unfolding endChannel stopWithFault allEnded
 ends-20 w c n e = rw (lt-ltb 0 (w .t .count) n, eq-eqb (endedOf (w .t)) (w .t .count) e)

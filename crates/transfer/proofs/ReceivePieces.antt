@@ -9,7 +9,7 @@ use lib.Seq.{sets}
 use Rattle.transfer.specs.declared.state.Transfer.{Transfer}
 use Rattle.transfer.specs.Channel.{State, payload, putState}
 use Rattle.transfer.specs.Transfer.{World, world}
-use Rattle.transfer.specs.Receive.{Outcome, continues, stops, notTaken, beginPayload, storePayloadByte, takeByteIn, takeByte, took, takeBytes}
+use Rattle.transfer.specs.Receive.{Outcome, continues, stops, notTaken, expectPayload, storePayloadByte, takeByteIn, takeByte, took, takeBytes}
 use Rattle.transfer.proofs.ChannelReadBack.{Has, get-put, put-put}
 
 module _ {W : Type 0} (f : W → ℕ → Outcome W) where
@@ -37,7 +37,7 @@ at t file claimed c x = world (putState t c x) file claimed
 
 pub payload-byte : (t : Transfer) (file claimed : List ℕ) (c p n b : ℕ) (e : Bool) → Has t c
     → takeByte (at t file claimed c (payload p (suc (suc n)) e)) c b ≡ continues (at t (set file p b) claimed c (payload (suc p) (suc n) e))
-unfolding takeByte takeByteIn storePayloadByte beginPayload
+unfolding takeByte takeByteIn storePayloadByte expectPayload
 payload-byte t file claimed c p n b e h =
     rw (get-put t c h (payload p (suc (suc n)) e))
     (ap (λ x. continues (world x (set file p b) claimed)) (put-put t c h (payload p (suc (suc n)) e) (payload (suc p) (suc n) e) tt))

@@ -11,7 +11,7 @@ use Rattle.transfer.specs.Channel.{channelCount, State, unused, header, 
 use Rattle.transfer.specs.Transfer.{endedOf, usedOf, World, world, withTransfer, Verdict, guess, result, broken, verdictOf}
 use Rattle.transfer.specs.Receive.{stops, notTaken, Answer, refused, took, takeBytes, takeByte, isGuess, isEnded, isNonEmpty, refusalOf, receiveOf}
 use Rattle.transfer.specs.Fit.{fits}
-use Rattle.transfer.specs.Calls.{Call, receive, callOf, runBy, answersOf, after}
+use Rattle.transfer.specs.Calls.{Call, receive, callOf, foldCalls, answersOf, after}
 use Rattle.transfer.proofs.ReceiveBytes.{byte-unused, ends-20}
 use Rattle.transfer.proofs.ByteRows.{with-byte, last-byte}
 use Rattle.transfer.proofs.ReceivePieces.{bytes-none, bytes-goes, bytes-stops, bytes-leaves}
@@ -69,20 +69,20 @@ nineteen : (w : World) (c b : ℕ) → stateAt (w .t) c ≡ unused → 0 < w .t 
 nineteen w c b u n e = byte-unused w c b u ∙ rw (lt-ltb 0 (w .t .count) n, eq-eqb (usedOf (w .t)) (w .t .count) e)
 
 twenty : (w : World) (c b p : ℕ) → stateAt (w .t) c ≡ payload p 1 true → 0 < w .t .count → endedOf (w .t) ≡ w .t .count
-    → takeByte w c b ≡ stops (world (putFault (putState (w .t) c (header [])) 20 c) (set (w .lent .file) p b) (w .lent .claimed))
+    → takeByte w c b ≡ stops (world (putFault (putState (w .t) c (header [])) 20 c) (set (w .lent .file) p b) (w .lent .ledger))
 twenty w c b p s n e = last-byte w c b p s ∙ ends-20 (with-byte w c b p) c n e
 
 -- ---- lists of calls
 
 -- what two lists leave, one after the other
-pub run-append : {W : Type 0} (f : W → Call → Answer × W) (w : W) (ks more : List Call) → runBy f w (ks ++ more) .1 ≡ runBy f (runBy f w ks .1) more .1
-unfolding runBy
+pub run-append : {W : Type 0} (f : W → Call → Answer × W) (w : W) (ks more : List Call) → foldCalls f w (ks ++ more) .1 ≡ foldCalls f (foldCalls f w ks .1) more .1
+unfolding foldCalls
 run-append f w [] more = refl
 run-append f w (k ∷ ks) more = run-append f (f w k .1) ks more
 
 one-more-call : (w : World) (ks : List Call) (k : Call)
     → (after w (ks ++ k ∷ []) ≡ callOf (after w ks) k .1) × (answersOf w (ks ++ k ∷ []) ≡ answersOf w ks ++ (callOf (after w ks) k .0 ∷ []))
-unfolding runBy
+unfolding foldCalls
 one-more-call w [] k = (refl, refl)
 one-more-call w (x ∷ ks) k = let i = one-more-call (callOf w x .1) ks k in (i .0, ap {B = List Answer} (λ r. callOf w x .0 ∷ r) (i .1))
 
@@ -98,7 +98,7 @@ still w v (receive c piece) = go (fits w) (leb channelCount c) refl refl
     go true false p q = ap (λ r. r .1) (third-row w c p (leb-false channelCount c q) piece v)
 
 stays-put : (w : World) → (verdictOf w ≡ guess → ⊥) → (ks : List Call) → after w ks ≡ w
-unfolding runBy
+unfolding foldCalls
 stays-put w v [] = refl
 stays-put w v (k ∷ ks) = ap (λ x. after x ks) (still w v k) ∙ stays-put w v ks
 
@@ -112,9 +112,9 @@ rows =
       row-empty = λ w c e h v. empty-row w c e h v;
       row-taken = λ w c b bs e h v s. taken-row w c e h b bs v s;
       piece-none = bytes-none;
-      piece-goes = bytes-goes;
+      piece-continues = bytes-goes;
       piece-stops = bytes-stops;
-      piece-leaves = bytes-leaves;
+      piece-not-taken = bytes-leaves;
       by-19 = nineteen;
       by-20 = twenty;
       one-more = one-more-call;

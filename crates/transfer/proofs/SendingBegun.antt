@@ -13,10 +13,10 @@ use Rattle.ledger.specs.Pairs.{Pairs, size, inRange, contains}
 use Rattle.eblock.specs.Header.{thirdOf}
 use Rattle.transfer.specs.Channel.{channelCount}
 use Rattle.transfer.specs.Transfer.{sum}
-use Rattle.transfer.specs.Header.{isCount, payloadLength}
+use Rattle.transfer.specs.Header.{isEodc, payloadLength}
 use Rattle.transfer.specs.Receive.{isNonEmpty}
-use Rattle.transfer.specs.Block.{Block, blockBytes, cut, hasEnd}
-use Rattle.transfer.specs.Tally.{Stream, intact, taken, accepted, blocksOf, countsOf, known, claimed, oneIf, used, endedIn}
+use Rattle.transfer.specs.Block.{Block, blockBytes, cut, hasEnded}
+use Rattle.transfer.specs.Tally.{Stream, intact, taken, accepted, blocksOf, countsOf, knownCount, claimed, oneIf, usedIn, endedIn}
 use Rattle.transfer.specs.Sending.{WellFormedBlocks}
 use Rattle.transfer.proofs.BlockClaims.{cover, claims-size}
 use Rattle.transfer.proofs.BlockCounts.{sum-counts, at-most-one}
@@ -69,27 +69,27 @@ module _ (F R : ℕ) (before : Pairs) (n : ℕ) (all : List Stream) (sent : Send
     unfolding sum
     counts-are =
         at-most-one n (countsOf ss)
-        (λ f. omega (arith, sum-counts f (blocksOf ss), sum-most (λ h. cond (isCount h) (f (thirdOf h)) 0), sum-counts f (blocksOf all), ap (sum f) (sent .counts-are)))
+        (λ f. omega (arith, sum-counts f (blocksOf ss), sum-most (λ h. cond (isEodc h) (f (thirdOf h)) 0), sum-counts f (blocksOf all), ap (sum f) (sent .counts-are)))
 
-    pub known-is : (known ss ≡ 0) ⊎ (known ss ≡ n)
+    pub known-is : (knownCount ss ≡ 0) ⊎ (knownCount ss ≡ n)
     known-is = go counts-are
       where
-        go : (countsOf ss ≡ []) ⊎ (countsOf ss ≡ n ∷ []) → (known ss ≡ 0) ⊎ (known ss ≡ n)
+        go : (countsOf ss ≡ []) ⊎ (countsOf ss ≡ n ∷ []) → (knownCount ss ≡ 0) ⊎ (knownCount ss ≡ n)
         go (inl e) = inl (ap (λ cs. getD cs 0 0) e)
         go (inr e) = inr (ap (λ cs. getD cs 0 0) e)
 
     used-each : (c : ℕ) → oneIf (isNonEmpty (taken (streamIn ss c))) ≤ oneIf (isNonEmpty (taken (streamIn all c)))
     used-each c = some-part (taken (streamIn ss c)) (u .to-come c .0) (taken (streamIn all c)) (u .to-come c .1)
 
-    pub used-most : used ss ≤ n
+    pub used-most : usedIn ss ≤ n
     used-most = omega (arith, sent .used-most, sum-le (λ (s : Stream). oneIf (isNonEmpty (taken s))) ss all same-number used-each)
 
-    ended-each : (c : ℕ) → oneIf (hasEnd (accepted (streamIn ss c))) ≤ oneIf (hasEnd (accepted (streamIn all c)))
-    ended-each c = go (hasEnd (accepted (streamIn ss c))) refl
+    ended-each : (c : ℕ) → oneIf (hasEnded (accepted (streamIn ss c))) ≤ oneIf (hasEnded (accepted (streamIn all c)))
+    ended-each c = go (hasEnded (accepted (streamIn ss c))) refl
       where
-        go : (b : Bool) → hasEnd (accepted (streamIn ss c)) ≡ b → oneIf b ≤ oneIf (hasEnd (accepted (streamIn all c)))
+        go : (b : Bool) → hasEnded (accepted (streamIn ss c)) ≡ b → oneIf b ≤ oneIf (hasEnded (accepted (streamIn all c)))
         go false e = omega arith
-        go true e = omega (arith, ap oneIf (sym (ap hasEnd (part c .whole (part c .ended-last e))) ∙ e))
+        go true e = omega (arith, ap oneIf (sym (ap hasEnded (part c .whole (part c .ended-last e))) ∙ e))
 
     -- ---- a channel with a byte to come
 
@@ -103,17 +103,17 @@ module _ (F R : ℕ) (before : Pairs) (n : ℕ) (all : List Stream) (sent : Send
               let none : streamIn all c ≡ intact [] = List·getD-eq-default all (intact []) {n = c} (omega (arith, sent .number)) in
               absurd (omega (arith, ap length (e ∙ ap taken none), length-append (taken (streamIn ss c)) (b ∷ m)))
 
-      pub not-ended : hasEnd (accepted (streamIn ss c)) ≡ false
-      not-ended = go (hasEnd (accepted (streamIn ss c))) refl
+      pub not-ended : hasEnded (accepted (streamIn ss c)) ≡ false
+      not-ended = go (hasEnded (accepted (streamIn ss c))) refl
         where
-          go : (v : Bool) → hasEnd (accepted (streamIn ss c)) ≡ v → v ≡ false
+          go : (v : Bool) → hasEnded (accepted (streamIn ss c)) ≡ v → v ≡ false
           go false h = refl
           go true h = absurd (omega (arith, ap length (part-at ss c (b ∷ m) (u .clean) e .ended-last h)))
 
-      ends-later : hasEnd (accepted (streamIn all c)) ≡ true
+      ends-later : hasEnded (accepted (streamIn all c)) ≡ true
       ends-later = go (accepted (streamIn all c)) (sent .each c .each) (sent .each c .ends) (e ∙ sent .each c .bytes)
         where
-          go : (xs : List Block) → WellFormedBlocks F xs → Ending xs → taken (streamIn ss c) ++ b ∷ m ≡ blockBytes xs → hasEnd xs ≡ true
+          go : (xs : List Block) → WellFormedBlocks F xs → Ending xs → taken (streamIn ss c) ++ b ∷ m ≡ blockBytes xs → hasEnded xs ≡ true
           go [] s z h =
               let none : blockBytes [] ≡ [] = unfold blockBytes in refl in
               absurd (omega (arith, ap length (h ∙ none), length-append (taken (streamIn ss c)) (b ∷ m)))
@@ -124,9 +124,9 @@ module _ (F R : ℕ) (before : Pairs) (n : ℕ) (all : List Stream) (sent : Send
 
       pub ended-below : endedIn ss < n
       ended-below =
-          omega (arith, sent .ended-are, sum-lt (λ (s : Stream). oneIf (hasEnd (accepted s))) ss all c here same-number ended-each (omega (arith, ap oneIf not-ended, ap oneIf ends-later)))
+          omega (arith, sent .ended-are, sum-lt (λ (s : Stream). oneIf (hasEnded (accepted s))) ss all c here same-number ended-each (omega (arith, ap oneIf not-ended, ap oneIf ends-later)))
 
-      pub used-below : isNonEmpty (taken (streamIn ss c)) ≡ false → used ss < n
+      pub used-below : isNonEmpty (taken (streamIn ss c)) ≡ false → usedIn ss < n
       used-below h =
           let some = some-part (taken (streamIn ss c) ++ b ∷ []) m (taken (streamIn all c)) (append-assoc (taken (streamIn ss c)) (b ∷ []) m ∙ e) in
           let one-there : oneIf (isNonEmpty (taken (streamIn ss c) ++ b ∷ [])) ≡ 1 = ap oneIf (isSome-append (taken (streamIn ss c)) b) in

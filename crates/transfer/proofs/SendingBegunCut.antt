@@ -11,7 +11,7 @@ use lib.Seq.{take-append-le, take-append-seam, drop-append-le, drop-append-seam}
 use Rattle.eblock.specs.Header.{headerLength}
 use Rattle.transfer.specs.Transfer.{sum}
 use Rattle.transfer.specs.Header.{endsChannel}
-use Rattle.transfer.specs.Block.{Block, block, sizeOf, isWhole, blockBytes, cut, cutBy, endsItsChannel, hasEnd}
+use Rattle.transfer.specs.Block.{Block, block, sizeOf, isWhole, blockBytes, cut, cutBy, isCompleteEnd, hasEnded}
 use Rattle.transfer.specs.Sending.{WellFormedBlock, WellFormedBlocks, EndsAtLast}
 use Rattle.transfer.proofs.BlockCounts.{append-nothing}
 use Rattle.transfer.proofs.BlockCut.{cuts-block, cuts-short, cuts-part}
@@ -33,11 +33,11 @@ sent-whole : (F : ℕ) (x : Block) → WellFormedBlock F x → isWhole x ≡ tru
 unfolding isWhole
 sent-whole F x s = le-leb (sizeOf x) (length (x .body)) (omega (arith, s .whole))
 
-pub sent-ends : (F : ℕ) (xs : List Block) → WellFormedBlocks F xs → EndsAtLast xs → hasEnd xs ≡ true
-unfolding hasEnd endsItsChannel
+pub sent-ends : (F : ℕ) (xs : List Block) → WellFormedBlocks F xs → EndsAtLast xs → hasEnded xs ≡ true
+unfolding hasEnded isCompleteEnd
 sent-ends F [] s e = absurd e
 sent-ends F (x ∷ []) s e = rw (e, sent-whole F x (s .0))
-sent-ends F (x ∷ y ∷ xs) s e = rw (sent-ends F (y ∷ xs) (s .1) (e .1)) (or-true (endsItsChannel x))
+sent-ends F (x ∷ y ∷ xs) s e = rw (sent-ends F (y ∷ xs) (s .1) (e .1)) (or-true (isCompleteEnd x))
 
 -- ---- the first of some blocks
 
@@ -58,7 +58,7 @@ first-sum v (x ∷ xs) (y ∷ ys) f = omega (arith, ap v (f .0), first-sum v xs 
 -- of the bytes of the blocks xs a first part is cut into `now`, and m are to come
 pub record Part (xs now : List Block) (m : List ℕ) : Type 0 where
   pub first : FirstOf now xs
-  pub ended-last : hasEnd now ≡ true → m ≡ []
+  pub ended-last : hasEnded now ≡ true → m ≡ []
   pub whole : m ≡ [] → now ≡ xs
 
 -- where one list begins at least as far as another
@@ -72,7 +72,7 @@ split-append a b c d h k = (
 module _ (F : ℕ) where
   -- k cuts are enough
   pub first-part : (xs : List Block) (bs m : List ℕ) (k : ℕ) → WellFormedBlocks F xs → Ending xs → bs ++ m ≡ blockBytes xs → length bs ≤ k → Part xs (cutBy k bs) m
-  unfolding blockBytes hasEnd
+  unfolding blockBytes hasEnded
   first-part [] bs m k s z h q =
       let e : length bs ≡ 0 = omega (arith, ap length h, length-append bs m) in
       rw (cuts-short k bs (omega arith) .0) (record { first = tt; ended-last = λ e. absurd (false≢true e); whole = λ e. refl })
@@ -91,16 +91,16 @@ module _ (F : ℕ) where
           short : m ≡ [] → ⊥
           short r = omega (arith, ap length g, length-append e m, length-append (x .body) (blockBytes xs), ap length r, size)
 
-          shut : hasEnd (block (x .head) e ∷ []) ≡ false
-          shut = unfold endsItsChannel isWhole in rw (lt-leb (sizeOf x) (length e) w, and-false (endsChannel (x .head)))
+          shut : hasEnded (block (x .head) e ∷ []) ≡ false
+          shut = unfold isCompleteEnd isWhole in rw (lt-leb (sizeOf x) (length e) w, and-false (endsChannel (x .head)))
 
       -- the block and what is after it
       behind : (e : List ℕ) (j : ℕ) → e ++ m ≡ blockBytes xs → Part xs (cutBy j e) m → Part (x ∷ xs) (x ∷ cutBy j e) m
       behind e j g p = record { first = (refl, p .first); ended-last = last xs z g (p .ended-last); whole = λ r. ap {B = List Block} (λ ys. x ∷ ys) (p .whole r) }
         where
-          last : (ys : List Block) → Ending (x ∷ ys) → e ++ m ≡ blockBytes ys → (hasEnd (cutBy j e) ≡ true → m ≡ []) → (endsItsChannel x || hasEnd (cutBy j e)) ≡ true → m ≡ []
+          last : (ys : List Block) → Ending (x ∷ ys) → e ++ m ≡ blockBytes ys → (hasEnded (cutBy j e) ≡ true → m ≡ []) → (isCompleteEnd x || hasEnded (cutBy j e)) ≡ true → m ≡ []
           last [] y g i r = append-nothing e m g .1
-          last (y ∷ ys) u g i r = i (unfold endsItsChannel in rw (u .0) at r)
+          last (y ∷ ys) u g i r = i (unfold isCompleteEnd in rw (u .0) at r)
 
       headed : Dec (headerLength ≤ length bs) → (k : ℕ) → length bs ≤ k → On → Part (x ∷ xs) (cutBy k bs) m
       headed (no w) k q on =

@@ -9,16 +9,16 @@ use native.Mathlib.Decide.{ℕ-discrete}
 use borrow.Author.Tests.{lt-ltb, le-ltb, eq-eqb, ne-eqb}
 use lib.Dec.{ltb, eqb}
 use lib.ListN.{length, getD}
-use Rattle.ledger.specs.Pairs.{Pairs, size, inRange, contains, Ruled, join, overlaps}
+use Rattle.ledger.specs.Pairs.{Pairs, size, inRange, contains, ObeyFrom, join, overlaps}
 use Rattle.ledger.proofs.PairsOverlap.{none-shares}
 use Rattle.eblock.specs.Descriptor.{faultOf}
 use Rattle.eblock.specs.Header.{countLimit, descriptorOf, secondOf, thirdOf}
 use Rattle.transfer.specs.Channel.{channelCount, heldLimit}
 use Rattle.transfer.specs.Transfer.{sum}
-use Rattle.transfer.specs.Header.{isCount, payloadLength, requestOf}
+use Rattle.transfer.specs.Header.{isEodc, payloadLength, requestOf}
 use Rattle.transfer.specs.Receive.{Outcome, continues, stops, isNonEmpty}
-use Rattle.transfer.specs.Block.{Block, block, placeOf, sizeOf, blockBytes, cut, begunHeader, begunHeaderBy, hasEnd}
-use Rattle.transfer.specs.Tally.{Tally, Stream, intact, taken, accepted, blocksOf, countsOf, known, claimed, used, endedIn, streamAt, withStream, keepBytes, applyJudgement, requestFault, takeByteAfter, takeByte}
+use Rattle.transfer.specs.Block.{Block, block, placeOf, sizeOf, blockBytes, cut, partialHeader, partialHeaderBy, hasEnded}
+use Rattle.transfer.specs.Tally.{Tally, Stream, intact, taken, accepted, blocksOf, countsOf, knownCount, claimed, usedIn, endedIn, streamAt, withStream, keepBytes, applyJudgement, requestFault, tallyByteAfter, tallyByte}
 use Rattle.transfer.specs.Sending.{WellFormedBlocks}
 use Rattle.transfer.proofs.BlockClaims.{hitBy, claims-ruled, claims-holds}
 use Rattle.transfer.proofs.BlockCounts.{sum-counts}
@@ -45,7 +45,7 @@ first-sent F (z ∷ done) x (y ∷ ys) s f = first-sent F done x ys (s .1) (f .1
 abbrev pub Takes : Outcome Tally → Tally → List ℕ → Type 0
 Takes y next m = (y ≡ continues next) ⊎ ((y ≡ stops next) × (m ≡ []))
 
-module _ (F R : ℕ) (before : Pairs) (ruled : Ruled 0 before) (n : ℕ) (all : List Stream) (sent : Sendable F R before n all) where
+module _ (F R : ℕ) (before : Pairs) (ruled : ObeyFrom 0 before) (n : ℕ) (all : List Stream) (sent : Sendable F R before n all) where
   module _ (t : Tally) (c b : ℕ) (m : List ℕ) (i : Invariant F R before t) (z : t .fault ≡ 0) (u : Underway F R before n all sent (t .streams))
       (e : taken (streamAt t c) ++ b ∷ m ≡ taken (streamIn all c)) where
     abbrev bs : List ℕ
@@ -71,31 +71,31 @@ module _ (F R : ℕ) (before : Pairs) (ruled : Ruled 0 before) (n : ℕ) (all : 
 
     -- ---- fault 19, fault 20
 
-    no-nineteen : (not (isNonEmpty bs) && (ltb 0 (known (t .streams)) && eqb (used (t .streams)) (known (t .streams)))) ≡ false
+    no-nineteen : (not (isNonEmpty bs) && (ltb 0 (knownCount (t .streams)) && eqb (usedIn (t .streams)) (knownCount (t .streams)))) ≡ false
     no-nineteen = go (isNonEmpty bs) refl (known-is F R before n all sent (t .streams) u)
       where
-        go : (v : Bool) → isNonEmpty bs ≡ v → (known (t .streams) ≡ 0) ⊎ (known (t .streams) ≡ n) → (not v && (ltb 0 (known (t .streams)) && eqb (used (t .streams)) (known (t .streams)))) ≡ false
+        go : (v : Bool) → isNonEmpty bs ≡ v → (knownCount (t .streams) ≡ 0) ⊎ (knownCount (t .streams) ≡ n) → (not v && (ltb 0 (knownCount (t .streams)) && eqb (usedIn (t .streams)) (knownCount (t .streams)))) ≡ false
         go true v h = refl
-        go false v (inl h) = rw (le-ltb 0 (known (t .streams)) (omega arith))
+        go false v (inl h) = rw (le-ltb 0 (knownCount (t .streams)) (omega arith))
         go false v (inr h) =
             let less = used-below F R before n all sent (t .streams) u c b m e v in
-            rw (lt-ltb 0 (known (t .streams)) (omega (arith, sent .some)), ne-eqb (used (t .streams)) (known (t .streams)) (λ q. omega (arith, less)))
+            rw (lt-ltb 0 (knownCount (t .streams)) (omega (arith, sent .some)), ne-eqb (usedIn (t .streams)) (knownCount (t .streams)) (λ q. omega (arith, less)))
 
-    no-twenty : (ltb 0 (known (next .streams)) && eqb (endedIn (t .streams)) (known (next .streams))) ≡ false
+    no-twenty : (ltb 0 (knownCount (next .streams)) && eqb (endedIn (t .streams)) (knownCount (next .streams))) ≡ false
     no-twenty = go (known-is F R before n all sent (next .streams) u′)
       where
-        go : (known (next .streams) ≡ 0) ⊎ (known (next .streams) ≡ n) → (ltb 0 (known (next .streams)) && eqb (endedIn (t .streams)) (known (next .streams))) ≡ false
-        go (inl h) = rw (le-ltb 0 (known (next .streams)) (omega arith))
+        go : (knownCount (next .streams) ≡ 0) ⊎ (knownCount (next .streams) ≡ n) → (ltb 0 (knownCount (next .streams)) && eqb (endedIn (t .streams)) (knownCount (next .streams))) ≡ false
+        go (inl h) = rw (le-ltb 0 (knownCount (next .streams)) (omega arith))
         go (inr h) =
             let less = ended-below F R before n all sent (t .streams) u c b m e in
-            rw (lt-ltb 0 (known (next .streams)) (omega (arith, sent .some)), ne-eqb (endedIn (t .streams)) (known (next .streams)) (λ q. omega (arith, less)))
+            rw (lt-ltb 0 (knownCount (next .streams)) (omega (arith, sent .some)), ne-eqb (endedIn (t .streams)) (knownCount (next .streams)) (λ q. omega (arith, less)))
 
     keeps-byte : Takes (keepBytes t c (bs ++ b ∷ [])) next m
     unfolding keepBytes accepted
-    keeps-byte = go (hasEnd (cut (bs ++ b ∷ []))) refl
+    keeps-byte = go (hasEnded (cut (bs ++ b ∷ []))) refl
       where
-        go : (v : Bool) → hasEnd (cut (bs ++ b ∷ [])) ≡ v → Takes (keepBytes t c (bs ++ b ∷ [])) next m
-        go true h = inr (rw (h, no-twenty), part .ended-last (ap (λ s. hasEnd (accepted s)) now ∙ h))
+        go : (v : Bool) → hasEnded (cut (bs ++ b ∷ [])) ≡ v → Takes (keepBytes t c (bs ++ b ∷ [])) next m
+        go true h = inr (rw (h, no-twenty), part .ended-last (ap (λ s. hasEnded (accepted s)) now ∙ h))
         go false h = inl (rw h)
 
     -- ---- the faults of a header
@@ -112,20 +112,20 @@ module _ (F R : ℕ) (before : Pairs) (ruled : Ruled 0 before) (n : ℕ) (all : 
       added : (w : Block → ℕ) → sum w (blocksOf (next .streams)) ≡ w (block head []) + sum w (blocksOf (t .streams))
       added = sum-is F R before [] ruled t c bs done r b i z k is d y v g
 
-      count-fits : isCount head ≡ true → (known (t .streams) ≡ 0) × (0 < thirdOf head) × (thirdOf head ≤ countLimit) × (used (t .streams) ≤ thirdOf head)
+      count-fits : isEodc head ≡ true → (knownCount (t .streams) ≡ 0) × (0 < thirdOf head) × (thirdOf head ≤ countLimit) × (usedIn (t .streams) ≤ thirdOf head)
       unfolding sum
       count-fits q = go (counts-are F R before n all sent (t .streams) u) (counts-are F R before n all sent (next .streams) u′)
         where
           one-more-count : (f : ℕ → ℕ) → sum f (countsOf (next .streams)) ≡ f (thirdOf head) + sum f (countsOf (t .streams))
           one-more-count f =
-              let this : cond (isCount head) (f (thirdOf head)) 0 ≡ f (thirdOf head) = rw q in
-              omega (arith, sum-counts f (blocksOf (next .streams)), sum-counts f (blocksOf (t .streams)), added (λ (x : Block). cond (isCount (x .head)) (f (thirdOf (x .head))) 0), this)
+              let this : cond (isEodc head) (f (thirdOf head)) 0 ≡ f (thirdOf head) = rw q in
+              omega (arith, sum-counts f (blocksOf (next .streams)), sum-counts f (blocksOf (t .streams)), added (λ (x : Block). cond (isEodc (x .head)) (f (thirdOf (x .head))) 0), this)
 
           ones : sum (λ x. 1) (countsOf (next .streams)) ≡ suc (sum (λ x. 1) (countsOf (t .streams)))
           ones = omega (arith, one-more-count (λ x. 1))
 
           go : (countsOf (t .streams) ≡ []) ⊎ (countsOf (t .streams) ≡ n ∷ []) → (countsOf (next .streams) ≡ []) ⊎ (countsOf (next .streams) ≡ n ∷ [])
-              → (known (t .streams) ≡ 0) × (0 < thirdOf head) × (thirdOf head ≤ countLimit) × (used (t .streams) ≤ thirdOf head)
+              → (knownCount (t .streams) ≡ 0) × (0 < thirdOf head) × (thirdOf head ≤ countLimit) × (usedIn (t .streams) ≤ thirdOf head)
           go (inl h) (inl h′) = absurd (omega (arith, rw (h, h′) at ones))
           go (inr h) (inl h′) = absurd (omega (arith, rw (h, h′) at ones))
           go (inr h) (inr h′) = absurd (omega (arith, rw (h, h′) at ones))
@@ -133,7 +133,7 @@ module _ (F R : ℕ) (before : Pairs) (ruled : Ruled 0 before) (n : ℕ) (all : 
               let is-n : thirdOf head ≡ n = omega (arith, rw (h, h′) at (one-more-count (λ x. x))) in
               (ap (λ cs. getD cs 0 0) h, omega (arith, sent .some), omega (arith, sent .few), omega (arith, used-most F R before n all sent (t .streams) u))
 
-      range-fits : isCount head ≡ false → 0 < secondOf head
+      range-fits : isEodc head ≡ false → 0 < secondOf head
           → (thirdOf head + secondOf head ≤ F) × (overlaps (thirdOf head) (thirdOf head + secondOf head) (claimed before (t .streams)) ≡ false)
           × (size (join (thirdOf head) (thirdOf head + secondOf head) (claimed before (t .streams))) ≤ R)
       range-fits q q₀ = (
@@ -154,25 +154,25 @@ module _ (F R : ℕ) (before : Pairs) (ruled : Ruled 0 before) (n : ℕ) (all : 
 
     -- the judgement of the header that the byte makes whole
     abbrev judged : ℕ
-    judged = requestFault R (claimed before (t .streams)) (requestOf F (known (t .streams)) (used (t .streams)) (begunHeader bs ++ b ∷ []))
+    judged = requestFault R (claimed before (t .streams)) (requestOf F (knownCount (t .streams)) (usedIn (t .streams)) (partialHeader bs ++ b ∷ []))
 
-    no-header-fault : Shape bs → length (begunHeader bs) ≡ heldLimit → judged ≡ 0
-    unfolding begunHeaderBy
-    no-header-fault (no-byte h) y = absurd (omega (arith, ap (λ l. length (begunHeader l)) h))
-    no-header-fault (in-payload done h p d l q v g) y = absurd (omega (arith, ap length (ap begunHeader g ∙ cuts-payload done h p d l (omega arith) .1)))
-    no-header-fault (at-end done h p d l q x v g) y = absurd (omega (arith, ap length (ap begunHeader g ∙ cuts-payload done h p d l (omega arith) .1)))
+    no-header-fault : Shape bs → length (partialHeader bs) ≡ heldLimit → judged ≡ 0
+    unfolding partialHeaderBy
+    no-header-fault (no-byte h) y = absurd (omega (arith, ap (λ l. length (partialHeader l)) h))
+    no-header-fault (in-payload done h p d l q v g) y = absurd (omega (arith, ap length (ap partialHeader g ∙ cuts-payload done h p d l (omega arith) .1)))
+    no-header-fault (at-end done h p d l q x v g) y = absurd (omega (arith, ap length (ap partialHeader g ∙ cuts-payload done h p d l (omega arith) .1)))
     no-header-fault (in-header done r d l v g) y =
-        let over-is : begunHeader bs ≡ r = ap begunHeader g ∙ cuts-header done r d l .1 in
+        let over-is : partialHeader bs ≡ r = ap partialHeader g ∙ cuts-header done r d l .1 in
         let y′ : length r ≡ heldLimit = ap length (sym over-is) ∙ y in
         rw over-is
-        (faultless F R (known (t .streams)) (used (t .streams)) (claimed before (t .streams)) (r ++ b ∷ []) (fits done r d y′ v g .0) (count-fits done r d y′ v g) (range-fits done r d y′ v g))
+        (faultless F R (knownCount (t .streams)) (usedIn (t .streams)) (claimed before (t .streams)) (r ++ b ∷ []) (fits done r d y′ v g .0) (count-fits done r d y′ v g) (range-fits done r d y′ v g))
 
     -- ---- any byte
 
-    pub takes-byte : Takes (takeByte F R before t c b) next m
-    unfolding takeByte takeByteAfter applyJudgement
-    takes-byte = rw no-nineteen (go (ℕ-discrete (length (begunHeader bs)) heldLimit))
+    pub takes-byte : Takes (tallyByte F R before t c b) next m
+    unfolding tallyByte tallyByteAfter applyJudgement
+    takes-byte = rw no-nineteen (go (ℕ-discrete (length (partialHeader bs)) heldLimit))
       where
-        go : Dec (length (begunHeader bs) ≡ heldLimit) → Takes (cond (eqb (length (begunHeader bs)) heldLimit) (applyJudgement t c (bs ++ b ∷ []) judged) (keepBytes t c (bs ++ b ∷ []))) next m
-        go (no h) = rw (ne-eqb (length (begunHeader bs)) heldLimit h) keeps-byte
-        go (yes h) = rw (eq-eqb (length (begunHeader bs)) heldLimit h, no-header-fault (subst Proper is (proper-at (t .streams) c (i .proper))) h) keeps-byte
+        go : Dec (length (partialHeader bs) ≡ heldLimit) → Takes (cond (eqb (length (partialHeader bs)) heldLimit) (applyJudgement t c (bs ++ b ∷ []) judged) (keepBytes t c (bs ++ b ∷ []))) next m
+        go (no h) = rw (ne-eqb (length (partialHeader bs)) heldLimit h) keeps-byte
+        go (yes h) = rw (eq-eqb (length (partialHeader bs)) heldLimit h, no-header-fault (subst Proper is (proper-at (t .streams) c (i .proper))) h) keeps-byte

@@ -9,7 +9,7 @@ use borrow.Author.Tests.{eq-eqb, ne-eqb}
 use lib.Dec.{eqb}
 use Rattle.transfer.specs.Calls.{Call, receive}
 use Rattle.transfer.specs.Block.{blockBytes}
-use Rattle.transfer.specs.Sending.{SentChannel, sentOn, piecesOn, Arrival, offered}
+use Rattle.transfer.specs.Sending.{SentChannel, sentOn, piecesOn, Arrival, totalPieceBytes}
 
 pub pieces-here : (c : ℕ) (piece : List ℕ) (ks : List Call) → piecesOn c (receive c piece ∷ ks) ≡ piece ++ piecesOn c ks
 unfolding piecesOn
@@ -27,19 +27,19 @@ pieces-none c d ks = go (eqb c d)
     go true = refl
     go false = refl
 
-pub offered-append : (a b : List Call) → offered (a ++ b) ≡ offered a + offered b
-unfolding offered
+pub offered-append : (a b : List Call) → totalPieceBytes (a ++ b) ≡ totalPieceBytes a + totalPieceBytes b
+unfolding totalPieceBytes
 offered-append [] b = omega arith
 offered-append (receive c piece ∷ a) b = omega (arith, offered-append a b)
 
-pub some-offered : (ks : List Call) → 0 < offered ks → (c : ℕ) × (b : ℕ) × ((m : List ℕ) × (piecesOn c ks ≡ b ∷ m))
-unfolding offered
+pub some-offered : (ks : List Call) → 0 < totalPieceBytes ks → (c : ℕ) × (b : ℕ) × ((m : List ℕ) × (piecesOn c ks ≡ b ∷ m))
+unfolding totalPieceBytes
 some-offered [] h = absurd (omega arith)
 some-offered (receive c [] ∷ ks) h = let r = some-offered ks (omega arith) in (r .0, r .1, (r .2 .0, pieces-none c (r .0) ks ∙ r .2 .1))
 some-offered (receive c (b ∷ bs) ∷ ks) h = (c, b, (bs ++ piecesOn c ks, pieces-here c (b ∷ bs) ks))
 
-pub none-offered : (ks : List Call) → offered ks ≡ 0 → (c : ℕ) → piecesOn c ks ≡ []
-unfolding offered
+pub none-offered : (ks : List Call) → totalPieceBytes ks ≡ 0 → (c : ℕ) → piecesOn c ks ≡ []
+unfolding totalPieceBytes
 none-offered [] h c = unfold piecesOn in refl
 none-offered (receive d [] ∷ ks) h c = pieces-none d c ks ∙ none-offered ks (omega arith) c
 none-offered (receive d (b ∷ bs) ∷ ks) h c = absurd (omega arith)

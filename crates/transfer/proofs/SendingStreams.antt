@@ -12,7 +12,7 @@ use lib.Seq.{getD-set-same, getD-set-other}
 use Rattle.transfer.specs.Channel.{channelCount}
 use Rattle.transfer.specs.Transfer.{sum}
 use Rattle.transfer.specs.Receive.{isNonEmpty}
-use Rattle.transfer.specs.Block.{Block, blockBytes, cutBy, hasEnd}
+use Rattle.transfer.specs.Block.{Block, blockBytes, cutBy, hasEnded}
 use Rattle.transfer.specs.Tally.{Stream, intact, taken, accepted, blocksOf, oneIf}
 use Rattle.transfer.specs.Sending.{SentChannel, WellFormedBlocks, WellFormedChannel, WellFormedChannels, sentBlocks, timesSentOn, sentOn}
 use Rattle.transfer.proofs.BlockClaims.{sum-append}
@@ -142,10 +142,10 @@ used-sentChannels (x ∷ s) = omega (arith, used-sentChannels s, most (isNonEmpt
     most true = omega arith
     most false = omega arith
 
-pub ended-sentChannels : (F : ℕ) (s : List SentChannel) → WellFormedChannels F s → sum (λ (x : SentChannel). oneIf (hasEnd (accepted (streamOf x)))) s ≡ length s
+pub ended-sentChannels : (F : ℕ) (s : List SentChannel) → WellFormedChannels F s → sum (λ (x : SentChannel). oneIf (hasEnded (accepted (streamOf x)))) s ≡ length s
 unfolding sum
 ended-sentChannels F [] l = refl
-ended-sentChannels F (x ∷ s) l = omega (arith, ended-sentChannels F s (l .1), ap oneIf (ap hasEnd (accepted-sentChannel F x (l .0)) ∙ sent-ends F (x .blocks) (l .0 .each) (l .0 .ends)))
+ended-sentChannels F (x ∷ s) l = omega (arith, ended-sentChannels F s (l .1), ap oneIf (ap hasEnded (accepted-sentChannel F x (l .0)) ∙ sent-ends F (x .blocks) (l .0 .each) (l .0 .ends)))
 
 sum-sentChannels : (F : ℕ) (w : Block → ℕ) (s : List SentChannel) → WellFormedChannels F s → sum (λ (x : SentChannel). sum w (accepted (streamOf x))) s ≡ sum w (sentBlocks s)
 unfolding sum sentBlocks

@@ -11,10 +11,10 @@ use Rattle.ledger.specs.Pairs.{Pairs, size, contains}
 use Rattle.eblock.specs.Header.{countLimit, thirdOf}
 use Rattle.transfer.specs.Channel.{channelCount}
 use Rattle.transfer.specs.Transfer.{sum}
-use Rattle.transfer.specs.Header.{isCount}
+use Rattle.transfer.specs.Header.{isEodc}
 use Rattle.transfer.specs.Receive.{isNonEmpty}
-use Rattle.transfer.specs.Block.{Block, sizeOf, cutBy, hasEnd, withPayloads}
-use Rattle.transfer.specs.Tally.{Stream, intact, taken, accepted, blocksOf, countsOf, oneIf, used, endedIn}
+use Rattle.transfer.specs.Block.{Block, sizeOf, cutBy, hasEnded, withPayloads}
+use Rattle.transfer.specs.Tally.{Stream, intact, taken, accepted, blocksOf, countsOf, oneIf, usedIn, endedIn}
 use Rattle.transfer.specs.Sending.{SentChannel, WellFormedBlocks, WellFormedChannels, sentBlocks, nonEmptyPayloads, WellFormed}
 use Rattle.transfer.proofs.BlockClaims.{sum-append, hitBy, cover}
 use Rattle.transfer.proofs.BlockCounts.{sum-counts, at-most-one}
@@ -30,7 +30,7 @@ pub record Sendable (F R : ℕ) (before : Pairs) (n : ℕ) (all : List Stream) :
   pub some : 0 < n
   pub few : n ≤ countLimit
   pub each : (c : ℕ) → SentStream F (streamIn all c)
-  pub used-most : used all ≤ n
+  pub used-most : usedIn all ≤ n
   pub ended-are : endedIn all ≡ n
   pub counts-are : countsOf all ≡ n ∷ []
   pub apart : (q : ℕ) → cover q (blocksOf all) + contains q before ≤ 1
@@ -45,7 +45,7 @@ sendable F R before s w =
       few = omega (arith, w .few);
       each = each-all F s (w .each);
       used-most = omega (arith, sum-all F (λ (s : Stream). oneIf (isNonEmpty (taken s))) refl s (w .each) (w .once), used-sentChannels s);
-      ended-are = sum-all F (λ (s : Stream). oneIf (hasEnd (accepted s))) (unfold accepted cutBy hasEnd in refl) s (w .each) (w .once) ∙ ended-sentChannels F s (w .each);
+      ended-are = sum-all F (λ (s : Stream). oneIf (hasEnded (accepted s))) (unfold accepted cutBy hasEnded in refl) s (w .each) (w .once) ∙ ended-sentChannels F s (w .each);
       counts-are = one-count (at-most-one (length s) (countsOf (streamsOf s)) (λ f. omega (arith, added f)));
       apart = λ q. omega (arith, w .apart q, sum-sent F (hitBy q) s (w .each) (w .once));
       room = omega (arith, w .room, sum-sent F (λ (x : Block). cond (eqb (sizeOf x) 0) 0 1) s (w .each) (w .once));
@@ -54,7 +54,7 @@ sendable F R before s w =
     added : (f : ℕ → ℕ) → sum f (countsOf (streamsOf s)) ≡ f (length s)
     added f =
         let only : sum f (length s ∷ []) ≡ f (length s) = unfold sum in omega arith in
-        sum-counts f (blocksOf (streamsOf s)) ∙ sum-sent F (λ (x : Block). cond (isCount (x .head)) (f (thirdOf (x .head))) 0) s (w .each) (w .once) ∙ sym (sum-counts f (sentBlocks s))
+        sum-counts f (blocksOf (streamsOf s)) ∙ sum-sent F (λ (x : Block). cond (isEodc (x .head)) (f (thirdOf (x .head))) 0) s (w .each) (w .once) ∙ sym (sum-counts f (sentBlocks s))
         ∙ ap (sum f) (w .one-count) ∙ only
 
     one-count : (countsOf (streamsOf s) ≡ []) ⊎ (countsOf (streamsOf s) ≡ length s ∷ []) → countsOf (streamsOf s) ≡ length s ∷ []

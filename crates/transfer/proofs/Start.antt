@@ -9,9 +9,9 @@ use lib.Dec.{eqb}
 use lib.ListN.{length, replicate}
 use Rattle.ledger.specs.Pairs.{none}
 use Rattle.ledger.specs.Ledger.{entryLimit, lengthWrong}
-use Rattle.transfer.specs.Transfer.{fresh, startNumber, startOf, startAfter}
-use Rattle.transfer.specs.Calls.{begun}
-use Rattle.transfer.specs.AfterList.{Begun, fresh-start}
+use Rattle.transfer.specs.Transfer.{fresh, startRefusal, startOf, startAfter}
+use Rattle.transfer.specs.Calls.{startedWorld}
+use Rattle.transfer.specs.AfterList.{StartedWith, fresh-start}
 use Rattle.transfer.specs.Start.{Leaves, Start}
 
 long-wrong : (ledger : List ℕ) → entryLimit < length ledger → lengthWrong ledger ≡ true
@@ -19,14 +19,14 @@ unfolding lengthWrong
 long-wrong ledger h = rw (lt-ltb entryLimit (length ledger) h) (or-true (not (eqb (length ledger % 2) 0)))
 
 accepted : (f : ℕ) (ledger : List ℕ) → length ledger % 2 ≡ 0 → length ledger ≤ 8192 → Leaves f ledger 0 (fresh f (length ledger / 2)) (replicate (length ledger) 0)
-unfolding startNumber startOf startAfter lengthWrong
+unfolding startRefusal startOf startAfter lengthWrong
 accepted f ledger e h =
     let x = eq-eqb (length ledger % 2) 0 e in
     let y = le-ltb entryLimit (length ledger) h in
     (rw (x, y), rw (x, y), rw (x, y))
 
 wrong : (f : ℕ) (ledger : List ℕ) → lengthWrong ledger ≡ true → Leaves f ledger 5 (fresh 0 0) ledger
-unfolding startNumber startOf startAfter
+unfolding startRefusal startOf startAfter
 wrong f ledger x = (rw x, rw x, rw x)
 
 pub start : Start
@@ -42,5 +42,5 @@ start =
       first-even-refused = λ f ledger e. wrong f ledger (long-wrong ledger (omega arith));
     }
 
-pub every-start-begins : (file ledger : List ℕ) → length ledger % 2 ≡ 0 → length ledger ≤ 8192 → Begun (begun file ledger) file (length ledger / 2) none
+pub every-start-begins : (file ledger : List ℕ) → length ledger % 2 ≡ 0 → length ledger ≤ 8192 → StartedWith (startedWorld file ledger) file (length ledger / 2) none
 every-start-begins file ledger e h = fresh-start file ledger (start .accepted (length file) ledger e h .0)

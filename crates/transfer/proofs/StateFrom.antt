@@ -8,7 +8,7 @@ use borrow.Author.Tests.{le-ltb}
 use lib.ListN.{length}
 use Rattle.transfer.specs.Channel.{header}
 use Rattle.transfer.specs.Header.{endsChannel}
-use Rattle.transfer.specs.Block.{Block, sizeOf, endsItsChannel, hasEnd}
+use Rattle.transfer.specs.Block.{Block, sizeOf, isCompleteEnd, hasEnded}
 use Rattle.transfer.specs.Tally.{allButLast}
 use Rattle.transfer.specs.StateFrom.{stateAfterBlock, stateAfterBlocks}
 use Rattle.transfer.proofs.BlockCut.{Done}
@@ -25,17 +25,17 @@ viewOn-last [] x r = refl
 viewOn-last (y ∷ []) x r = refl
 viewOn-last (y ∷ z ∷ xs) x r = viewOn-last (z ∷ xs) x r
 
-pub hasEnd-done : (xs : List Block) → Done xs → hasEnd xs ≡ false
-unfolding hasEnd endsItsChannel
+pub hasEnd-done : (xs : List Block) → Done xs → hasEnded xs ≡ false
+unfolding hasEnded isCompleteEnd
 hasEnd-done [] d = refl
 hasEnd-done (x ∷ xs) d = rw (d .2, hasEnd-done xs (d .3))
 
-pub hasEnd-last : (xs : List Block) (x : Block) → Done xs → hasEnd (xs ++ (x ∷ [])) ≡ endsItsChannel x
-unfolding hasEnd endsItsChannel
-hasEnd-last [] x d = or-false (endsItsChannel x)
+pub hasEnd-last : (xs : List Block) (x : Block) → Done xs → hasEnded (xs ++ (x ∷ [])) ≡ isCompleteEnd x
+unfolding hasEnded isCompleteEnd
+hasEnd-last [] x d = or-false (isCompleteEnd x)
 hasEnd-last (y ∷ xs) x d = rw (hasEnd-last xs x (d .3)) (go (d .2))
   where
-    go : endsChannel (y .head) ≡ false → (endsItsChannel y || endsItsChannel x) ≡ endsItsChannel x
+    go : endsChannel (y .head) ≡ false → (isCompleteEnd y || isCompleteEnd x) ≡ isCompleteEnd x
     go e = rw e
 
 pub allButLast-last : (xs : List Block) (x : Block) → allButLast (xs ++ (x ∷ [])) ≡ xs

@@ -5,15 +5,15 @@ use mathlib.Core.List.{List, []}
 use native.Mathlib.Omega.{arith}
 use native.Mathlib.Decide.{decLe, ℕ-discrete}
 use lib.ListN.{length, replicate}
-use Rattle.ledger.specs.Pairs.{Pairs, none, size, contains, Ruled, endsAtMost}
+use Rattle.ledger.specs.Pairs.{Pairs, none, size, contains, ObeyFrom, endsAtMost}
 use Rattle.ledger.specs.Ledger.{entryLimit, capacity, laidOut}
-use Rattle.transfer.specs.Channel.{channelCount, stateNumber, heldNumber, nextNumber, leftNumber, heldBytes, numbersOf}
-use Rattle.transfer.specs.Transfer.{sum, World, world, fresh, startNumber}
+use Rattle.transfer.specs.Channel.{channelCount, stateCode, heldLength, nextPlace, bytesLeft, heldBytes, encodeState}
+use Rattle.transfer.specs.Transfer.{sum, World, world, fresh, startRefusal}
 use Rattle.transfer.specs.Fit.{pairLimit}
-use Rattle.transfer.specs.Calls.{begun}
+use Rattle.transfer.specs.Calls.{startedWorld}
 use Rattle.transfer.specs.Block.{cutBy, countsIn, claimsIn, withPayloads}
 use Rattle.transfer.specs.Tally.{intact, accepted, blocksOf, empty}
-use Rattle.transfer.specs.AfterList.{Begun, fresh-start}
+use Rattle.transfer.specs.AfterList.{StartedWith, fresh-start}
 use Rattle.transfer.specs.StateFrom.{stateFrom}
 use Rattle.transfer.proofs.Start.{start}
 use Rattle.transfer.proofs.ChannelBytes.{no-byte}
@@ -50,14 +50,14 @@ laidOut-none zero = refl
 laidOut-none (suc r) = let e : 2 * suc r ≡ suc (suc (2 * r)) = omega arith in rw (e, laidOut-none r)
 
 world-empty : (file : List ℕ) (R : ℕ) → world (fresh (length file) R) file (laidOut R none) ≡ worldOf (length file) R none file empty
-unfolding worldOf transferOf fresh empty blocksOf accepted cutBy claimsIn countsIn withPayloads headsOf rowOf stateFrom numbersOf stateNumber heldNumber heldBytes nextNumber leftNumber
+unfolding worldOf transferOf fresh empty blocksOf accepted cutBy claimsIn countsIn withPayloads headsOf rowOf stateFrom encodeState stateCode heldLength heldBytes nextPlace bytesLeft
 world-empty file R = refl
 
-pub begun-is : (file claimed : List ℕ) → startNumber claimed ≡ 0 → (capacity claimed ≤ pairLimit) × (begun file claimed ≡ worldOf (length file) (capacity claimed) none file empty)
-unfolding begun
+pub begun-is : (file claimed : List ℕ) → startRefusal claimed ≡ 0 → (capacity claimed ≤ pairLimit) × (startedWorld file claimed ≡ worldOf (length file) (capacity claimed) none file empty)
+unfolding startedWorld
 begun-is file claimed h = go (ℕ-discrete (length claimed % 2) 0) (decLe (length claimed) entryLimit)
   where
-    go : Dec (length claimed % 2 ≡ 0) → Dec (length claimed ≤ entryLimit) → (capacity claimed ≤ pairLimit) × (begun file claimed ≡ worldOf (length file) (capacity claimed) none file empty)
+    go : Dec (length claimed % 2 ≡ 0) → Dec (length claimed ≤ entryLimit) → (capacity claimed ≤ pairLimit) × (startedWorld file claimed ≡ worldOf (length file) (capacity claimed) none file empty)
     go (no e) l = absurd (omega (arith, h, start .odd (length file) claimed e .0))
     go (yes e) (no l) = absurd (omega (arith, h, start .long (length file) claimed (omega arith) .0))
     go (yes e) (yes l) =
@@ -68,6 +68,6 @@ begun-is file claimed h = go (ℕ-discrete (length claimed % 2) 0) (decLe (lengt
         )
 
 -- whatever the ledger held before
-pub begins : (w : World) (file : List ℕ) (R : ℕ) (before : Pairs) → Begun w file R before
-    → Ruled 0 before × (R ≤ pairLimit) × Invariant (length file) R before empty × (w ≡ worldOf (length file) R before file empty)
+pub begins : (w : World) (file : List ℕ) (R : ℕ) (before : Pairs) → StartedWith w file R before
+    → ObeyFrom 0 before × (R ≤ pairLimit) × Invariant (length file) R before empty × (w ≡ worldOf (length file) R before file empty)
 begins w file R before (fresh-start f ledger e) = (tt, begun-is f ledger e .0, invariant-empty (length f) (capacity ledger), begun-is f ledger e .1)

@@ -13,11 +13,11 @@ use Rattle.ledger.specs.Pairs.{Pairs}
 use Rattle.eblock.specs.Header.{headerLength, thirdOf}
 use Rattle.transfer.specs.declared.state.Transfer.{Transfer}
 use Rattle.transfer.specs.Channel.{channelCount, State, header, payload, ended, putState}
-use Rattle.transfer.specs.Transfer.{endedOf, World, world, withTransfer, isFinal}
+use Rattle.transfer.specs.Transfer.{endedOf, World, world, withTransfer, allEnded}
 use Rattle.transfer.specs.Header.{endsChannel, payloadLength}
-use Rattle.transfer.specs.Receive.{Outcome, continues, stops, notTaken, endChannel, beginPayload, isNonEmpty, isEnded}
-use Rattle.transfer.specs.Block.{Block, block, cut, hasEnd, blockBytes}
-use Rattle.transfer.specs.Tally.{Tally, Stream, intact, taken, accepted, blocksOf, countsOf, known, oneIf, used, endedIn, streamAt, withStream, keepBytes}
+use Rattle.transfer.specs.Receive.{Outcome, continues, stops, notTaken, endChannel, expectPayload, isNonEmpty, isEnded}
+use Rattle.transfer.specs.Block.{Block, block, cut, hasEnded, blockBytes}
+use Rattle.transfer.specs.Tally.{Tally, Stream, intact, taken, accepted, blocksOf, countsOf, knownCount, oneIf, usedIn, endedIn, streamAt, withStream, keepBytes}
 use Rattle.transfer.proofs.BlockCut.{Done, done-append, blockBytes-append, cuts-payload}
 use Rattle.transfer.specs.StateFrom.{stateFrom}
 use Rattle.transfer.proofs.ChannelBytes.{Shape, in-header, in-payload, at-end, Proper, kind, kind-ended, stateFrom-header, stateFrom-payload, stateFrom-end}
@@ -80,14 +80,14 @@ pub stream-now : (t : Tally) (c : ℕ) (s : Stream) → c < length (t .streams) 
 stream-now t c s h = getD-set-same (t .streams) c s (intact []) h
 
 -- that bytes end the channel, by its state
-ends-by : (bs : List ℕ) → Proper (intact bs) → (x : State) → stateFrom (intact bs) ≡ x → hasEnd (cut bs) ≡ isEnded x
+ends-by : (bs : List ℕ) → Proper (intact bs) → (x : State) → stateFrom (intact bs) ≡ x → hasEnded (cut bs) ≡ isEnded x
 unfolding accepted
 ends-by bs o x v = kind-ended (stateFrom (intact bs)) (accepted (intact bs)) (isNonEmpty bs) (kind (intact bs) o) ∙ ap isEnded v
 
 module _ (F R : ℕ) (before : Pairs) (file : List ℕ) where
   -- a byte that changes no block
   pub goes-on : (t : Tally) (c : ℕ) (bs : List ℕ) → Invariant F R before t → t .fault ≡ 0 → c < channelCount → Proper (intact bs) → accepted (intact bs) ≡ accepted (streamAt t c)
-      → Count (countsOf (t .streams)) (used (set (t .streams) c (intact bs))) → (x : State) → stateFrom (intact bs) ≡ x → isEnded x ≡ false
+      → Count (countsOf (t .streams)) (usedIn (set (t .streams) c (intact bs))) → (x : State) → stateFrom (intact bs) ≡ x → isEnded x ≡ false
       → Follows F R before file t c (continues (withTransfer (worldOf F R before file t) (putState (transferOf F R t) c x))) (keepBytes t c bs)
   unfolding keepBytes worldOf
   goes-on t c bs i z h o e u x v y =
@@ -102,23 +102,23 @@ module _ (F R : ℕ) (before : Pairs) (file : List ℕ) where
 
   -- the test for fault 20 fails, with the count and the number of ended channels of either side
   no-twenty : (t : Tally) (c : ℕ) (bs : List ℕ) (n e : ℕ) → Invariant F R before t → c < length (t .streams) → isNonEmpty bs ≡ true → Invariant F R before (withStream t c (intact bs))
-      → oneIf (isNonEmpty (taken (streamAt t c))) ≡ 1 → oneIf (hasEnd (accepted (streamAt t c))) ≡ 0
-      → n ≡ known (set (t .streams) c (intact bs)) → e ≡ endedIn (t .streams) → (ltb 0 n && eqb e n) ≡ false
+      → oneIf (isNonEmpty (taken (streamAt t c))) ≡ 1 → oneIf (hasEnded (accepted (streamAt t c))) ≡ 0
+      → n ≡ knownCount (set (t .streams) c (intact bs)) → e ≡ endedIn (t .streams) → (ltb 0 n && eqb e n) ≡ false
   no-twenty t c bs n e i h u j p q k g = go (j .count)
     where
-      go : Count (countsOf (set (t .streams) c (intact bs))) (used (set (t .streams) c (intact bs))) → (ltb 0 n && eqb e n) ≡ false
+      go : Count (countsOf (set (t .streams) c (intact bs))) (usedIn (set (t .streams) c (intact bs))) → (ltb 0 n && eqb e n) ≡ false
       go (unknown z) = let y : n ≡ 0 = k ∙ rw z in rw (le-ltb 0 n (omega arith))
       go (announced m z a b d) =
           let y : n ≡ m = k ∙ rw z in
           rw (lt-ltb 0 n (omega arith), ne-eqb e n (λ x. omega (arith, ended-lt (t .streams) c (i .proper) h p q, used-same t c (intact bs) h p u)))
 
   pub opens-on : (t : Tally) (c : ℕ) (bs : List ℕ) → Invariant F R before t → t .fault ≡ 0 → c < channelCount → isNonEmpty bs ≡ true → Proper (intact bs) → Invariant F R before (withStream t c (intact bs))
-      → oneIf (isNonEmpty (taken (streamAt t c))) ≡ 1 → oneIf (hasEnd (accepted (streamAt t c))) ≡ 0
+      → oneIf (isNonEmpty (taken (streamAt t c))) ≡ 1 → oneIf (hasEnded (accepted (streamAt t c))) ≡ 0
       → Grows (blocksOf (t .streams)) (blocksOf (set (t .streams) c (intact bs)))
       → (w : World) → withTransfer w (putState (w .t) c (stateFrom (intact bs))) ≡ worldOf F R before file (withStream t c (intact bs))
-      → w .t .count ≡ known (set (t .streams) c (intact bs)) → endedOf (w .t) ≡ endedIn (t .streams)
-      → (p n : ℕ) (e : Bool) → stateFrom (intact bs) ≡ tipOf p n e → Follows F R before file t c (beginPayload w c p n e) (keepBytes t c bs)
-  unfolding beginPayload endChannel keepBytes isFinal
+      → w .t .count ≡ knownCount (set (t .streams) c (intact bs)) → endedOf (w .t) ≡ endedIn (t .streams)
+      → (p n : ℕ) (e : Bool) → stateFrom (intact bs) ≡ tipOf p n e → Follows F R before file t c (expectPayload w c p n e) (keepBytes t c bs)
+  unfolding expectPayload endChannel keepBytes allEnded
   opens-on t c bs i z h u o j p q gr w wp k m x n e v = go n e v
     where
       h′ : c < length (t .streams)
@@ -133,10 +133,10 @@ module _ (F R : ℕ) (before : Pairs) (file : List ℕ) where
           both-go (withStream t c (intact bs)) (rw (ends-by bs o y v ∙ a)) (ap continues (ap (λ r. withTransfer w (putState (w .t) c r)) (sym v) ∙ wp)) j gr z
           (ap (λ s. isEnded (stateFrom s)) (stream-now t c (intact bs) h′) ∙ ap isEnded v ∙ a)
 
-      go : (n : ℕ) (e : Bool) → stateFrom (intact bs) ≡ tipOf x n e → Follows F R before file t c (beginPayload w c x n e) (keepBytes t c bs)
+      go : (n : ℕ) (e : Bool) → stateFrom (intact bs) ≡ tipOf x n e → Follows F R before file t c (expectPayload w c x n e) (keepBytes t c bs)
       go zero true v =
           both-stop (withStream t c (intact bs))
-          (rw (ends-by bs o ended v, no-twenty t c bs (known (set (t .streams) c (intact bs))) (endedIn (t .streams)) i h′ u j p q refl refl))
+          (rw (ends-by bs o ended v, no-twenty t c bs (knownCount (set (t .streams) c (intact bs))) (endedIn (t .streams)) i h′ u j p q refl refl))
           (rw (no-twenty t c bs (w .t .count) (endedOf (w .t)) i h′ u j p q k m) (ap stops (ap (λ r. withTransfer w (putState (w .t) c r)) (sym v) ∙ wp)))
           j gr
       go zero false v = on (header []) v refl

@@ -9,15 +9,15 @@ use native.Mathlib.Decide.{decLt}
 use borrow.Author.Tests.{lt-ltb, leb-false}
 use lib.Dec.{leb, ltb, eqb}
 use lib.ListN.{length}
-use Rattle.ledger.specs.Pairs.{Pairs, Ruled}
+use Rattle.ledger.specs.Pairs.{Pairs, ObeyFrom}
 use Rattle.transfer.specs.Channel.{channelCount, stateAt}
-use Rattle.transfer.specs.Transfer.{World, guess, result, broken, isFinal, verdictOf}
+use Rattle.transfer.specs.Transfer.{World, guess, result, broken, allEnded, verdictOf}
 use Rattle.transfer.specs.Receive.{Outcome, takeByte, Answer, refused, takeBytes, isGuess, isEnded, isNonEmpty, refusalOf, receiveOf}
 use Rattle.transfer.specs.Fit.{pairLimit}
-use Rattle.transfer.specs.Calls.{Call, receive, callOf, runBy}
+use Rattle.transfer.specs.Calls.{Call, receive, callOf, foldCalls}
 use Rattle.transfer.proofs.ReceivePieces.{bytes-goes, bytes-stops, bytes-leaves}
-use Rattle.transfer.specs.Block.{Block, hasEnd}
-use Rattle.transfer.specs.Tally.{Tally, taken, accepted, blocksOf, countsOf, known, used, endedIn, verdict, streamAt, takeByte as tallyByteOf, refusalOf as tallyRefusalOf, callOf as tallyCallOf}
+use Rattle.transfer.specs.Block.{Block, hasEnded}
+use Rattle.transfer.specs.Tally.{Tally, taken, accepted, blocksOf, countsOf, knownCount, usedIn, endedIn, tallyVerdict, streamAt, tallyByte as tallyByteOf, tallyRefusal as tallyRefusalOf, tallyCall as tallyCallOf}
 use Rattle.transfer.specs.StateFrom.{stateFrom}
 use Rattle.transfer.proofs.ChannelBytes.{kind, kind-ended}
 use Rattle.transfer.proofs.TallyStreams.{proper-at}
@@ -44,18 +44,18 @@ pub record Same (F R : ℕ) (before : Pairs) (file : List ℕ) (t : Tally) (A : 
 
 -- ---- the verdict
 
-pub verdict-is : (F R : ℕ) (before : Pairs) (file : List ℕ) (t : Tally) → Invariant F R before t → verdictOf (worldOf F R before file t) ≡ verdict t
-unfolding verdictOf isFinal verdict worldOf
+pub verdict-is : (F R : ℕ) (before : Pairs) (file : List ℕ) (t : Tally) → Invariant F R before t → verdictOf (worldOf F R before file t) ≡ tallyVerdict t
+unfolding verdictOf allEnded tallyVerdict worldOf
 verdict-is F R before file t i = rw (ended-is F R t (i .proper)) (unfold transferOf in go (i .count))
   where
-    go : Count (countsOf (t .streams)) (used (t .streams))
-        → cond (ltb 0 (t .fault)) broken (cond (ltb 0 (known (t .streams)) && eqb (endedIn (t .streams)) (known (t .streams))) result guess)
-        ≡ cond (ltb 0 (t .fault)) broken (cond (eqb (length (countsOf (t .streams))) 1 && eqb (endedIn (t .streams)) (known (t .streams))) result guess)
+    go : Count (countsOf (t .streams)) (usedIn (t .streams))
+        → cond (ltb 0 (t .fault)) broken (cond (ltb 0 (knownCount (t .streams)) && eqb (endedIn (t .streams)) (knownCount (t .streams))) result guess)
+        ≡ cond (ltb 0 (t .fault)) broken (cond (eqb (length (countsOf (t .streams))) 1 && eqb (endedIn (t .streams)) (knownCount (t .streams))) result guess)
     go (unknown x) = rw x
     go (announced n x x₀ x₁ x₂) = rw (x, lt-ltb 0 n x₀)
 
-guess-clean : (t : Tally) → isGuess (verdict t) ≡ true → t .fault ≡ 0
-unfolding verdict
+guess-clean : (t : Tally) → isGuess (tallyVerdict t) ≡ true → t .fault ≡ 0
+unfolding tallyVerdict
 guess-clean t h = go (decLt 0 (t .fault))
   where
     go : Dec (0 < t .fault) → t .fault ≡ 0
@@ -64,7 +64,7 @@ guess-clean t h = go (decLt 0 (t .fault))
 
 -- ---- a piece
 
-module _ (F R : ℕ) (before : Pairs) (file : List ℕ) (ruled : Ruled 0 before) where
+module _ (F R : ℕ) (before : Pairs) (file : List ℕ) (ruled : ObeyFrom 0 before) where
   abbrev here : Tally → World
   here t = worldOf F R before file t
 
@@ -105,8 +105,8 @@ module _ (F R : ℕ) (before : Pairs) (file : List ℕ) (ruled : Ruled 0 before)
     refusal-is t c piece i = rw (fits-always F R before file t ruled l r i, verdict-is F R before file t i) (go (leb channelCount c) refl)
       where
         go : (q : Bool) → leb channelCount c ≡ q
-            → _≡_ {A = ℕ} (cond q 2 (cond (not (isGuess (verdict t))) 3 (cond (isNonEmpty piece && isEnded (stateAt (worldOf F R before file t .t) c)) 4 0)))
-            (cond q 2 (cond (not (isGuess (verdict t))) 3 (cond (isNonEmpty piece && hasEnd (accepted (streamAt t c))) 4 0)))
+            → _≡_ {A = ℕ} (cond q 2 (cond (not (isGuess (tallyVerdict t))) 3 (cond (isNonEmpty piece && isEnded (stateAt (worldOf F R before file t .t) c)) 4 0)))
+            (cond q 2 (cond (not (isGuess (tallyVerdict t))) 3 (cond (isNonEmpty piece && hasEnded (accepted (streamAt t c))) 4 0)))
         go true q = refl
         go false q =
             let seen : isEnded (stateAt (worldOf F R before file t .t) c) ≡ isEnded (stateFrom (streamAt t c)) =
@@ -122,9 +122,9 @@ module _ (F R : ℕ) (before : Pairs) (file : List ℕ) (ruled : Ruled 0 before)
 
     not-refused : (t : Tally) (c : ℕ) (piece : List ℕ) → Invariant F R before t → tallyRefusalOf t c piece ≡ 0 → Goes t c piece
     unfolding tallyRefusalOf
-    not-refused t c piece i e = go (leb channelCount c) (isGuess (verdict t)) piece (hasEnd (accepted (streamAt t c))) refl refl refl e
+    not-refused t c piece i e = go (leb channelCount c) (isGuess (tallyVerdict t)) piece (hasEnded (accepted (streamAt t c))) refl refl refl e
       where
-        go : (p q : Bool) (bs : List ℕ) (x : Bool) → leb channelCount c ≡ p → isGuess (verdict t) ≡ q → hasEnd (accepted (streamAt t c)) ≡ x
+        go : (p q : Bool) (bs : List ℕ) (x : Bool) → leb channelCount c ≡ p → isGuess (tallyVerdict t) ≡ q → hasEnded (accepted (streamAt t c)) ≡ x
             → _≡_ {A = ℕ} (cond p 2 (cond (not q) 3 (cond (isNonEmpty bs && x) 4 0))) 0 → Goes t c bs
         go true q bs x a b d z = absurd (omega arith)
         go false false bs x a b d z = absurd (omega arith)
@@ -148,11 +148,11 @@ module _ (F R : ℕ) (before : Pairs) (file : List ℕ) (ruled : Ruled 0 before)
     -- ---- a list of calls
 
     pub run : (ks : List Call) (t : Tally) → Invariant F R before t
-        → Same F R before file t (List Answer) (runBy callOf (worldOf F R before file t) ks) (runBy (tallyCallOf F R before) t ks)
-    unfolding runBy
+        → Same F R before file t (List Answer) (foldCalls callOf (worldOf F R before file t) ks) (foldCalls (tallyCallOf F R before) t ks)
+    unfolding foldCalls
     run [] t i = record { out = refl; kept = i; grown = not-yet (blocksOf (t .streams)) }
     run (k ∷ ks) t i =
         let a = call t k i in
         let t′ = tallyCallOf F R before t k .1 in
         let b = run ks t′ (a .kept) in
-        record { out = rw (a .out, b .out); kept = b .kept; grown = grown-on (blocksOf (t .streams)) (blocksOf (t′ .streams)) (blocksOf (runBy (tallyCallOf F R before) t′ ks .1 .streams)) (a .grown) (b .grown) }
+        record { out = rw (a .out, b .out); kept = b .kept; grown = grown-on (blocksOf (t .streams)) (blocksOf (t′ .streams)) (blocksOf (foldCalls (tallyCallOf F R before) t′ ks .1 .streams)) (a .grown) (b .grown) }

@@ -6,7 +6,7 @@ use mathlib.Core.List.{List, [], _∷_, _++_, append-assoc, append-nil}
 use native.Mathlib.Omega.{arith}
 use borrow.Author.Tests.{eq-eqb, ne-eqb}
 use lib.ListN.{length, getD, set, length-append, length-set}
-use Rattle.ledger.specs.Pairs.{Pairs, size, inRange, contains, Ruled, join, overlaps, endsAtMost}
+use Rattle.ledger.specs.Pairs.{Pairs, size, inRange, contains, ObeyFrom, join, overlaps, endsAtMost}
 use Rattle.ledger.specs.Ledger.{pairsOf, laidOut}
 use Rattle.ledger.proofs.PairsJoin.{join-ends}
 use Rattle.ledger.proofs.PairsOverlap.{shares-none}
@@ -15,10 +15,10 @@ use Rattle.eblock.specs.Descriptor.{faultOf}
 use Rattle.eblock.specs.Header.{countLimit, descriptorOf, secondOf, thirdOf}
 use Rattle.transfer.specs.Channel.{channelCount, heldLimit, putCount}
 use Rattle.transfer.specs.Transfer.{sum, withTransfer, endedOf}
-use Rattle.transfer.specs.Header.{isCount, endsChannel, payloadLength}
-use Rattle.transfer.specs.Receive.{beginPayload, claimRange, isNonEmpty, isEnded}
-use Rattle.transfer.specs.Block.{Block, block, placeOf, sizeOf, cut, countsIn, addClaim, claimsIn, hasEnd, withPayloads, blockBytes}
-use Rattle.transfer.specs.Tally.{Tally, Stream, intact, taken, accepted, blocksOf, countsOf, known, claimed, oneIf, used, streamAt, withStream, keepBytes}
+use Rattle.transfer.specs.Header.{isEodc, endsChannel, payloadLength}
+use Rattle.transfer.specs.Receive.{expectPayload, claimRange, isNonEmpty, isEnded}
+use Rattle.transfer.specs.Block.{Block, block, placeOf, sizeOf, cut, countsIn, addClaim, claimsIn, hasEnded, withPayloads, blockBytes}
+use Rattle.transfer.specs.Tally.{Tally, Stream, intact, taken, accepted, blocksOf, countsOf, knownCount, claimed, oneIf, usedIn, streamAt, withStream, keepBytes}
 use Rattle.transfer.proofs.BlockClaims.{sum-insert, hitBy, cover, claims-ruled, claims-holds, claims-insert}
 use Rattle.transfer.proofs.BlockCounts.{counts-without, counts-first}
 use Rattle.transfer.proofs.BlockPayloads.{withPayloads-insert}
@@ -38,7 +38,7 @@ claim-some : (x : Block) (ps : Pairs) → 0 < sizeOf x → addClaim x ps ≡ joi
 unfolding addClaim
 claim-some x ps e = rw (ne-eqb (sizeOf x) 0 (λ q. omega arith))
 
-module _ (F R : ℕ) (before : Pairs) (file : List ℕ) (ruled : Ruled 0 before) where
+module _ (F R : ℕ) (before : Pairs) (file : List ℕ) (ruled : ObeyFrom 0 before) where
   -- the ledger holds what is claimed
   pub pairs-are : (t : Tally) → Invariant F R before t → pairsOf (laidOut R (claimed before (t .streams))) ≡ claimed before (t .streams)
   pairs-are t i = pairsOf-laidOut R 0 (claimed before (t .streams)) (claims-ruled (blocksOf (t .streams)) before ruled) (i .room)
@@ -101,16 +101,16 @@ module _ (F R : ℕ) (before : Pairs) (file : List ℕ) (ruled : Ruled 0 before)
     used-now : oneIf (isNonEmpty (taken (streamAt t c))) ≡ 1
     used-now = ap (λ s. oneIf (isNonEmpty (taken s))) e ∙ ap oneIf u
 
-    not-ended : oneIf (hasEnd (accepted (streamAt t c))) ≡ 0
+    not-ended : oneIf (hasEnded (accepted (streamAt t c))) ≡ 0
     not-ended =
-        ap (λ s. oneIf (hasEnd (accepted s))) e
+        ap (λ s. oneIf (hasEnded (accepted s))) e
         ∙ ap oneIf (kind-ended (stateFrom (intact bs)) (accepted (intact bs)) (isNonEmpty bs) (kind (intact bs) (in-header done r d (omega arith) u g)) ∙ ap isEnded (stateFrom-header bs done r d (omega arith) u g))
 
-    same-used : used next ≡ used (t .streams)
+    same-used : usedIn next ≡ usedIn (t .streams)
     same-used = used-same t c (intact (bs ++ b ∷ [])) h′ used-now (isSome-append bs b)
 
     kept : faultOf (descriptorOf head) ≡ 0 → ((o : ℕ) → hitBy o x + cover o (blocksOf (t .streams)) + contains o before ≤ 1) → endsAtMost F (addClaim x (claimed before (t .streams))) ≡ true → size (addClaim x (claimed before (t .streams))) ≤ R
-        → Count (countsOf next) (used (t .streams)) → Invariant F R before (withStream t c (intact (bs ++ b ∷ [])))
+        → Count (countsOf next) (usedIn (t .streams)) → Invariant F R before (withStream t c (intact (bs ++ b ∷ [])))
     kept f₀ p₁ p₂ p₃ p₄ =
         record {
           number = length-set (t .streams) c (intact (bs ++ b ∷ [])) ∙ i .number;
@@ -124,12 +124,12 @@ module _ (F R : ℕ) (before : Pairs) (file : List ℕ) (ruled : Ruled 0 before)
           headers = sum-is headerFault ∙ omega (arith, f₀, i .headers);
         }
 
-    same-counts : isCount head ≡ false → countsOf next ≡ countsOf (t .streams)
+    same-counts : isEodc head ≡ false → countsOf next ≡ countsOf (t .streams)
     same-counts q = ap countsIn then ∙ counts-without front x (around .back) q ∙ ap countsIn (sym now)
 
     -- a block without a payload
     module _ (s₀ : payloadLength head ≡ 0) where
-      kept-empty : faultOf (descriptorOf head) ≡ 0 → Count (countsOf next) (used (t .streams)) → Invariant F R before (withStream t c (intact (bs ++ b ∷ [])))
+      kept-empty : faultOf (descriptorOf head) ≡ 0 → Count (countsOf next) (usedIn (t .streams)) → Invariant F R before (withStream t c (intact (bs ++ b ∷ [])))
       kept-empty f₀ n =
           kept f₀ (λ o. omega (arith, i .apart o, inRange-nothing (placeOf x) (placeOf x + sizeOf x) o (omega arith)))
           (rw (claim-none x (claimed before (t .streams)) s₀) (i .ends)) (rw (claim-none x (claimed before (t .streams)) s₀) (i .room)) n
@@ -144,8 +144,8 @@ module _ (F R : ℕ) (before : Pairs) (file : List ℕ) (ruled : Ruled 0 before)
           no-place true = refl
           no-place false = refl
 
-    pub accepts-count : faultOf (descriptorOf head) ≡ 0 → isCount head ≡ true → known (t .streams) ≡ 0 → 0 < thirdOf head → thirdOf head ≤ countLimit → used (t .streams) ≤ thirdOf head
-        → Follows F R before file t c (beginPayload (withTransfer (worldOf F R before file t) (putCount (transferOf F R t) (thirdOf head))) c 0 0 (endsChannel head)) (keepBytes t c (bs ++ b ∷ []))
+    pub accepts-count : faultOf (descriptorOf head) ≡ 0 → isEodc head ≡ true → knownCount (t .streams) ≡ 0 → 0 < thirdOf head → thirdOf head ≤ countLimit → usedIn (t .streams) ≤ thirdOf head
+        → Follows F R before file t c (expectPayload (withTransfer (worldOf F R before file t) (putCount (transferOf F R t) (thirdOf head))) c 0 0 (endsChannel head)) (keepBytes t c (bs ++ b ∷ []))
     unfolding worldOf transferOf putCount endedOf
     accepts-count f₀ q k₀ n₀ n₁ n₂ =
         opens-on F R before file t c (bs ++ b ∷ []) i z k (isSome-append bs b) (new .shape) (kept-empty s₀ f₀ (announced (thirdOf head) the-count n₀ n₁ n₂))
@@ -156,15 +156,15 @@ module _ (F R : ℕ) (before : Pairs) (file : List ℕ) (ruled : Ruled 0 before)
         s₀ : payloadLength head ≡ 0
         s₀ = unfold payloadLength in rw q
 
-        none-yet : Count (countsOf (t .streams)) (used (t .streams)) → countsOf (t .streams) ≡ []
+        none-yet : Count (countsOf (t .streams)) (usedIn (t .streams)) → countsOf (t .streams) ≡ []
         none-yet (unknown o) = o
         none-yet (announced n o o₁ o₂ o₃) = absurd (omega (arith, k₀, ap (λ m. getD m 0 0) o))
 
         the-count : countsOf next ≡ thirdOf head ∷ []
         the-count = ap countsIn then ∙ counts-first front x (around .back) q (ap countsIn (sym now) ∙ none-yet (i .count))
 
-    pub accepts-nothing : faultOf (descriptorOf head) ≡ 0 → isCount head ≡ false → secondOf head ≡ 0
-        → Follows F R before file t c (beginPayload (worldOf F R before file t) c 0 0 (endsChannel head)) (keepBytes t c (bs ++ b ∷ []))
+    pub accepts-nothing : faultOf (descriptorOf head) ≡ 0 → isEodc head ≡ false → secondOf head ≡ 0
+        → Follows F R before file t c (expectPayload (worldOf F R before file t) c 0 0 (endsChannel head)) (keepBytes t c (bs ++ b ∷ []))
     unfolding worldOf transferOf
     accepts-nothing f₀ q q₀ =
         opens-on F R before file t c (bs ++ b ∷ []) i z k (isSome-append bs b) (new .shape) (kept-empty s₀ f₀ (rw (same-counts q) (i .count)))
@@ -175,15 +175,15 @@ module _ (F R : ℕ) (before : Pairs) (file : List ℕ) (ruled : Ruled 0 before)
         s₀ : payloadLength head ≡ 0
         s₀ = unfold payloadLength in rw q q₀
 
-    pub sized : isCount head ≡ false → payloadLength head ≡ secondOf head
+    pub sized : isEodc head ≡ false → payloadLength head ≡ secondOf head
     sized q = unfold payloadLength in rw q
 
-    pub joins : isCount head ≡ false → 0 < secondOf head → addClaim x (claimed before (t .streams)) ≡ join (thirdOf head) (thirdOf head + secondOf head) (claimed before (t .streams))
+    pub joins : isEodc head ≡ false → 0 < secondOf head → addClaim x (claimed before (t .streams)) ≡ join (thirdOf head) (thirdOf head + secondOf head) (claimed before (t .streams))
     joins q q₀ = claim-some x (claimed before (t .streams)) (omega (arith, sized q)) ∙ ap (λ m. join (thirdOf head) (thirdOf head + m) (claimed before (t .streams))) (sized q)
 
-    pub accepts-claim : faultOf (descriptorOf head) ≡ 0 → isCount head ≡ false → 0 < secondOf head → thirdOf head + secondOf head ≤ F → overlaps (thirdOf head) (thirdOf head + secondOf head) (claimed before (t .streams)) ≡ false
+    pub accepts-claim : faultOf (descriptorOf head) ≡ 0 → isEodc head ≡ false → 0 < secondOf head → thirdOf head + secondOf head ≤ F → overlaps (thirdOf head) (thirdOf head + secondOf head) (claimed before (t .streams)) ≡ false
         → size (join (thirdOf head) (thirdOf head + secondOf head) (claimed before (t .streams))) ≤ R
-        → Follows F R before file t c (beginPayload (claimRange (worldOf F R before file t) (thirdOf head) (thirdOf head + secondOf head)) c (thirdOf head) (payloadLength head) (endsChannel head))
+        → Follows F R before file t c (expectPayload (claimRange (worldOf F R before file t) (thirdOf head) (thirdOf head + secondOf head)) c (thirdOf head) (payloadLength head) (endsChannel head))
         (keepBytes t c (bs ++ b ∷ []))
     unfolding worldOf transferOf claimRange
     accepts-claim f₀ q q₀ q₁ q₂ q₃ =

@@ -7,13 +7,13 @@ use native.Mathlib.Omega.{arith}
 use lib.Dec.{eqb}
 use lib.ListN.{length, getD, set, length-set}
 use Rattle.ledger.specs.Pairs.{Pairs, size, contains, endsAtMost}
-use Rattle.transfer.specs.Channel.{channelCount, State, unused, header, payload, ended, stateNumber}
+use Rattle.transfer.specs.Channel.{channelCount, State, unused, header, payload, ended, stateCode}
 use Rattle.transfer.specs.Transfer.{sum}
 use Rattle.transfer.specs.Receive.{isNonEmpty, isEnded}
 use Rattle.eblock.specs.Descriptor.{faultOf}
 use Rattle.eblock.specs.Header.{countLimit, descriptorOf}
-use Rattle.transfer.specs.Block.{Block, hasEnd}
-use Rattle.transfer.specs.Tally.{Tally, Stream, intact, faulted, taken, accepted, blocksOf, countsOf, claimed, oneIf, used, endedIn, streamAt, withStream, withFault}
+use Rattle.transfer.specs.Block.{Block, hasEnded}
+use Rattle.transfer.specs.Tally.{Tally, Stream, intact, faulted, taken, accepted, blocksOf, countsOf, claimed, oneIf, usedIn, endedIn, streamAt, withStream, tallyWithFault}
 use Rattle.transfer.proofs.BlockClaims.{sum-append, cover}
 use Rattle.transfer.proofs.BlockPayloads.{longer}
 use Rattle.transfer.specs.StateFrom.{stateFrom}
@@ -56,7 +56,7 @@ pub record Invariant (F R : ℕ) (before : Pairs) (t : Tally) : Type 0 where
   pub apart : (q : ℕ) → cover q (blocksOf (t .streams)) + contains q before ≤ 1
   pub ends : endsAtMost F (claimed before (t .streams)) ≡ true
   pub room : size (claimed before (t .streams)) ≤ R
-  pub count : Count (countsOf (t .streams)) (used (t .streams))
+  pub count : Count (countsOf (t .streams)) (usedIn (t .streams))
   pub fault : Fault (t .fault) (t .on)
   -- no accepted header has a fault of its descriptor
   pub headers : sum headerFault (blocksOf (t .streams)) ≡ 0
@@ -69,21 +69,21 @@ pub data Grows (a b : List Block) : Type 0 where
 
 -- ---- ended channels are used ones
 
-pub ended-used : (s : Stream) → Proper s → oneIf (hasEnd (accepted s)) ≤ oneIf (isNonEmpty (taken s))
+pub ended-used : (s : Stream) → Proper s → oneIf (hasEnded (accepted s)) ≤ oneIf (isNonEmpty (taken s))
 ended-used s o = go (stateFrom s) (isNonEmpty (taken s)) (kind-ended (stateFrom s) (accepted s) (isNonEmpty (taken s)) (kind s o)) (kind-used (stateFrom s) (accepted s) (isNonEmpty (taken s)) (kind s o))
   where
-    go : (x : State) (u : Bool) → hasEnd (accepted s) ≡ isEnded x → oneIf u ≡ cond (eqb (stateNumber x) 0) 0 1 → oneIf (hasEnd (accepted s)) ≤ oneIf u
+    go : (x : State) (u : Bool) → hasEnded (accepted s) ≡ isEnded x → oneIf u ≡ cond (eqb (stateCode x) 0) 0 1 → oneIf (hasEnded (accepted s)) ≤ oneIf u
     go unused u p q = rw p (omega arith)
     go (header h) u p q = rw p (omega arith)
     go (payload y n e) u p q = rw p (omega arith)
-    go ended u p q = rw (p, q) (unfold stateNumber in omega arith)
+    go ended u p q = rw (p, q) (unfold stateCode in omega arith)
 
-pub ended-le : (ss : List Stream) → AllProper ss → endedIn ss ≤ used ss
+pub ended-le : (ss : List Stream) → AllProper ss → endedIn ss ≤ usedIn ss
 unfolding sum
 ended-le [] a = omega arith
 ended-le (s ∷ ss) a = omega (arith, ended-le ss (a .1), ended-used s (a .0))
 
-pub ended-lt : (ss : List Stream) (c : ℕ) → AllProper ss → c < length ss → oneIf (isNonEmpty (taken (getD ss c (intact [])))) ≡ 1 → oneIf (hasEnd (accepted (getD ss c (intact [])))) ≡ 0 → endedIn ss < used ss
+pub ended-lt : (ss : List Stream) (c : ℕ) → AllProper ss → c < length ss → oneIf (isNonEmpty (taken (getD ss c (intact [])))) ≡ 1 → oneIf (hasEnded (accepted (getD ss c (intact [])))) ≡ 0 → endedIn ss < usedIn ss
 unfolding sum
 ended-lt [] c a h p q = absurd (omega arith)
 ended-lt (s ∷ ss) zero a h p q = omega (arith, ended-le ss (a .1))
@@ -91,7 +91,7 @@ ended-lt (s ∷ ss) (suc c) a h p q = omega (arith, ended-lt ss c (a .1) (omega 
 
 -- a channel that was used and is used counts the same
 pub used-same : (t : Tally) (c : ℕ) (s : Stream) → c < length (t .streams) → oneIf (isNonEmpty (taken (streamAt t c))) ≡ 1 → isNonEmpty (taken s) ≡ true
-    → used (set (t .streams) c s) ≡ used (t .streams)
+    → usedIn (set (t .streams) c s) ≡ usedIn (t .streams)
 used-same t c s h p u =
     let w : oneIf (isNonEmpty (taken s)) ≡ 1 = ap oneIf u in
     omega (arith, w, p, sum-set (λ (s : Stream). oneIf (isNonEmpty (taken s))) (intact []) (t .streams) c s h)
@@ -111,13 +111,13 @@ same-blocks t c s h e =
 
 module _ (F R : ℕ) (before : Pairs) where
   -- with a fault
-  pub kept-fault : (t : Tally) (k c : ℕ) → Invariant F R before t → 11 ≤ k → k ≤ 20 → c < channelCount → Invariant F R before (withFault t k c)
+  pub kept-fault : (t : Tally) (k c : ℕ) → Invariant F R before t → 11 ≤ k → k ≤ 20 → c < channelCount → Invariant F R before (tallyWithFault t k c)
   kept-fault t k c i h g q =
       record { number = i .number; proper = i .proper; clean = λ z. absurd (omega arith); apart = i .apart; ends = i .ends; room = i .room; count = i .count; fault = fault-of h g q; headers = i .headers }
 
   -- where a channel's bytes change and no block does
   pub kept-same : (t : Tally) (c : ℕ) (s : Stream) → Invariant F R before t → c < channelCount → Proper s → (t .fault ≡ 0 → AllSound (set (t .streams) c s)) → accepted s ≡ accepted (streamAt t c)
-      → Count (countsOf (t .streams)) (used (set (t .streams) c s)) → Invariant F R before (withStream t c s)
+      → Count (countsOf (t .streams)) (usedIn (set (t .streams) c s)) → Invariant F R before (withStream t c s)
   kept-same t c s i h o l e u =
       let b : blocksOf (set (t .streams) c s) ≡ blocksOf (t .streams) = same-blocks t c s (omega (arith, i .number)) e in
       record {
@@ -134,11 +134,11 @@ module _ (F R : ℕ) (before : Pairs) where
 
   -- where a header is judged a fault
   pub kept-spoilt : (t : Tally) (c : ℕ) (bs : List ℕ) (k : ℕ) → Invariant F R before t → c < channelCount → Proper (faulted bs) → accepted (faulted bs) ≡ accepted (streamAt t c) → oneIf (isNonEmpty (taken (streamAt t c))) ≡ 1
-      → 11 ≤ k → k ≤ 20 → Invariant F R before (withFault (withStream t c (faulted bs)) k c)
+      → 11 ≤ k → k ≤ 20 → Invariant F R before (tallyWithFault (withStream t c (faulted bs)) k c)
   kept-spoilt t c bs k i h o e u g g′ =
       let h′ : c < length (t .streams) = omega (arith, i .number) in
       let b : blocksOf (set (t .streams) c (faulted bs)) ≡ blocksOf (t .streams) = same-blocks t c (faulted bs) h′ e in
-      let v : used (set (t .streams) c (faulted bs)) ≡ used (t .streams) = used-same t c (faulted bs) h′ u (o .1) in
+      let v : usedIn (set (t .streams) c (faulted bs)) ≡ usedIn (t .streams) = used-same t c (faulted bs) h′ u (o .1) in
       record {
         number = length-set (t .streams) c (faulted bs) ∙ i .number;
         proper = proper-set (t .streams) c (faulted bs) (i .proper) o;

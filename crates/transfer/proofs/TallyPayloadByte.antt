@@ -12,8 +12,8 @@ use Rattle.transfer.specs.Channel.{channelCount}
 use Rattle.transfer.specs.Transfer.{sum, world}
 use Rattle.transfer.specs.Header.{endsChannel, payloadLength}
 use Rattle.transfer.specs.Receive.{storePayloadByte, isNonEmpty, isEnded}
-use Rattle.transfer.specs.Block.{Block, block, cut, countsIn, claimsIn, hasEnd, withPayloads, blockBytes}
-use Rattle.transfer.specs.Tally.{Tally, intact, taken, accepted, blocksOf, countsOf, claimed, oneIf, used, streamAt, withStream, keepBytes}
+use Rattle.transfer.specs.Block.{Block, block, cut, countsIn, claimsIn, hasEnded, withPayloads, blockBytes}
+use Rattle.transfer.specs.Tally.{Tally, intact, taken, accepted, blocksOf, countsOf, claimed, oneIf, usedIn, streamAt, withStream, keepBytes}
 use Rattle.transfer.proofs.BlockClaims.{hitBy, cover, claims-same}
 use Rattle.transfer.proofs.BlockCounts.{counts-same}
 use Rattle.transfer.proofs.BlockPayloads.{Bodies, bodies-left, withPayloads-extend}
@@ -100,12 +100,12 @@ module _ (F R : ℕ) (before : Pairs) (file : List ℕ) where
       used-now : oneIf (isNonEmpty (taken (streamAt t c))) ≡ 1
       used-now = ap (λ s. oneIf (isNonEmpty (taken s))) e ∙ ap oneIf u
 
-      not-ended : oneIf (hasEnd (accepted (streamAt t c))) ≡ 0
+      not-ended : oneIf (hasEnded (accepted (streamAt t c))) ≡ 0
       not-ended =
-          ap (λ s. oneIf (hasEnd (accepted s))) e
+          ap (λ s. oneIf (hasEnded (accepted s))) e
           ∙ ap oneIf (kind-ended (stateFrom (intact bs)) (accepted (intact bs)) (isNonEmpty bs) (kind (intact bs) (in-payload done h p d y q u g)) ∙ ap isEnded (stateFrom-payload bs done h p d y q u g))
 
-      same-used : used (set (t .streams) c (intact (bs ++ b ∷ []))) ≡ used (t .streams)
+      same-used : usedIn (set (t .streams) c (intact (bs ++ b ∷ []))) ≡ usedIn (t .streams)
       same-used = used-same t c (intact (bs ++ b ∷ [])) h′ used-now (isSome-append bs b)
 
       kept : Invariant F R before (withStream t c (intact (bs ++ b ∷ [])))

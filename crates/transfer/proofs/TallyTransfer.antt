@@ -11,12 +11,12 @@ use Rattle.ledger.specs.Pairs.{Pairs}
 use Rattle.ledger.specs.Ledger.{laidOut}
 use Rattle.transfer.specs.declared.state.Channel.{Channel}
 use Rattle.transfer.specs.declared.state.Transfer.{Transfer}
-use Rattle.transfer.specs.Channel.{heldLimit, blank, State, unused, header, payload, ended, stateNumber, heldNumber, nextNumber, leftNumber, heldBytes, numbersOf, stateAt, putState, putFault, putCount}
+use Rattle.transfer.specs.Channel.{heldLimit, blank, State, unused, header, payload, ended, stateCode, heldLength, nextPlace, bytesLeft, heldBytes, encodeState, stateAt, putState, putFault, putCount}
 use Rattle.transfer.specs.Transfer.{sum, oneIfEnded, oneIfActive, endedOf, usedOf, World, world}
 use Rattle.transfer.specs.Receive.{isNonEmpty, isEnded}
 use Rattle.transfer.proofs.ChannelReadBack.{length-heldBytes, read-back}
 use Rattle.transfer.specs.Block.{withPayloads}
-use Rattle.transfer.specs.Tally.{Tally, Stream, intact, taken, accepted, blocksOf, known, claimed, oneIf, used, endedIn, streamAt, withStream, withFault}
+use Rattle.transfer.specs.Tally.{Tally, Stream, intact, taken, accepted, blocksOf, knownCount, claimed, oneIf, usedIn, endedIn, streamAt, withStream, tallyWithFault}
 use Rattle.transfer.specs.StateFrom.{stateFrom}
 use Rattle.transfer.proofs.ChannelBytes.{Proper, kind, kind-stands, kind-used, kind-ended}
 use Rattle.transfer.proofs.TallyStreams.{AllProper}
@@ -24,7 +24,7 @@ use Rattle.transfer.proofs.TallyStreams.{AllProper}
 -- ---- the transfer, the file and the ledger of a tally
 
 unfoldable pub rowOf : Stream → Channel
-rowOf s = numbersOf (stateFrom s)
+rowOf s = encodeState (stateFrom s)
 
 unfoldable pub headsOf : List Stream → List ℕ
 headsOf [] = []
@@ -32,7 +32,7 @@ headsOf (s ∷ ss) = heldBytes (stateFrom s) ++ headsOf ss
 
 unfoldable pub transferOf : ℕ → ℕ → Tally → Transfer
 transferOf F R t =
-    record { len = F; pairs = R; count = known (t .streams); fault = t .fault; on = t .on; heads = headsOf (t .streams); channels = map rowOf (t .streams) }
+    record { len = F; pairs = R; count = knownCount (t .streams); fault = t .fault; on = t .on; heads = headsOf (t .streams); channels = map rowOf (t .streams) }
 
 unfoldable pub worldOf : ℕ → ℕ → Pairs → List ℕ → Tally → World
 worldOf F R before file t = world (transferOf F R t) (withPayloads (blocksOf (t .streams)) file) (laidOut R (claimed before (t .streams)))
@@ -88,11 +88,11 @@ pub row-at : (ss : List Stream) (c : ℕ) → getD (map rowOf ss) c blank ≡ ro
 row-at ss c = ap (λ d. getD (map rowOf ss) c d) (sym no-row) ∙ List·getD-map rowOf ss c (intact [])
   where
     no-row : rowOf (intact []) ≡ blank
-    no-row = unfold rowOf numbersOf stateNumber heldNumber nextNumber leftNumber stateFrom in refl
+    no-row = unfold rowOf encodeState stateCode heldLength nextPlace bytesLeft stateFrom in refl
 
 pub state-is : (F R : ℕ) (t : Tally) (c : ℕ) → AllProper (t .streams) → c < length (t .streams) → stateAt (transferOf F R t) c ≡ stateFrom (streamAt t c)
 unfolding stateAt transferOf
-state-is F R t c a h = rw (row-at (t .streams) c, heads-drop (t .streams) c a h) (unfold rowOf numbersOf in read-back (stateFrom (streamAt t c)) (headsOf (drop (suc c) (t .streams))))
+state-is F R t c a h = rw (row-at (t .streams) c, heads-drop (t .streams) c a h) (unfold rowOf encodeState in read-back (stateFrom (streamAt t c)) (headsOf (drop (suc c) (t .streams))))
 
 rows-set : (ss : List Stream) (c : ℕ) (s : Stream) → map rowOf (set ss c s) ≡ set (map rowOf ss) c (rowOf s)
 rows-set [] c s = refl
@@ -100,35 +100,35 @@ rows-set (x ∷ ss) zero s = refl
 rows-set (x ∷ ss) (suc c) s = ap {B = List Channel} (λ r. rowOf x ∷ r) (rows-set ss c s)
 
 -- a channel's state written where the count becomes n
-pub put-count-is : (F R : ℕ) (t : Tally) (c : ℕ) (s : Stream) (n : ℕ) → AllProper (t .streams) → c < length (t .streams) → known (set (t .streams) c s) ≡ n
+pub put-count-is : (F R : ℕ) (t : Tally) (c : ℕ) (s : Stream) (n : ℕ) → AllProper (t .streams) → c < length (t .streams) → knownCount (set (t .streams) c s) ≡ n
     → putState (putCount (transferOf F R t) n) c (stateFrom s) ≡ transferOf F R (withStream t c s)
 unfolding putState putCount transferOf
 put-count-is F R t c s n a h e = rw (e, heads-set (t .streams) c s a h, rows-set (t .streams) c s) (unfold rowOf in refl)
 
 -- and where it stays
-pub put-is : (F R : ℕ) (t : Tally) (c : ℕ) (s : Stream) → AllProper (t .streams) → c < length (t .streams) → known (set (t .streams) c s) ≡ known (t .streams)
+pub put-is : (F R : ℕ) (t : Tally) (c : ℕ) (s : Stream) → AllProper (t .streams) → c < length (t .streams) → knownCount (set (t .streams) c s) ≡ knownCount (t .streams)
     → putState (transferOf F R t) c (stateFrom s) ≡ transferOf F R (withStream t c s)
-put-is F R t c s a h e = same ∙ put-count-is F R t c s (known (t .streams)) a h e
+put-is F R t c s a h e = same ∙ put-count-is F R t c s (knownCount (t .streams)) a h e
   where
-    same : putState (transferOf F R t) c (stateFrom s) ≡ putState (putCount (transferOf F R t) (known (t .streams))) c (stateFrom s)
+    same : putState (transferOf F R t) c (stateFrom s) ≡ putState (putCount (transferOf F R t) (knownCount (t .streams))) c (stateFrom s)
     same = unfold putCount transferOf in refl
 
-pub fault-is : (F R : ℕ) (t : Tally) (k c : ℕ) → putFault (transferOf F R t) k c ≡ transferOf F R (withFault t k c)
+pub fault-is : (F R : ℕ) (t : Tally) (k c : ℕ) → putFault (transferOf F R t) k c ≡ transferOf F R (tallyWithFault t k c)
 unfolding putFault transferOf
 fault-is F R t k c = refl
 
 -- ---- counts
 
-state-ended : (x : State) → oneIfEnded (numbersOf x) ≡ oneIf (isEnded x)
-unfolding numbersOf stateNumber
+state-ended : (x : State) → oneIfEnded (encodeState x) ≡ oneIf (isEnded x)
+unfolding encodeState stateCode
 state-ended unused = refl
 state-ended (header h) = refl
 state-ended (payload p n true) = refl
 state-ended (payload p n false) = refl
 state-ended ended = refl
 
-state-used : (x : State) → oneIfEnded (numbersOf x) + oneIfActive (numbersOf x) ≡ cond (eqb (stateNumber x) 0) 0 1
-unfolding numbersOf stateNumber
+state-used : (x : State) → oneIfEnded (encodeState x) + oneIfActive (encodeState x) ≡ cond (eqb (stateCode x) 0) 0 1
+unfolding encodeState stateCode
 state-used unused = refl
 state-used (header h) = refl
 state-used (payload p n true) = refl
@@ -141,7 +141,7 @@ rows-ended [] a = refl
 rows-ended (s ∷ ss) a =
     omega (arith, state-ended (stateFrom s), ap oneIf (kind-ended (stateFrom s) (accepted s) (isNonEmpty (taken s)) (kind s (a .0))), rows-ended ss (a .1))
 
-rows-used : (ss : List Stream) → AllProper ss → sum oneIfEnded (map rowOf ss) + sum oneIfActive (map rowOf ss) ≡ used ss
+rows-used : (ss : List Stream) → AllProper ss → sum oneIfEnded (map rowOf ss) + sum oneIfActive (map rowOf ss) ≡ usedIn ss
 unfolding sum rowOf
 rows-used [] a = refl
 rows-used (s ∷ ss) a =
@@ -151,6 +151,6 @@ pub ended-is : (F R : ℕ) (t : Tally) → AllProper (t .streams) → endedOf (t
 unfolding endedOf transferOf
 ended-is F R t a = rows-ended (t .streams) a
 
-pub used-is : (F R : ℕ) (t : Tally) → AllProper (t .streams) → usedOf (transferOf F R t) ≡ used (t .streams)
+pub used-is : (F R : ℕ) (t : Tally) → AllProper (t .streams) → usedOf (transferOf F R t) ≡ usedIn (t .streams)
 unfolding usedOf endedOf transferOf
 used-is F R t a = rows-used (t .streams) a

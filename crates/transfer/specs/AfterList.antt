@@ -8,24 +8,24 @@ use lib.ListN.{length, getD, take, drop}
 use Rattle.ledger.specs.Pairs.{Pairs, none, total, contains}
 use Rattle.ledger.specs.Ledger.{capacity, obeys, laidOut, Contains}
 use Rattle.transfer.specs.Channel.{stateAt}
-use Rattle.transfer.specs.Transfer.{endedOf, World, guess, result, broken, verdictOf, storedOf, startNumber}
+use Rattle.transfer.specs.Transfer.{endedOf, World, guess, result, broken, verdictOf, storedOf, startRefusal}
 use Rattle.transfer.specs.Receive.{Answer}
 use Rattle.transfer.specs.Fit.{fits}
-use Rattle.transfer.specs.Calls.{Call, runBy, begun, answersOf, after}
+use Rattle.transfer.specs.Calls.{Call, foldCalls, startedWorld, answersOf, after}
 use Rattle.transfer.specs.Block.{Block, placeOf, sizeOf, claimsIn, withPayloads, bytesIn}
-use Rattle.transfer.specs.Tally.{Tally, blocksOf, countsOf, known, endedIn, empty, streamAt, callOf}
+use Rattle.transfer.specs.Tally.{Tally, blocksOf, countsOf, knownCount, endedIn, empty, streamAt, tallyCall}
 use Rattle.transfer.specs.StateFrom.{stateFrom}
 
 -- the world w is what an accepted start leaves, with a file and a ledger of R pairs that holds these ranges: none, until a transfer can be resumed
-pub data Begun : World → List ℕ → ℕ → Pairs → Type 0 where
-  fresh-start : (file ledger : List ℕ) → startNumber ledger ≡ 0 → Begun (begun file ledger) file (capacity ledger) none
+pub data StartedWith : World → List ℕ → ℕ → Pairs → Type 0 where
+  fresh-start : (file ledger : List ℕ) → startRefusal ledger ≡ 0 → StartedWith (startedWorld file ledger) file (capacity ledger) none
 
 -- the tally of the same list, and its answers
 abbrev pub tallyOf : ℕ → ℕ → Pairs → List Call → Tally
-tallyOf F R before ks = runBy (callOf F R before) empty ks .1
+tallyOf F R before ks = foldCalls (tallyCall F R before) empty ks .1
 
 abbrev pub tallyAnswers : ℕ → ℕ → Pairs → List Call → List Answer
-tallyAnswers F R before ks = runBy (callOf F R before) empty ks .0
+tallyAnswers F R before ks = foldCalls (tallyCall F R before) empty ks .0
 
 -- the accepted blocks hold one count n, and exactly n channels have ended
 abbrev pub Complete : Tally → Type 0
@@ -73,9 +73,9 @@ pub record AfterList (R : ℕ) (before : Pairs) (file : List ℕ) (w : World) (t
   pub bytes-are : storedOf w ≡ bytesIn (blocksOf (t .streams)) + total before
   -- the fault's number and channel, the count, the number of channels that have ended and the ledger are the tally's
   pub fault-is : (w .t .fault ≡ t .fault) × (w .t .on ≡ t .on)
-  pub count-is : w .t .count ≡ known (t .streams)
+  pub count-is : w .t .count ≡ knownCount (t .streams)
   pub ended-is : endedOf (w .t) ≡ endedIn (t .streams)
-  pub ledger-is : LedgerIs R before (w .lent .claimed) (blocksOf (t .streams))
+  pub ledger-is : LedgerIs R before (w .lent .ledger) (blocksOf (t .streams))
   -- each channel's state is that of its bytes; after a fault in its header nothing is held of that
   pub channels-are : (c : ℕ) → c < 64 → stateAt (w .t) c ≡ stateFrom (streamAt t c)
   -- from RESULT on every accepted payload is whole in the file
@@ -86,20 +86,20 @@ pub record AfterList (R : ℕ) (before : Pairs) (file : List ℕ) (w : World) (t
 pub record Unchanged (v w : World) : Type 0 where
   pub verdict : verdictOf w ≡ verdictOf v
   pub file : w .lent .file ≡ v .lent .file
-  pub ledger : w .lent .claimed ≡ v .lent .claimed
+  pub ledger : w .lent .ledger ≡ v .lent .ledger
   pub bytes : storedOf w ≡ storedOf v
 
 pub record EveryList : Type 0 where
   -- every file and every ledger of an even length, up to 8,192 entries, begins
-  pub begins : (file ledger : List ℕ) → length ledger % 2 ≡ 0 → length ledger ≤ 8192 → Begun (begun file ledger) file (length ledger / 2) none
-  pub answers-are : (w : World) (file : List ℕ) (R : ℕ) (before : Pairs) → Begun w file R before → (ks : List Call) → answersOf w ks ≡ tallyAnswers (length file) R before ks
-  pub after-list : (w : World) (file : List ℕ) (R : ℕ) (before : Pairs) → Begun w file R before → (ks : List Call)
+  pub begins : (file ledger : List ℕ) → length ledger % 2 ≡ 0 → length ledger ≤ 8192 → StartedWith (startedWorld file ledger) file (length ledger / 2) none
+  pub answers-are : (w : World) (file : List ℕ) (R : ℕ) (before : Pairs) → StartedWith w file R before → (ks : List Call) → answersOf w ks ≡ tallyAnswers (length file) R before ks
+  pub after-list : (w : World) (file : List ℕ) (R : ℕ) (before : Pairs) → StartedWith w file R before → (ks : List Call)
       → AfterList R before file (after w ks) (tallyOf (length file) R before ks)
   -- stored bytes stay stored and counted: a payload byte taken at its place is there after any further calls
-  pub kept : (w : World) (file : List ℕ) (R : ℕ) (before : Pairs) → Begun w file R before → (ks more : List Call) (p v : ℕ)
+  pub kept : (w : World) (file : List ℕ) (R : ℕ) (before : Pairs) → StartedWith w file R before → (ks more : List Call) (p v : ℕ)
       → HasByte p v (blocksOf (tallyOf (length file) R before ks .streams)) → HasByte p v (blocksOf (tallyOf (length file) R before (ks ++ more) .streams))
-  pub counted : (w : World) (file : List ℕ) (R : ℕ) (before : Pairs) → Begun w file R before → (ks more : List Call)
+  pub counted : (w : World) (file : List ℕ) (R : ℕ) (before : Pairs) → StartedWith w file R before → (ks more : List Call)
       → storedOf (after w ks) ≤ storedOf (after w (ks ++ more))
   -- from RESULT on no receive call changes verdict, file, ledger or byte count
-  pub final : (w : World) (file : List ℕ) (R : ℕ) (before : Pairs) → Begun w file R before → (ks : List Call) → Complete (tallyOf (length file) R before ks) → (more : List Call)
+  pub final : (w : World) (file : List ℕ) (R : ℕ) (before : Pairs) → StartedWith w file R before → (ks : List Call) → Complete (tallyOf (length file) R before ks) → (more : List Call)
       → Unchanged (after w ks) (after w (ks ++ more))

@@ -8,8 +8,8 @@ use Rattle.transfer.specs.Transfer.{World, guess, result, verdictOf}
 use Rattle.transfer.specs.Receive.{took}
 use Rattle.transfer.specs.Calls.{Call, receive, callOf, after}
 use Rattle.transfer.specs.Block.{withPayloads}
-use Rattle.transfer.specs.AfterList.{Begun, HasByte, PayloadsInFile}
-use Rattle.transfer.specs.Sending.{SentChannel, sentBlocks, nonEmptyPayloads, WellFormed, Arrival, offered}
+use Rattle.transfer.specs.AfterList.{StartedWith, HasByte, PayloadsInFile}
+use Rattle.transfer.specs.Sending.{SentChannel, sentBlocks, nonEmptyPayloads, WellFormed, Arrival, totalPieceBytes}
 
 -- every byte of every piece of the list is taken
 abbrev pub AllTaken : World → List Call → Type 0
@@ -18,8 +18,8 @@ AllTaken w ks = (pre post : List Call) (c b : ℕ) (bs : List ℕ) → ks ≡ pr
 pub record Arrives (w : World) (file : List ℕ) (s : List SentChannel) (ks : List Call) : Type 0 where
   pub all-taken : AllTaken w ks
   -- GUESS until the last byte is taken, then RESULT, wherever the pieces are cut and empty pieces come
-  pub shows-guess : (pre post : List Call) → ks ≡ pre ++ post → offered pre < offered ks → verdictOf (after w pre) ≡ guess
-  pub shows-result : (pre post : List Call) → ks ≡ pre ++ post → offered pre ≡ offered ks → verdictOf (after w pre) ≡ result
+  pub shows-guess : (pre post : List Call) → ks ≡ pre ++ post → totalPieceBytes pre < totalPieceBytes ks → verdictOf (after w pre) ≡ guess
+  pub shows-result : (pre post : List Call) → ks ≡ pre ++ post → totalPieceBytes pre ≡ totalPieceBytes ks → verdictOf (after w pre) ≡ result
   -- one end file for all arrivals: the starting file with the payloads in place
   pub file-is : after w ks .lent .file ≡ withPayloads (sentBlocks s) file
   -- place by place: each payload is in it, and any other place has its starting byte
@@ -27,11 +27,11 @@ pub record Arrives (w : World) (file : List ℕ) (s : List SentChannel) (ks : Li
   pub rest-stays : (p : ℕ) → ((v : ℕ) → HasByte p v (sentBlocks s) → ⊥) → getD (after w ks .lent .file) p 0 ≡ getD file p 0
 
 pub record EveryArrival : Type 0 where
-  pub arrives : (w : World) (file : List ℕ) (R : ℕ) (before : Pairs) → Begun w file R before → (s : List SentChannel) → WellFormed (length file) R before s → (ks : List Call) → Arrival s ks
+  pub arrives : (w : World) (file : List ℕ) (R : ℕ) (before : Pairs) → StartedWith w file R before → (s : List SentChannel) → WellFormed (length file) R before s → (ks : List Call) → Arrival s ks
       → Arrives w file s ks
   -- every sending has an arrival
   pub has-arrival : (s : List SentChannel) → (ks : List Call) × Arrival s ks
   -- no sending is left out: what is taken whole and ends with RESULT is a well-formed sending, for every ledger with a pair for each payload that is
   -- not empty and for each range held before
-  pub only-well-formed : (w : World) (file : List ℕ) (R : ℕ) (before : Pairs) → Begun w file R before → (ks : List Call) → AllTaken w ks → verdictOf (after w ks) ≡ result
+  pub only-well-formed : (w : World) (file : List ℕ) (R : ℕ) (before : Pairs) → StartedWith w file R before → (ks : List Call) → AllTaken w ks → verdictOf (after w ks) ≡ result
       → (s : List SentChannel) × Arrival s ks × ((r : ℕ) → nonEmptyPayloads (sentBlocks s) + size before ≤ r → WellFormed (length file) r before s)

@@ -8,7 +8,7 @@ use lib.Seq.{sets}
 use Rattle.ledger.specs.Pairs.{Pairs, join}
 use Rattle.eblock.specs.Header.{headerLength, thirdOf}
 use Rattle.transfer.specs.Transfer.{sum}
-use Rattle.transfer.specs.Header.{isCount, endsChannel, payloadLength}
+use Rattle.transfer.specs.Header.{isEodc, endsChannel, payloadLength}
 
 -- 17 header bytes, and the payload bytes that have come
 pub record Block : Type 0 where
@@ -44,24 +44,24 @@ cutBy (suc k) bs =
     (block (take headerLength bs) (take (payloadLength (take headerLength bs)) (drop headerLength bs)) ∷ following)
 
 -- the header that is begun after them
-unfoldable pub begunHeaderBy : ℕ → List ℕ → List ℕ
-begunHeaderBy zero bs = bs
-begunHeaderBy (suc k) bs =
-    let following = begunHeaderBy k (drop (payloadLength (take headerLength bs)) (drop headerLength bs)) in
+unfoldable pub partialHeaderBy : ℕ → List ℕ → List ℕ
+partialHeaderBy zero bs = bs
+partialHeaderBy (suc k) bs =
+    let following = partialHeaderBy k (drop (payloadLength (take headerLength bs)) (drop headerLength bs)) in
     cond (ltb (length bs) headerLength) bs following
 
 abbrev pub cut : List ℕ → List Block
 cut bs = cutBy (length bs) bs
 
-abbrev pub begunHeader : List ℕ → List ℕ
-begunHeader bs = begunHeaderBy (length bs) bs
+abbrev pub partialHeader : List ℕ → List ℕ
+partialHeader bs = partialHeaderBy (length bs) bs
 
 -- ---- of a list of accepted blocks
 
 -- the counts that they give
 unfoldable pub countsIn : List Block → List ℕ
 countsIn [] = []
-countsIn (x ∷ xs) = cond (isCount (x .head)) (thirdOf (x .head) ∷ countsIn xs) (countsIn xs)
+countsIn (x ∷ xs) = cond (isEodc (x .head)) (thirdOf (x .head) ∷ countsIn xs) (countsIn xs)
 
 -- their claims joined to what was claimed before; an empty payload claims nothing
 unfoldable pub addClaim : Block → Pairs → Pairs
@@ -72,12 +72,12 @@ claimsIn [] ps = ps
 claimsIn (x ∷ xs) ps = addClaim x (claimsIn xs ps)
 
 -- a block with bit 8 that is whole ends its channel
-unfoldable pub endsItsChannel : Block → Bool
-endsItsChannel x = endsChannel (x .head) && isWhole x
+unfoldable pub isCompleteEnd : Block → Bool
+isCompleteEnd x = endsChannel (x .head) && isWhole x
 
-unfoldable pub hasEnd : List Block → Bool
-hasEnd [] = false
-hasEnd (x ∷ xs) = endsItsChannel x || hasEnd xs
+unfoldable pub hasEnded : List Block → Bool
+hasEnded [] = false
+hasEnded (x ∷ xs) = isCompleteEnd x || hasEnded xs
 
 -- their payload bytes put into a file, each at its place, and how many there are
 unfoldable pub withPayloads : List Block → List ℕ → List ℕ

@@ -5,7 +5,7 @@ use mathlib.Core.Logic.{_⊎_, _≢_}
 use mathlib.Core.Bool.{Bool, true, false}
 use mathlib.Core.List.{List, [], _∷_, _++_}
 use lib.ListN.{length, set}
-use Rattle.ledger.specs.Pairs.{Pairs, Ruled}
+use Rattle.ledger.specs.Pairs.{Pairs, ObeyFrom}
 use Rattle.ledger.specs.Ledger.{pairsOf, laidOut}
 use Rattle.eblock.specs.Header.{secondOf}
 use Rattle.transfer.specs.Channel.{unused, header, payload, ended, stateAt, putState, putFault, putCount}
@@ -35,31 +35,31 @@ pub record ByteRows : Type 0 where
   pub header-fault : (w : World) (c b k : ℕ) (h : List ℕ) → Seventeenth w c b h (faulty k)
       → takeByte w c b ≡ stops (withTransfer w (putFault (putState (w .t) c (header [])) k c))
   -- a count; with bit 8 the channel ends
-  pub count-goes : (w : World) (c b n : ℕ) (h : List ℕ) → Seventeenth w c b h (counts n) → endsChannel (h ++ (b ∷ [])) ≡ false
+  pub count-continues : (w : World) (c b n : ℕ) (h : List ℕ) → Seventeenth w c b h (counts n) → endsChannel (h ++ (b ∷ [])) ≡ false
       → takeByte w c b ≡ continues (withTransfer w (putState (putCount (w .t) n) c (header [])))
   pub count-ends : (w : World) (c b n : ℕ) (h : List ℕ) → Seventeenth w c b h (counts n) → endsChannel (h ++ (b ∷ [])) ≡ true
       → takeByte w c b ≡ stops (withTransfer w (putState (putCount (w .t) n) c ended))
   -- an empty payload; with bit 8 the channel ends, and 20 is given where n have ended already
-  pub empty-goes : (w : World) (c b : ℕ) (h : List ℕ) → Seventeenth w c b h nothing → endsChannel (h ++ (b ∷ [])) ≡ false
+  pub empty-continues : (w : World) (c b : ℕ) (h : List ℕ) → Seventeenth w c b h nothing → endsChannel (h ++ (b ∷ [])) ≡ false
       → takeByte w c b ≡ continues (withTransfer w (putState (w .t) c (header [])))
   pub empty-ends : (w : World) (c b : ℕ) (h : List ℕ) → Seventeenth w c b h nothing → endsChannel (h ++ (b ∷ [])) ≡ true → MayEnd w
       → takeByte w c b ≡ stops (withTransfer w (putState (w .t) c ended))
   pub empty-20 : (w : World) (c b : ℕ) (h : List ℕ) → Seventeenth w c b h nothing → endsChannel (h ++ (b ∷ [])) ≡ true → 0 < w .t .count → endedOf (w .t) ≡ w .t .count
       → takeByte w c b ≡ stops (withTransfer w (putFault (putState (w .t) c (header [])) 20 c))
   -- a range: 17 or 18, with nothing claimed, or the ledger holds it and its bytes are to come
-  pub claim-fault : (w : World) (c b k s e : ℕ) (h : List ℕ) → Seventeenth w c b h (claims s e) → Ruled 0 (pairsOf (w .lent .claimed))
-      → ClaimJudged (w .t .pairs) (pairsOf (w .lent .claimed)) s e k → 0 < k → takeByte w c b ≡ stops (withTransfer w (putFault (putState (w .t) c (header [])) k c))
-  pub claimed : (w : World) (c b s e : ℕ) (h : List ℕ) (m : Pairs) → Seventeenth w c b h (claims s e) → Ruled 0 (pairsOf (w .lent .claimed))
-      → ClaimJudged (w .t .pairs) (pairsOf (w .lent .claimed)) s e 0 → Union s e (pairsOf (w .lent .claimed)) m
+  pub claim-fault : (w : World) (c b k s e : ℕ) (h : List ℕ) → Seventeenth w c b h (claims s e) → ObeyFrom 0 (pairsOf (w .lent .ledger))
+      → ClaimJudged (w .t .pairs) (pairsOf (w .lent .ledger)) s e k → 0 < k → takeByte w c b ≡ stops (withTransfer w (putFault (putState (w .t) c (header [])) k c))
+  pub claimed : (w : World) (c b s e : ℕ) (h : List ℕ) (m : Pairs) → Seventeenth w c b h (claims s e) → ObeyFrom 0 (pairsOf (w .lent .ledger))
+      → ClaimJudged (w .t .pairs) (pairsOf (w .lent .ledger)) s e 0 → Union s e (pairsOf (w .lent .ledger)) m
       → takeByte w c b
       ≡ continues (world (putState (w .t) c (payload s (secondOf (h ++ (b ∷ []))) (endsChannel (h ++ (b ∷ []))))) (w .lent .file) (laidOut (w .t .pairs) m))
   -- a payload's byte is stored at its place; after the last one the channel is in a header, or ends
   pub stored : (w : World) (c b p n : ℕ) (e : Bool) → stateAt (w .t) c ≡ payload p (suc (suc n)) e
-      → takeByte w c b ≡ continues (world (putState (w .t) c (payload (suc p) (suc n) e)) (set (w .lent .file) p b) (w .lent .claimed))
+      → takeByte w c b ≡ continues (world (putState (w .t) c (payload (suc p) (suc n) e)) (set (w .lent .file) p b) (w .lent .ledger))
   pub last-stored : (w : World) (c b p : ℕ) → stateAt (w .t) c ≡ payload p 1 false
-      → takeByte w c b ≡ continues (world (putState (w .t) c (header [])) (set (w .lent .file) p b) (w .lent .claimed))
+      → takeByte w c b ≡ continues (world (putState (w .t) c (header [])) (set (w .lent .file) p b) (w .lent .ledger))
   pub last-ends : (w : World) (c b p : ℕ) → stateAt (w .t) c ≡ payload p 1 true → MayEnd w
-      → takeByte w c b ≡ stops (world (putState (w .t) c ended) (set (w .lent .file) p b) (w .lent .claimed))
+      → takeByte w c b ≡ stops (world (putState (w .t) c ended) (set (w .lent .file) p b) (w .lent .ledger))
   -- an ended channel's byte is not taken, nor one of a payload with nothing left, which does not fit
-  pub ended-leaves : (w : World) (c b : ℕ) → stateAt (w .t) c ≡ ended → takeByte w c b ≡ notTaken w
-  pub none-left-leaves : (w : World) (c b p : ℕ) (e : Bool) → stateAt (w .t) c ≡ payload p 0 e → takeByte w c b ≡ notTaken w
+  pub ended-not-taken : (w : World) (c b : ℕ) → stateAt (w .t) c ≡ ended → takeByte w c b ≡ notTaken w
+  pub none-left-not-taken : (w : World) (c b p : ℕ) (e : Bool) → stateAt (w .t) c ≡ payload p 0 e → takeByte w c b ≡ notTaken w

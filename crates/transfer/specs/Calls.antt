@@ -13,19 +13,19 @@ unfoldable pub callOf : World → Call → Answer × World
 callOf w (receive c piece) = receiveOf w c piece
 
 -- the answers, and what the last call left
-unfoldable pub runBy {ℓ} : {W : Type ℓ} → (W → Call → Answer × W) → W → List Call → List Answer × W
-runBy f w [] = ([], w)
-runBy f w (k ∷ ks) =
+unfoldable pub foldCalls {ℓ} : {W : Type ℓ} → (W → Call → Answer × W) → W → List Call → List Answer × W
+foldCalls f w [] = ([], w)
+foldCalls f w (k ∷ ks) =
     let a = f w k in
-    let r = runBy f (a .1) ks in
+    let r = foldCalls f (a .1) ks in
     (a .0 ∷ r .0, r .1)
 
 -- what start leaves of a lent ledger, with a file of the length that it was told
-unfoldable pub begun : List ℕ → List ℕ → World
-begun file claimed = world (startOf (length file) claimed) file (startAfter claimed)
+unfoldable pub startedWorld : List ℕ → List ℕ → World
+startedWorld file claimed = world (startOf (length file) claimed) file (startAfter claimed)
 
 abbrev pub answersOf : World → List Call → List Answer
-answersOf w ks = runBy callOf w ks .0
+answersOf w ks = foldCalls callOf w ks .0
 
 abbrev pub after : World → List Call → World
-after w ks = runBy callOf w ks .1
+after w ks = foldCalls callOf w ks .1

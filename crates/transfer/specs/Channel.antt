@@ -24,30 +24,30 @@ pub data State : Type 0 where
 
 -- ---- as numbers
 
-unfoldable pub stateNumber : State → ℕ
-stateNumber unused = 0
-stateNumber (header h) = 1
-stateNumber (payload p n false) = 2
-stateNumber (payload p n true) = 3
-stateNumber ended = 4
+unfoldable pub stateCode : State → ℕ
+stateCode unused = 0
+stateCode (header h) = 1
+stateCode (payload p n false) = 2
+stateCode (payload p n true) = 3
+stateCode ended = 4
 
-unfoldable pub heldNumber : State → ℕ
-heldNumber unused = 0
-heldNumber (header h) = length h
-heldNumber (payload p n e) = 0
-heldNumber ended = 0
+unfoldable pub heldLength : State → ℕ
+heldLength unused = 0
+heldLength (header h) = length h
+heldLength (payload p n e) = 0
+heldLength ended = 0
 
-unfoldable pub nextNumber : State → ℕ
-nextNumber unused = 0
-nextNumber (header h) = 0
-nextNumber (payload p n e) = p
-nextNumber ended = 0
+unfoldable pub nextPlace : State → ℕ
+nextPlace unused = 0
+nextPlace (header h) = 0
+nextPlace (payload p n e) = p
+nextPlace ended = 0
 
-unfoldable pub leftNumber : State → ℕ
-leftNumber unused = 0
-leftNumber (header h) = 0
-leftNumber (payload p n e) = n
-leftNumber ended = 0
+unfoldable pub bytesLeft : State → ℕ
+bytesLeft unused = 0
+bytesLeft (header h) = 0
+bytesLeft (payload p n e) = n
+bytesLeft ended = 0
 
 -- the held bytes, and zeros up to 16
 unfoldable pub heldBytes : State → List ℕ
@@ -56,16 +56,16 @@ heldBytes (header h) = h ++ replicate (heldLimit - length h) 0
 heldBytes (payload p n e) = replicate heldLimit 0
 heldBytes ended = replicate heldLimit 0
 
-unfoldable pub numbersOf : State → Channel
-numbersOf x = record { state = stateNumber x; held = heldNumber x; next = nextNumber x; left = leftNumber x }
+unfoldable pub encodeState : State → Channel
+encodeState x = record { state = stateCode x; held = heldLength x; next = nextPlace x; left = bytesLeft x }
 
 -- what numbers and held bytes mean
-unfoldable pub readState : ℕ → List ℕ → ℕ → ℕ → State
-readState zero h p n = unused
-readState (suc zero) h p n = header h
-readState (suc (suc zero)) h p n = payload p n false
-readState (suc (suc (suc zero))) h p n = payload p n true
-readState (suc (suc (suc (suc s)))) h p n = ended
+unfoldable pub decodeState : ℕ → List ℕ → ℕ → ℕ → State
+decodeState zero h p n = unused
+decodeState (suc zero) h p n = header h
+decodeState (suc (suc zero)) h p n = payload p n false
+decodeState (suc (suc (suc zero))) h p n = payload p n true
+decodeState (suc (suc (suc (suc s)))) h p n = ended
 
 -- an unused channel's
 abbrev pub blank : Channel
@@ -78,7 +78,7 @@ channelAt t c = getD (t .channels) c blank
 
 unfoldable pub stateAt : Transfer → ℕ → State
 stateAt t c =
-    readState (channelAt t c .state) (take (channelAt t c .held) (drop (heldLimit * c) (t .heads))) (channelAt t c .next) (channelAt t c .left)
+    decodeState (channelAt t c .state) (take (channelAt t c .held) (drop (heldLimit * c) (t .heads))) (channelAt t c .next) (channelAt t c .left)
 
 unfoldable pub putState : Transfer → ℕ → State → Transfer
 putState t c x =
@@ -89,7 +89,7 @@ putState t c x =
       fault = t .fault;
       on = t .on;
       heads = take (heldLimit * c) (t .heads) ++ (heldBytes x ++ drop (heldLimit * c + heldLimit) (t .heads));
-      channels = set (t .channels) c (numbersOf x);
+      channels = set (t .channels) c (encodeState x);
     }
 
 unfoldable pub putFault : Transfer → ℕ → ℕ → Transfer

@@ -4,9 +4,9 @@ use mathlib.Core.List.{List, [], _∷_, _++_}
 use lib.ListN.{replicate}
 use Rattle.ledger.specs.Pairs.{none}
 use Rattle.eblock.specs.Header.{headerBytes}
-use Rattle.transfer.specs.Calls.{Call, receive, begun}
+use Rattle.transfer.specs.Calls.{Call, receive, startedWorld}
 use Rattle.transfer.specs.Block.{block}
-use Rattle.transfer.specs.AfterList.{Begun}
+use Rattle.transfer.specs.AfterList.{StartedWith}
 use Rattle.transfer.specs.Sending.{SentChannel, WellFormed, Arrival}
 use Rattle.transfer.specs.Arrivals.{Arrives}
 
@@ -17,27 +17,27 @@ plai = 112 ∷ 108 ∷ 97 ∷ 105 ∷ []
 abbrev pub d123 : List ℕ
 d123 = 100 ∷ 49 ∷ 50 ∷ 51 ∷ []
 
-abbrev pub first : Call
-first = receive 0 (headerBytes 0 4 0 ++ plai)
+abbrev pub firstCall : Call
+firstCall = receive 0 (headerBytes 0 4 0 ++ plai)
 
-abbrev pub second : Call
-second = receive 1 (headerBytes 8 4 4 ++ d123)
+abbrev pub secondCall : Call
+secondCall = receive 1 (headerBytes 8 4 4 ++ d123)
 
-abbrev pub third : Call
-third = receive 0 (headerBytes 72 0 2)
+abbrev pub thirdCall : Call
+thirdCall = receive 0 (headerBytes 72 0 2)
 
 -- two channels: "plai" and the count on channel 0, "d123" on channel 1
-abbrev pub plaid : List SentChannel
-plaid =
+abbrev pub exampleSending : List SentChannel
+exampleSending =
     record { number = 0; blocks = block (headerBytes 0 4 0) plai ∷ block (headerBytes 72 0 2) [] ∷ [] }
     ∷ record { number = 1; blocks = block (headerBytes 8 4 4) d123 ∷ [] }
     ∷ []
 
 abbrev pub calls : List Call
-calls = first ∷ second ∷ third ∷ []
+calls = firstCall ∷ secondCall ∷ thirdCall ∷ []
 
 pub record Example : Type 0 where
-  pub well-formed : WellFormed 8 2 none plaid
-  pub arrival : Arrival plaid calls
-  pub begins : Begun (begun (replicate 8 0) (replicate 4 7)) (replicate 8 0) 2 none
-  pub arrives : Arrives (begun (replicate 8 0) (replicate 4 7)) (replicate 8 0) plaid calls
+  pub well-formed : WellFormed 8 2 none exampleSending
+  pub arrival : Arrival exampleSending calls
+  pub begins : StartedWith (startedWorld (replicate 8 0) (replicate 4 7)) (replicate 8 0) 2 none
+  pub arrives : Arrives (startedWorld (replicate 8 0) (replicate 4 7)) (replicate 8 0) exampleSending calls

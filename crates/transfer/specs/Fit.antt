@@ -5,7 +5,7 @@ use mathlib.Core.List.{List, [], _∷_}
 use lib.Dec.{leb, ltb, eqb}
 use lib.ListN.{length, take, drop}
 use Rattle.ledger.specs.Pairs.{Pairs, inside, endsAtMost}
-use Rattle.ledger.specs.Ledger.{zeros, obeys, pairsOf}
+use Rattle.ledger.specs.Ledger.{allZero, obeys, pairsOf}
 use Rattle.eblock.specs.Header.{countLimit}
 use Rattle.transfer.specs.declared.state.Channel.{Channel}
 use Rattle.transfer.specs.declared.state.Transfer.{Transfer}
@@ -19,23 +19,23 @@ pairLimit = 4096
 -- ---- one channel, with its 16 held bytes
 
 -- nothing is in use
-unfoldable pub idle : Channel → List ℕ → Bool
-idle k held = eqb (k .held) 0 && (zeros held && (eqb (k .next) 0 && eqb (k .left) 0))
+unfoldable pub emptyFits : Channel → List ℕ → Bool
+emptyFits k held = eqb (k .held) 0 && (allZero held && (eqb (k .next) 0 && eqb (k .left) 0))
 
 -- a header holds at most 16 bytes; what it doesn't use is 0
-unfoldable pub heldFits : Channel → List ℕ → Bool
-heldFits k held = leb (k .held) heldLimit && (zeros (drop (k .held) held) && (eqb (k .next) 0 && eqb (k .left) 0))
+unfoldable pub headerFits : Channel → List ℕ → Bool
+headerFits k held = leb (k .held) heldLimit && (allZero (drop (k .held) held) && (eqb (k .next) 0 && eqb (k .left) 0))
 
 -- a payload has a byte left or more, and these lie inside one claimed range; what it doesn't use is 0
-unfoldable pub restFits : Pairs → Channel → List ℕ → Bool
-restFits ps k held = eqb (k .held) 0 && (zeros held && (ltb 0 (k .left) && inside (k .next) (k .next + k .left) ps))
+unfoldable pub payloadFits : Pairs → Channel → List ℕ → Bool
+payloadFits ps k held = eqb (k .held) 0 && (allZero held && (ltb 0 (k .left) && inside (k .next) (k .next + k .left) ps))
 
 unfoldable pub channelFits : Pairs → ℕ → Channel → List ℕ → Bool
-channelFits ps zero k held = idle k held
-channelFits ps (suc zero) k held = heldFits k held
-channelFits ps (suc (suc zero)) k held = restFits ps k held
-channelFits ps (suc (suc (suc zero))) k held = restFits ps k held
-channelFits ps (suc (suc (suc (suc zero)))) k held = idle k held
+channelFits ps zero k held = emptyFits k held
+channelFits ps (suc zero) k held = headerFits k held
+channelFits ps (suc (suc zero)) k held = payloadFits ps k held
+channelFits ps (suc (suc (suc zero))) k held = payloadFits ps k held
+channelFits ps (suc (suc (suc (suc zero)))) k held = emptyFits k held
 channelFits ps (suc (suc (suc (suc (suc s))))) k held = false
 
 unfoldable pub channelsFit : Pairs → List Channel → List ℕ → Bool
@@ -66,8 +66,8 @@ faultFits t = cond (eqb (t .fault) 0) (eqb (t .on) 0) (leb 11 (t .fault) && (leb
 -- ---- the whole
 
 -- all but the file's length: what the screen line tests
-unfoldable pub fitsLedger : Transfer → List ℕ → Bool
-fitsLedger t claimed =
+unfoldable pub fitsWithoutFile : Transfer → List ℕ → Bool
+fitsWithoutFile t claimed =
     leb (t .pairs) pairLimit
     && (eqb (length claimed) (2 * t .pairs)
     && (obeys claimed
@@ -80,4 +80,4 @@ fitsLedger t claimed =
     && faultFits t))))))))
 
 unfoldable pub fits : World → Bool
-fits w = eqb (length (w .lent .file)) (w .t .len) && fitsLedger (w .t) (w .lent .claimed)
+fits w = eqb (length (w .lent .file)) (w .t .len) && fitsWithoutFile (w .t) (w .lent .ledger)

@@ -7,8 +7,8 @@ use Rattle.ledger.specs.Pairs.{Pairs, size, join, overlaps}
 use Rattle.eblock.specs.Descriptor.{has, eodc, endOfData, faultOf}
 use Rattle.eblock.specs.Header.{countLimit, descriptorOf, secondOf, thirdOf}
 
-abbrev pub isCount : List ℕ → Bool
-isCount h = has eodc (descriptorOf h)
+abbrev pub isEodc : List ℕ → Bool
+isEodc h = has eodc (descriptorOf h)
 
 -- the channel ends after this block
 abbrev pub endsChannel : List ℕ → Bool
@@ -16,7 +16,7 @@ endsChannel h = has endOfData (descriptorOf h)
 
 -- how many payload bytes follow
 unfoldable pub payloadLength : List ℕ → ℕ
-payloadLength h = cond (isCount h) 0 (secondOf h)
+payloadLength h = cond (isEodc h) 0 (secondOf h)
 
 -- what a header asks for: a count, a range to be claimed, or neither; or the number of its fault
 pub data HeaderRequest : Type 0 where
@@ -32,7 +32,7 @@ requestOf F known used h =
     let offset = thirdOf h in
     let len = secondOf h in
     cond (ltb 0 (faultOf (descriptorOf h))) (faulty (faultOf (descriptorOf h)))
-    (cond (isCount h)
+    (cond (isEodc h)
     (cond (ltb 0 known) (faulty 14) (cond (eqb n 0 || (ltb countLimit n || ltb n used)) (faulty 15) (counts n)))
     (cond (eqb len 0) nothing (cond (ltb F (offset + len)) (faulty 16) (claims offset (offset + len)))))
 

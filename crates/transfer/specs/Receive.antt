@@ -7,7 +7,7 @@ use lib.ListN.{length, set}
 use Rattle.ledger.specs.Pairs.{join}
 use Rattle.ledger.specs.Ledger.{pairsOf, laidOut}
 use Rattle.transfer.specs.Channel.{channelCount, heldLimit, State, unused, header, payload, ended, stateAt, putState, putFault, putCount}
-use Rattle.transfer.specs.Transfer.{usedOf, World, withTransfer, Verdict, guess, result, broken, isFinal, verdictOf}
+use Rattle.transfer.specs.Transfer.{usedOf, World, withTransfer, Verdict, guess, result, broken, allEnded, verdictOf}
 use Rattle.transfer.specs.Header.{endsChannel, payloadLength, HeaderRequest, counts, claims, nothing, faulty, requestOf, claimFault}
 use Rattle.transfer.specs.Fit.{fits}
 
@@ -30,42 +30,42 @@ stopWithFault w c k = stops (withTransfer w (putFault (putState (w .t) c (header
 
 -- the channel's last byte is taken: fault 20 where as many as announced have ended already
 unfoldable pub endChannel : World → ℕ → Outcome World
-endChannel w c = cond (isFinal (w .t)) (stopWithFault w c 20) (stops (withTransfer w (putState (w .t) c ended)))
+endChannel w c = cond (allEnded (w .t)) (stopWithFault w c 20) (stops (withTransfer w (putState (w .t) c ended)))
 
 -- n payload bytes from the place p are to come, after which the channel ends or not
-unfoldable pub beginPayload : World → ℕ → ℕ → ℕ → Bool → Outcome World
-beginPayload w c p zero true = endChannel w c
-beginPayload w c p zero false = continues (withTransfer w (putState (w .t) c (header [])))
-beginPayload w c p (suc n) e = continues (withTransfer w (putState (w .t) c (payload p (suc n) e)))
+unfoldable pub expectPayload : World → ℕ → ℕ → ℕ → Bool → Outcome World
+expectPayload w c p zero true = endChannel w c
+expectPayload w c p zero false = continues (withTransfer w (putState (w .t) c (header [])))
+expectPayload w c p (suc n) e = continues (withTransfer w (putState (w .t) c (payload p (suc n) e)))
 
 -- ---- a header's 17th byte
 
 unfoldable pub claimRange : World → ℕ → ℕ → World
 claimRange w s e =
-    record { t = w .t; lent = record { file = w .lent .file; claimed = laidOut (w .t .pairs) (join s e (pairsOf (w .lent .claimed))) } }
+    record { t = w .t; lent = record { file = w .lent .file; ledger = laidOut (w .t .pairs) (join s e (pairsOf (w .lent .ledger))) } }
 
-unfoldable pub applyHeader : World → ℕ → List ℕ → HeaderRequest → Outcome World
-applyHeader w c h (faulty k) = stopWithFault w c k
-applyHeader w c h (counts n) = beginPayload (withTransfer w (putCount (w .t) n)) c 0 0 (endsChannel h)
-applyHeader w c h nothing = beginPayload w c 0 0 (endsChannel h)
-applyHeader w c h (claims s e) =
-    let k = claimFault (w .t .pairs) (pairsOf (w .lent .claimed)) s e in
-    cond (ltb 0 k) (stopWithFault w c k) (beginPayload (claimRange w s e) c s (payloadLength h) (endsChannel h))
+unfoldable pub applyRequest : World → ℕ → List ℕ → HeaderRequest → Outcome World
+applyRequest w c h (faulty k) = stopWithFault w c k
+applyRequest w c h (counts n) = expectPayload (withTransfer w (putCount (w .t) n)) c 0 0 (endsChannel h)
+applyRequest w c h nothing = expectPayload w c 0 0 (endsChannel h)
+applyRequest w c h (claims s e) =
+    let k = claimFault (w .t .pairs) (pairsOf (w .lent .ledger)) s e in
+    cond (ltb 0 k) (stopWithFault w c k) (expectPayload (claimRange w s e) c s (payloadLength h) (endsChannel h))
 
-unfoldable pub judgeHeader : World → ℕ → List ℕ → Outcome World
-judgeHeader w c h = applyHeader w c h (requestOf (w .t .len) (w .t .count) (usedOf (w .t)) h)
+unfoldable pub applyHeader : World → ℕ → List ℕ → Outcome World
+applyHeader w c h = applyRequest w c h (requestOf (w .t .len) (w .t .count) (usedOf (w .t)) h)
 
 -- ---- a byte
 
 -- of a header, of which h is held
 unfoldable pub takeHeaderByte : World → ℕ → List ℕ → ℕ → Outcome World
 takeHeaderByte w c h b =
-    cond (ltb (length h) heldLimit) (continues (withTransfer w (putState (w .t) c (header (h ++ (b ∷ [])))))) (judgeHeader w c (h ++ (b ∷ [])))
+    cond (ltb (length h) heldLimit) (continues (withTransfer w (putState (w .t) c (header (h ++ (b ∷ [])))))) (applyHeader w c (h ++ (b ∷ [])))
 
 -- of a payload: p the next place, n bytes left
 unfoldable pub storePayloadByte : World → ℕ → ℕ → ℕ → Bool → ℕ → Outcome World
 storePayloadByte w c p zero e b = notTaken w
-storePayloadByte w c p (suc n) e b = beginPayload (record { t = w .t; lent = record { file = set (w .lent .file) p b; claimed = w .lent .claimed } }) c (suc p) n e
+storePayloadByte w c p (suc n) e b = expectPayload (record { t = w .t; lent = record { file = set (w .lent .file) p b; ledger = w .lent .ledger } }) c (suc p) n e
 
 -- the first byte of an unused channel is not taken while n is known and used is n: fault 19
 unfoldable pub takeByteIn : State → World → ℕ → ℕ → Outcome World

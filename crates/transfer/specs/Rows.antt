@@ -29,14 +29,14 @@ pub record Rows : Type 1 where
   -- at the end of a piece, all of its bytes are taken
   pub piece-none : {W : Type 0} (f : W → ℕ → Outcome W) (w : W) (k : ℕ) → takeBytes f w [] k ≡ (took k, w)
   -- a byte after which the call goes on, one after which it stops, and one that is not taken; k bytes were taken before
-  pub piece-goes : {W : Type 0} (f : W → ℕ → Outcome W) (w v : W) (b : ℕ) (bs : List ℕ) (k : ℕ) → f w b ≡ continues v → takeBytes f w (b ∷ bs) k ≡ takeBytes f v bs (suc k)
+  pub piece-continues : {W : Type 0} (f : W → ℕ → Outcome W) (w v : W) (b : ℕ) (bs : List ℕ) (k : ℕ) → f w b ≡ continues v → takeBytes f w (b ∷ bs) k ≡ takeBytes f v bs (suc k)
   pub piece-stops : {W : Type 0} (f : W → ℕ → Outcome W) (w v : W) (b : ℕ) (bs : List ℕ) (k : ℕ) → f w b ≡ stops v → takeBytes f w (b ∷ bs) k ≡ (took (suc k), v)
-  pub piece-leaves : {W : Type 0} (f : W → ℕ → Outcome W) (w v : W) (b : ℕ) (bs : List ℕ) (k : ℕ) → f w b ≡ notTaken v → takeBytes f w (b ∷ bs) k ≡ (took k, v)
+  pub piece-not-taken : {W : Type 0} (f : W → ℕ → Outcome W) (w v : W) (b : ℕ) (bs : List ℕ) (k : ℕ) → f w b ≡ notTaken v → takeBytes f w (b ∷ bs) k ≡ (took k, v)
   -- 19: the first byte of an unused channel is not taken while n is known and as many channels are used
   pub by-19 : (w : World) (c b : ℕ) → stateAt (w .t) c ≡ unused → 0 < w .t .count → usedOf (w .t) ≡ w .t .count → takeByte w c b ≡ notTaken (withTransfer w (putFault (w .t) 19 c))
   -- 20: the last byte of a channel while n have ended already
   pub by-20 : (w : World) (c b p : ℕ) → stateAt (w .t) c ≡ payload p 1 true → 0 < w .t .count → endedOf (w .t) ≡ w .t .count
-      → takeByte w c b ≡ stops (world (putFault (putState (w .t) c (header [])) 20 c) (set (w .lent .file) p b) (w .lent .claimed))
+      → takeByte w c b ≡ stops (world (putFault (putState (w .t) c (header [])) 20 c) (set (w .lent .file) p b) (w .lent .ledger))
   -- one more call gets what the last left
   pub one-more : (w : World) (ks : List Call) (k : Call)
       → (after w (ks ++ k ∷ []) ≡ callOf (after w ks) k .1) × (answersOf w (ks ++ k ∷ []) ≡ answersOf w ks ++ (callOf (after w ks) k .0 ∷ []))

@@ -95,6 +95,6 @@ abbrev pub Arrival : List SentChannel → List Call → Type 0
 Arrival s ks = (c : ℕ) → piecesOn c ks ≡ sentOn c s
 
 -- the number of bytes in all pieces
-unfoldable pub offered : List Call → ℕ
-offered [] = 0
-offered (receive c piece ∷ ks) = length piece + offered ks
+unfoldable pub totalPieceBytes : List Call → ℕ
+totalPieceBytes [] = 0
+totalPieceBytes (receive c piece ∷ ks) = length piece + totalPieceBytes ks

@@ -5,11 +5,11 @@ use mathlib.Core.Logic.{_≢_}
 use mathlib.Core.List.{List}
 use lib.ListN.{length, replicate}
 use Rattle.transfer.specs.declared.state.Transfer.{Transfer}
-use Rattle.transfer.specs.Transfer.{fresh, startNumber, startOf, startAfter}
+use Rattle.transfer.specs.Transfer.{fresh, startRefusal, startOf, startAfter}
 
 -- the number, 0 where start is accepted; the transfer; the ledger
 abbrev pub Leaves : ℕ → List ℕ → ℕ → Transfer → List ℕ → Type 0
-Leaves f ledger number t after = (startNumber ledger ≡ number) × (startOf f ledger ≡ t) × (startAfter ledger ≡ after)
+Leaves f ledger number t after = (startRefusal ledger ≡ number) × (startOf f ledger ≡ t) × (startAfter ledger ≡ after)
 
 pub record Start : Type 0 where
   -- whole pairs, and not too many: a fresh transfer, and the ledger zeroed

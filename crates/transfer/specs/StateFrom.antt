@@ -7,7 +7,7 @@ use lib.ListN.{length}
 use Rattle.transfer.specs.Channel.{State, unused, header, payload, ended}
 use Rattle.transfer.specs.Header.{endsChannel}
 use Rattle.transfer.specs.Receive.{isNonEmpty}
-use Rattle.transfer.specs.Block.{Block, placeOf, sizeOf, cut, begunHeader}
+use Rattle.transfer.specs.Block.{Block, placeOf, sizeOf, cut, partialHeader}
 use Rattle.transfer.specs.Tally.{Stream, intact, faulted}
 
 -- by the last block and the header begun after it: in its payload where bytes of that are still to come, else ended or in the next header
@@ -23,5 +23,5 @@ stateAfterBlocks (x ∷ y ∷ xs) r = stateAfterBlocks (y ∷ xs) r
 
 -- where its last header was judged a fault, it is in a header of which nothing is held
 unfoldable pub stateFrom : Stream → State
-stateFrom (intact bs) = cond (isNonEmpty bs) (stateAfterBlocks (cut bs) (begunHeader bs)) unused
+stateFrom (intact bs) = cond (isNonEmpty bs) (stateAfterBlocks (cut bs) (partialHeader bs)) unused
 stateFrom (faulted bs) = header []

@@ -11,7 +11,7 @@ use Rattle.transfer.specs.Transfer.{sum, Verdict, guess, result, broken}
 use Rattle.transfer.specs.Header.{HeaderRequest, counts, claims, nothing, faulty, requestOf, claimFault}
 use Rattle.transfer.specs.Receive.{Outcome, continues, stops, notTaken, Answer, refused, takeBytes, isGuess, isNonEmpty}
 use Rattle.transfer.specs.Calls.{Call, receive}
-use Rattle.transfer.specs.Block.{Block, cut, begunHeader, countsIn, claimsIn, hasEnd}
+use Rattle.transfer.specs.Block.{Block, cut, partialHeader, countsIn, claimsIn, hasEnded}
 
 -- ---- one channel: its taken bytes; faulted where the last header of them was judged a fault
 
@@ -52,8 +52,8 @@ abbrev pub countsOf : List Stream → List ℕ
 countsOf ss = countsIn (blocksOf ss)
 
 -- the count, 0 where none is known
-abbrev pub known : List Stream → ℕ
-known ss = getD (countsOf ss) 0 0
+abbrev pub knownCount : List Stream → ℕ
+knownCount ss = getD (countsOf ss) 0 0
 
 -- the ranges held from the beginning, none until a transfer can be resumed, and those that these claim
 abbrev pub claimed : Pairs → List Stream → Pairs
@@ -63,16 +63,16 @@ abbrev pub oneIf : Bool → ℕ
 oneIf true = 1
 oneIf false = 0
 
-abbrev pub used : List Stream → ℕ
-used ss = sum (λ (s : Stream). oneIf (isNonEmpty (taken s))) ss
+abbrev pub usedIn : List Stream → ℕ
+usedIn ss = sum (λ (s : Stream). oneIf (isNonEmpty (taken s))) ss
 
 abbrev pub endedIn : List Stream → ℕ
-endedIn ss = sum (λ (s : Stream). oneIf (hasEnd (accepted s))) ss
+endedIn ss = sum (λ (s : Stream). oneIf (hasEnded (accepted s))) ss
 
 -- BROKEN where there is a fault, else RESULT where the accepted blocks hold one count and as many channels have ended, else GUESS
-unfoldable pub verdict : Tally → Verdict
-verdict t =
-    cond (ltb 0 (t .fault)) broken (cond (eqb (length (countsOf (countedStreams t))) 1 && eqb (endedIn (countedStreams t)) (known (countedStreams t))) result guess)
+unfoldable pub tallyVerdict : Tally → Verdict
+tallyVerdict t =
+    cond (ltb 0 (t .fault)) broken (cond (eqb (length (countsOf (countedStreams t))) 1 && eqb (endedIn (countedStreams t)) (knownCount (countedStreams t))) result guess)
 
 unfoldable pub empty : Tally
 empty = record { streams = replicate channelCount (intact []); fault = 0; on = 0 }
@@ -83,8 +83,8 @@ streamAt t c = getD (t .streams) c (intact [])
 abbrev pub withStream : Tally → ℕ → Stream → Tally
 withStream t c s = record { streams = set (t .streams) c s; fault = t .fault; on = t .on }
 
-abbrev pub withFault : Tally → ℕ → ℕ → Tally
-withFault t k c = record { streams = t .streams; fault = k; on = c }
+abbrev pub tallyWithFault : Tally → ℕ → ℕ → Tally
+tallyWithFault t k c = record { streams = t .streams; fault = k; on = c }
 
 -- ---- a byte
 
@@ -92,14 +92,14 @@ withFault t k c = record { streams = t .streams; fault = k; on = c }
 unfoldable pub keepBytes : Tally → ℕ → List ℕ → Outcome Tally
 keepBytes t c bs =
     let next = withStream t c (intact bs) in
-    cond (hasEnd (cut bs))
-    (stops (cond (ltb 0 (known (countedStreams next)) && eqb (endedIn (countedStreams t)) (known (countedStreams next))) (withFault next 20 c) next))
+    cond (hasEnded (cut bs))
+    (stops (cond (ltb 0 (knownCount (countedStreams next)) && eqb (endedIn (countedStreams t)) (knownCount (countedStreams next))) (tallyWithFault next 20 c) next))
     (continues next)
 
 -- the last of the bytes bs made a header whole, which is judged k
 unfoldable pub applyJudgement : Tally → ℕ → List ℕ → ℕ → Outcome Tally
 applyJudgement t c bs zero = keepBytes t c bs
-applyJudgement t c bs (suc k) = stops (withFault (withStream t c (faulted bs)) (suc k) c)
+applyJudgement t c bs (suc k) = stops (tallyWithFault (withStream t c (faulted bs)) (suc k) c)
 
 -- the fault of what a header asks for, 0 where it has none
 unfoldable pub requestFault : ℕ → Pairs → HeaderRequest → ℕ
@@ -109,25 +109,25 @@ requestFault R ps nothing = 0
 requestFault R ps (claims s e) = claimFault R ps s e
 
 -- one byte on channel c, whose bytes so far are bs
-unfoldable pub takeByteAfter : ℕ → ℕ → Pairs → Tally → ℕ → List ℕ → ℕ → Outcome Tally
-takeByteAfter F R before t c bs b =
-    cond (not (isNonEmpty bs) && (ltb 0 (known (countedStreams t)) && eqb (used (countedStreams t)) (known (countedStreams t)))) (notTaken (withFault t 19 c))
-    (cond (eqb (length (begunHeader bs)) heldLimit)
-    (applyJudgement t c (bs ++ (b ∷ [])) (requestFault R (claimed before (countedStreams t)) (requestOf F (known (countedStreams t)) (used (countedStreams t)) (begunHeader bs ++ (b ∷ [])))))
+unfoldable pub tallyByteAfter : ℕ → ℕ → Pairs → Tally → ℕ → List ℕ → ℕ → Outcome Tally
+tallyByteAfter F R before t c bs b =
+    cond (not (isNonEmpty bs) && (ltb 0 (knownCount (countedStreams t)) && eqb (usedIn (countedStreams t)) (knownCount (countedStreams t)))) (notTaken (tallyWithFault t 19 c))
+    (cond (eqb (length (partialHeader bs)) heldLimit)
+    (applyJudgement t c (bs ++ (b ∷ [])) (requestFault R (claimed before (countedStreams t)) (requestOf F (knownCount (countedStreams t)) (usedIn (countedStreams t)) (partialHeader bs ++ (b ∷ [])))))
     (keepBytes t c (bs ++ (b ∷ []))))
 
-unfoldable pub takeByte : ℕ → ℕ → Pairs → Tally → ℕ → ℕ → Outcome Tally
-takeByte F R before t c b = takeByteAfter F R before t c (taken (streamAt t c)) b
+unfoldable pub tallyByte : ℕ → ℕ → Pairs → Tally → ℕ → ℕ → Outcome Tally
+tallyByte F R before t c b = tallyByteAfter F R before t c (taken (streamAt t c)) b
 
 -- ---- a call: 2, 3 and 4 change nothing and are answered so; others go byte by byte
 
-unfoldable pub refusalOf : Tally → ℕ → List ℕ → ℕ
-refusalOf t c piece =
+unfoldable pub tallyRefusal : Tally → ℕ → List ℕ → ℕ
+tallyRefusal t c piece =
     cond (leb channelCount c) 2
-    (cond (not (isGuess (verdict t))) 3
-    (cond (isNonEmpty piece && hasEnd (accepted (streamAt t c))) 4 0))
+    (cond (not (isGuess (tallyVerdict t))) 3
+    (cond (isNonEmpty piece && hasEnded (accepted (streamAt t c))) 4 0))
 
-unfoldable pub callOf : ℕ → ℕ → Pairs → Tally → Call → Answer × Tally
-callOf F R before t (receive c piece) =
-    let go = takeBytes (λ v b. takeByte F R before v c b) t piece 0 in
-    cond (ltb 0 (refusalOf t c piece)) (refused (refusalOf t c piece), t) go
+unfoldable pub tallyCall : ℕ → ℕ → Pairs → Tally → Call → Answer × Tally
+tallyCall F R before t (receive c piece) =
+    let go = takeBytes (λ v b. tallyByte F R before v c b) t piece 0 in
+    cond (ltb 0 (tallyRefusal t c piece)) (refused (tallyRefusal t c piece), t) go

@@ -39,14 +39,14 @@ leftOf t = sum (λ k. k .left) (t .channels)
 
 pub record Lent : Type 0 where
   pub file : List ℕ
-  pub claimed : List ℕ
+  pub ledger : List ℕ
 
 pub record World : Type 0 where
   pub t : Transfer
   pub lent : Lent
 
 abbrev pub world : Transfer → List ℕ → List ℕ → World
-world t file claimed = record { t = t; lent = record { file = file; claimed = claimed } }
+world t file claimed = record { t = t; lent = record { file = file; ledger = claimed } }
 
 abbrev pub withTransfer : World → Transfer → World
 withTransfer w t = record { t = t; lent = w .lent }
@@ -59,15 +59,15 @@ pub data Verdict : Type 0 where
   broken : Verdict
 
 -- a count is known and as many channels have ended
-unfoldable pub isFinal : Transfer → Bool
-isFinal t = ltb 0 (t .count) && eqb (endedOf t) (t .count)
+unfoldable pub allEnded : Transfer → Bool
+allEnded t = ltb 0 (t .count) && eqb (endedOf t) (t .count)
 
 unfoldable pub verdictOf : World → Verdict
-verdictOf w = cond (ltb 0 (w .t .fault)) broken (cond (isFinal (w .t)) result guess)
+verdictOf w = cond (ltb 0 (w .t .fault)) broken (cond (allEnded (w .t)) result guess)
 
 -- claimed bytes less those left in all payloads
 unfoldable pub storedOf : World → ℕ
-storedOf w = total (pairsOf (w .lent .claimed)) - leftOf (w .t)
+storedOf w = total (pairsOf (w .lent .ledger)) - leftOf (w .t)
 
 -- ---- start
 
@@ -84,8 +84,8 @@ fresh f r =
     }
 
 -- refusal 5, or 0
-unfoldable pub startNumber : List ℕ → ℕ
-startNumber claimed = cond (lengthWrong claimed) 5 0
+unfoldable pub startRefusal : List ℕ → ℕ
+startRefusal claimed = cond (lengthWrong claimed) 5 0
 
 unfoldable pub startOf : ℕ → List ℕ → Transfer
 startOf f claimed = cond (lengthWrong claimed) (fresh 0 0) (fresh f (capacity claimed))

@@ -6,10 +6,10 @@ use Rattle.transfer.specs.Transfer.{Verdict, guess, result, broken}
 use Rattle.verdicts.specs.declared.verdict.Verdict.{Verdict as Shown}
 use Rattle.verdicts.specs.declared.verdict.Verdict.the-variants.{Guess, Result, Broken}
 
-abbrev pub verdictIs : Shown → Verdict
-verdictIs Guess = guess
-verdictIs Result = result
-verdictIs Broken = broken
+abbrev pub toVerdict : Shown → Verdict
+toVerdict Guess = guess
+toVerdict Result = result
+toVerdict Broken = broken
 
 -- the count of channels is known, and n is that count
 abbrev pub countReached : ℕ → ℕ → Bool

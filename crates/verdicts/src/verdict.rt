@@ -7,7 +7,7 @@ ghost use mathlib.Core.List.{List};
 ghost use Prim.Native.Nat.{ℕ, _+_, _<_};
 ghost use lib.Dec.{ltb, eqb};
 ghost use Rattle.transfer.specs.Transfer.{world, guess, result, broken, verdictOf};
-ghost use Rattle.verdicts.specs.Verdict.{verdictIs, countReached};
+ghost use Rattle.verdicts.specs.Verdict.{toVerdict, countReached};
 
 // The three words of the screen.
 pub enum Verdict {
@@ -49,7 +49,7 @@ fn wanted(count: u64, state: u8) -> u64
 
 // The verdict by the fault, the count, and how many channels have ended beside one in that state.
 pub fn of(fault: u64, count: u64, others: u64, state: u8) -> Verdict
-    ensures { λ r. ⌜ verdictIs r ≡ cond (ltb 0 fault) broken (cond (countReached count (others + cond (eqb state 4) 1 0)) result guess) ⌝ }
+    ensures { λ r. ⌜ toVerdict r ≡ cond (ltb 0 fault) broken (cond (countReached count (others + cond (eqb state 4) 1 0)) result guess) ⌝ }
 {
     if 0 < fault {
         return Verdict::Broken;
@@ -65,7 +65,7 @@ pub fn of(fault: u64, count: u64, others: u64, state: u8) -> Verdict
 
 // BROKEN where there is a fault, else RESULT where a count is known and as many channels have ended, else GUESS.
 pub fn shown(t: Transfer) -> Verdict
-    ensures { λ r. ⌜ ((file ledger : List ℕ) → verdictIs r ≡ verdictOf (world t file ledger)) ⌝ }
+    ensures { λ r. ⌜ ((file ledger : List ℕ) → toVerdict r ≡ verdictOf (world t file ledger)) ⌝ }
 {
     of(t.fault, t.count, count::ended(t), 0)
 }

@@ -5,13 +5,13 @@ use mathlib.Core.Bool.{_&&_}
 use native.Mathlib.Omega.{arith}
 use lib.Dec.{eqb}
 use lib.ListN.{length, drop}
-use Rattle.ledger.specs.Ledger.{zeros}
+use Rattle.ledger.specs.Ledger.{allZero}
 use Rattle.ledger.proofs.Zeros.{gathers, gathered}
 use Rattle.channelchecks.proofs.held.zero_from.Statement.{statement}
 use Rattle.channelchecks.proofs.held.zero_from.Tie as tie
 
 abbrev Inv-loop : tie.InvT-loop
-Inv-loop held from any₀ i₀ any i = (eqb any 0 && zeros (drop i held)) ≡ zeros (drop from held)
+Inv-loop held from any₀ i₀ any i = (eqb any 0 && allZero (drop i held)) ≡ allZero (drop from held)
 
 abbrev μ-loop : tie.MeasureT-loop
 μ-loop held from any₀ i₀ any i = length held - i
@@ -32,13 +32,13 @@ loop-again : tie.Need-loop-again Inv-loop μ-loop
 loop-again c =
     let l = c .before .before in
     let x = l .before .args in
-    gathers (x .held .now) (l .loop .i) (l .loop .any) (zeros (drop (x .from) (x .held .now))) (l .loop .inv) (omega arith)
+    gathers (x .held .now) (l .loop .i) (l .loop .any) (allZero (drop (x .from) (x .held .now))) (l .loop .inv) (omega arith)
 
 returns : tie.Need-returns Inv-loop μ-loop
 returns c =
     let l = c .before in
     let x = l .before .args in
-    gathered (x .held .now) (l .loop .i) (l .loop .any) (zeros (drop (x .from) (x .held .now))) (l .loop .inv) (c .loop-test .left)
+    gathered (x .held .now) (l .loop .i) (l .loop .any) (allZero (drop (x .from) (x .held .now))) (l .loop .inv) (c .loop-test .left)
 
 pub zero-from-spec : {M : Type 1} → statement M
 zero-from-spec =

@@ -7,13 +7,13 @@ use borrow.Author.Needs.{needs}
 use borrow.Author.Tests.{eq-eqb, not-true, not-false}
 use lib.ListN.{length, take}
 use lib.Seq.{length-take-le}
-use Rattle.channelchecks.specs.FitReport.{allFit}
+use Rattle.channelchecks.specs.FitReport.{channelsFitTogether}
 use Rattle.channelchecks.proofs.Payloads.{packed-apart}
 use Rattle.channelchecks.proofs.report.channels_fit.Statement.{statement}
 use Rattle.channelchecks.proofs.report.channels_fit.Tie as tie
 
-over-channels-requires : tie.Need-over-channels-requires
-over-channels-requires c κs = search needs
+check-channels-requires : tie.Need-check-channels-requires
+check-channels-requires c κs = search needs
 
 unfit-requires : tie.Need-unfit-requires
 unfit-requires c κs = search needs
@@ -22,20 +22,20 @@ returns : tie.Need-returns
 returns c =
     let f = c .before in
     let o = f .before .before in
-    let n = sym (o .over-channels .ensures .fits-where) ∙ not-true (o .over-channels .result .fits) (f .if1 .taken) in
+    let n = sym (o .check-channels .ensures .fits-where) ∙ not-true (o .check-channels .result .fits) (f .if1 .taken) in
     c .unfit .ensures ∙ rw n
 
 -- the numbers that are kept fill no more than the arrays
-room : (c : tie.After-over-channels) → let v = c .over-channels in
+room : (c : tie.After-check-channels) → let v = c .check-channels in
     (v .result .payloads ≤ length (v .last .1 .1 .0)) × (v .result .payloads ≤ length (v .last .1 .1 .1 .0))
-room c = let v = c .over-channels .ensures in (omega (arith, v .few, v .next-length), omega (arith, v .few, v .left-length))
+room c = let v = c .check-channels .ensures in (omega (arith, v .few, v .next-length), omega (arith, v .few, v .left-length))
 
 -- so many of each are lent
-kept : (c : tie.After-over-channels) → let v = c .over-channels in
+kept : (c : tie.After-check-channels) → let v = c .check-channels in
     let n = v .result .payloads in
     (length (take n (v .last .1 .1 .0)) ≡ n) × (length (take n (v .last .1 .1 .1 .0)) ≡ n)
 kept c =
-    let v = c .over-channels in
+    let v = c .check-channels in
     let n = v .result .payloads in
     (length-take-le n (v .last .1 .1 .0) (room c .0), length-take-le n (v .last .1 .1 .1 .0) (room c .1))
 
@@ -58,15 +58,15 @@ unfit-requires-2 : tie.Need-unfit-requires-2
 unfit-requires-2 c κs = search needs
 
 -- each channel fits, so whether two payloads share a byte decides
-each-fits : (c : tie.Else1) → c .before .before .over-channels .result .fits ≡ true
-each-fits c = not-false (c .before .before .over-channels .result .fits) (c .if1 .left)
+each-fits : (c : tie.Else1) → c .before .before .check-channels .result .fits ≡ true
+each-fits c = not-false (c .before .before .check-channels .result .fits) (c .if1 .left)
 
 apart-decides : (c : tie.After-all-disjoint) → let x = c .before .before .before .before .before .before .before .before .before .args in
-    allFit (x .t) (x .ledger .now) ≡ c .all-disjoint .result
+    channelsFitTogether (x .t) (x .ledger .now) ≡ c .all-disjoint .result
 apart-decides c =
     let f = c .before .before .before in
     let o = f .before .before in
-    let v = o .over-channels .ensures in
+    let v = o .check-channels .ensures in
     let y = each-fits f in
     let t = o .before .before .before .before .args .t in
     let e = kept o .0 ∙ sym (kept o .1) in
@@ -81,7 +81,7 @@ returns-3 : tie.Need-returns-3
 returns-3 c =
     let d = c .before in
     let f = d .before .before .before in
-    let v = f .before .before .over-channels .ensures in
+    let v = f .before .before .check-channels .ensures in
     let y = each-fits f in
     rw (apart-decides d ∙ not-false (d .all-disjoint .result) (c .if2 .left), v .used-all y, v .ended-all y)
 
@@ -89,7 +89,7 @@ pub channels-fit-spec : {M : Type 1} → statement M
 channels-fit-spec =
     tie.close
     (tie.spec
-    over-channels-requires
+    check-channels-requires
     unfit-requires
     returns
     array-share-prefix-next

@@ -3,10 +3,10 @@ use mathlib.Core.Path.{_≡_, refl, sym, ap, _∙_}
 use mathlib.Core.Bool.{true, _&&_}
 use borrow.Author.Needs.{needs}
 use borrow.Author.Tests.{not-true, not-false}
-use Rattle.transfer.specs.Fit.{countFits, faultFits, fitsLedger}
+use Rattle.transfer.specs.Fit.{countFits, faultFits, fitsWithoutFile}
 use Rattle.counts.proofs.Sum.{length-mapped}
 use Rattle.channelchecks.specs.declared.report.FitReport.{FitReport}
-use Rattle.channelchecks.specs.FitReport.{allFit, ledgerFits}
+use Rattle.channelchecks.specs.FitReport.{channelsFitTogether, ledgerFits}
 use Rattle.channelchecks.proofs.FitReportFields.{fits-where, used-where}
 use Rattle.checks.specs.ReportOf.{reportOf}
 use Rattle.checks.proofs.FitParts.{fits-by-parts}
@@ -15,8 +15,8 @@ use Rattle.checks.proofs.fit.fit_report.Tie as tie
 
 -- the pairs, the fault, the channels with the ledger, and their count
 parts : (c : tie.After-pairs-fit) → let x = c .before .before .args in
-    fitsLedger (x .t) (x .ledger .now)
-    ≡ (c .pairs-fit .result && (faultFits (x .t) && ((ledgerFits (x .t) (x .ledger .now) && allFit (x .t) (x .ledger .now)) && countFits (x .t))))
+    fitsWithoutFile (x .t) (x .ledger .now)
+    ≡ (c .pairs-fit .result && (faultFits (x .t) && ((ledgerFits (x .t) (x .ledger .now) && channelsFitTogether (x .t) (x .ledger .now)) && countFits (x .t))))
 parts c =
     let x = c .before .before .args in
     fits-by-parts (x .t) (x .ledger .now) (search (length-mapped, needs)) (search needs) ∙ rw (c .pairs-fit .ensures)
@@ -42,7 +42,7 @@ unfit-requires-2 c κs = search needs
 
 -- the pairs fit, and the fault's test is FIT's
 fault-next : (c : tie.After-fault-fits) → let x = c .before .before .before .before .args in
-    fitsLedger (x .t) (x .ledger .now) ≡ (c .fault-fits .result && ((ledgerFits (x .t) (x .ledger .now) && allFit (x .t) (x .ledger .now)) && countFits (x .t)))
+    fitsWithoutFile (x .t) (x .ledger .now) ≡ (c .fault-fits .result && ((ledgerFits (x .t) (x .ledger .now) && channelsFitTogether (x .t) (x .ledger .now)) && countFits (x .t)))
 fault-next c =
     let f = c .before in
     let p = f .before in
@@ -64,15 +64,15 @@ unfit-requires-3 c κs = search needs
 
 -- the fault fits too, so the channels decide, and then their count
 count-last : (c : tie.Else2) → let x = c .before .before .before .before .before .args in
-    fitsLedger (x .t) (x .ledger .now) ≡ ((ledgerFits (x .t) (x .ledger .now) && allFit (x .t) (x .ledger .now)) && countFits (x .t))
+    fitsWithoutFile (x .t) (x .ledger .now) ≡ ((ledgerFits (x .t) (x .ledger .now) && channelsFitTogether (x .t) (x .ledger .now)) && countFits (x .t))
 count-last c = let q = c .before in fault-next q ∙ rw (not-false (q .fault-fits .result) (c .if2 .left))
 
 -- the survey's own test
 told : (c : tie.After-report-channels) → let x = c .before .before .before .before .before .before .args in
-    (ledgerFits (x .t) (x .ledger .now) && allFit (x .t) (x .ledger .now)) ≡ c .report-channels .result .fits
+    (ledgerFits (x .t) (x .ledger .now) && channelsFitTogether (x .t) (x .ledger .now)) ≡ c .report-channels .result .fits
 told c =
     let x = c .before .before .before .before .before .before .args in
-    sym (ap (λ (v : FitReport). v .fits) (c .report-channels .ensures) ∙ fits-where (ledgerFits (x .t) (x .ledger .now) && allFit (x .t) (x .ledger .now)) (x .t))
+    sym (ap (λ (v : FitReport). v .fits) (c .report-channels .ensures) ∙ fits-where (ledgerFits (x .t) (x .ledger .now) && channelsFitTogether (x .t) (x .ledger .now)) (x .t))
 
 returns-3 : tie.Need-returns-3
 unfolding reportOf
@@ -83,7 +83,7 @@ returns-3 c =
 
 -- the channels fit, and the test of their count is FIT's
 all-fit : (c : tie.Else3) → let x = c .before .before .before .before .before .before .before .before .args in
-    (ledgerFits (x .t) (x .ledger .now) && allFit (x .t) (x .ledger .now)) ≡ true
+    (ledgerFits (x .t) (x .ledger .now) && channelsFitTogether (x .t) (x .ledger .now)) ≡ true
 all-fit c = let s = c .before .before in told s ∙ not-false (s .report-channels .result .fits) (c .if3 .left)
 
 count-told : (c : tie.After-count-fits) → c .count-fits .result ≡ countFits (c .before .before .before .before .before .before .before .before .before .args .t)
@@ -91,7 +91,7 @@ count-told c =
     let e = c .before in
     let s = e .before .before in
     let x = s .before .before .before .before .before .before .args in
-    let b = ledgerFits (x .t) (x .ledger .now) && allFit (x .t) (x .ledger .now) in
+    let b = ledgerFits (x .t) (x .ledger .now) && channelsFitTogether (x .t) (x .ledger .now) in
     c .count-fits .ensures (x .t) refl (sym (ap (λ (v : FitReport). v .used) (s .report-channels .ensures) ∙ used-where b (x .t) (all-fit e)))
 
 count-fits-requires : tie.Need-count-fits-requires

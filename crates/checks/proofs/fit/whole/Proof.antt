@@ -2,7 +2,7 @@
 use mathlib.Core.Path.{_∙_}
 use borrow.Author.Needs.{needs}
 use borrow.Author.Tests.{eq-eqb, ne-eqb}
-use Rattle.checks.specs.ReportOf.{reportIn}
+use Rattle.checks.specs.ReportOf.{reportWithFile}
 use Rattle.checks.proofs.fit.whole.Statement.{statement}
 use Rattle.checks.proofs.fit.whole.Tie as tie
 
@@ -10,7 +10,7 @@ unfit-requires : tie.Need-unfit-requires
 unfit-requires c κs = search needs
 
 returns : tie.Need-returns
-unfolding reportIn
+unfolding reportWithFile
 returns c =
     let f = c .before in
     let x = f .before .before .before .args in
@@ -20,7 +20,7 @@ fit-report-requires : tie.Need-fit-report-requires
 fit-report-requires c κs = search needs
 
 returns-2 : tie.Need-returns-2
-unfolding reportIn
+unfolding reportWithFile
 returns-2 c =
     let f = c .before in
     let x = f .before .before .before .args in

@@ -1,7 +1,7 @@
 -- `fit::without_file`.
 use mathlib.Core.Path.{ap, _∙_}
 use borrow.Author.Needs.{needs}
-use Rattle.transfer.specs.Fit.{fitsLedger}
+use Rattle.transfer.specs.Fit.{fitsWithoutFile}
 use Rattle.checks.specs.ReportOf.{reportOf}
 use Rattle.channelchecks.specs.declared.report.FitReport.{FitReport}
 use Rattle.channelchecks.proofs.FitReportFields.{fits-where}
@@ -15,7 +15,7 @@ returns : tie.Need-returns
 unfolding reportOf
 returns c =
     let x = c .before .before .args in
-    ap (λ (s : FitReport). s .fits) (c .fit-report .ensures) ∙ fits-where (fitsLedger (x .t) (x .ledger .now)) (x .t)
+    ap (λ (s : FitReport). s .fits) (c .fit-report .ensures) ∙ fits-where (fitsWithoutFile (x .t) (x .ledger .now)) (x .t)
 
 pub without-file-spec : {M : Type 1} → statement M
 without-file-spec = tie.close (tie.spec fit-report-requires returns)

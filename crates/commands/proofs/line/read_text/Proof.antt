@@ -7,8 +7,8 @@ use native.Mathlib.Omega.{arith}
 use borrow.Author.Needs.{needs}
 use lib.ListN.{length, take}
 use lib.Seq.{length-take-le}
-use Rattle.octets.specs.Text.{isLetter, leading}
-use Rattle.commands.specs.Line.{takesNoArgument, verbNumber, verbOf, hasVerb, argumentAt}
+use Rattle.octets.specs.Text.{isLetter, leadingCount}
+use Rattle.commands.specs.Line.{takesNoArgument, verbNumber, verbOf, hasVerb, argumentStart}
 use Rattle.octets.proofs.Texts.{leading-le}
 use Rattle.commands.proofs.Lines.{argument-is, argument-within, argument-none, command-is, text-unlisted, text-not-ended, verb-ends, verb-then-space, text-verb-only, text-more, text-missing, text-argument}
 use Rattle.commands.proofs.line.read_text.Statement.{statement}
@@ -25,14 +25,14 @@ unfolding verbOf
 verb-is d = d .verb-number .ensures ∙ ap (λ n. verbNumber (take n (textAt d))) (d .before .before .leading .ensures)
 
 -- nothing follows the verb
-ends : (c : tie.Then2) → leading isLetter (textAt (c .before .before)) ≡ length (textAt (c .before .before))
+ends : (c : tie.Then2) → leadingCount isLetter (textAt (c .before .before)) ≡ length (textAt (c .before .before))
 ends c = omega (arith, c .before .before .before .before .leading .ensures)
 
 ends-has-verb : (c : tie.Then2) → hasVerb (textAt (c .before .before)) ≡ true
 ends-has-verb c = verb-ends (textAt (c .before .before)) (omega (arith, verb-is (c .before .before))) (ends c)
 
 -- more follows it
-goes-on : (c : tie.Else2) → leading isLetter (textAt (c .before .before)) < length (textAt (c .before .before))
+goes-on : (c : tie.Else2) → leadingCount isLetter (textAt (c .before .before)) < length (textAt (c .before .before))
 goes-on c =
     let r = c .before .before .before .before in
     omega (arith, run-within r, r .leading .ensures)
@@ -48,7 +48,7 @@ takes-argument : (c : tie.Else5) → takesNoArgument (verbOf (textAt (c .before 
 takes-argument c = ap takesNoArgument (sym (verb-is (c .before .before .before .before .before .before))) ∙ sym (c .before .takes-no-argument2 .ensures) ∙ c .if5 .left
 
 from-is : (c : tie.After-leading2) → let d = c .before .before .before .before .before .before .before .before in
-    d .before .before .leading .result + c .leading2 .result ≡ argumentAt (textAt d)
+    d .before .before .leading .result + c .leading2 .result ≡ argumentStart (textAt d)
 from-is c =
     let d = c .before .before .before .before .before .before .before .before in
     argument-is (textAt d) (d .before .before .leading .result) (c .leading2 .result) (d .before .before .leading .ensures) (c .leading2 .ensures)

@@ -5,13 +5,13 @@ use mathlib.Core.List.{map}
 use native.Mathlib.Omega.{arith}
 use borrow.Author.Needs.{needs}
 use lib.ListN.{drop}
-use Rattle.commands.specs.Line.{upper, verbs, numberFrom, verbNumber}
+use Rattle.commands.specs.Line.{upper, verbs, verbNumberFrom, verbNumber}
 use Rattle.commands.proofs.VerbTable.{number-from-found, number-from-next}
 use Rattle.commands.proofs.line.verb_number.Statement.{statement}
 use Rattle.commands.proofs.line.verb_number.Tie as tie
 
 abbrev Inv-loop : tie.InvT-loop
-Inv-loop word v₀ v = (v ≤ 12) × (numberFrom (v + 1) (drop v verbs) (map upper word) ≡ verbNumber word)
+Inv-loop word v₀ v = (v ≤ 12) × (verbNumberFrom (v + 1) (drop v verbs) (map upper word) ≡ verbNumber word)
 
 abbrev μ-loop : tie.MeasureT-loop
 μ-loop word v₀ v = 12 - v
@@ -49,7 +49,7 @@ loop-again c =
     (omega arith, sym g ∙ l .loop .inv .1)
 
 returns-2 : tie.Need-returns-2 Inv-loop μ-loop
-unfolding numberFrom
+unfolding verbNumberFrom
 returns-2 c =
     let l = c .before in
     let e : l .loop .v ≡ 12 = omega arith in

@@ -4,7 +4,7 @@ use native.Mathlib.Omega.{arith}
 use lib.ListN.{drop}
 use lib.Seq.{take-take}
 use borrow.Author.Needs.{needs}
-use Rattle.octets.specs.Digits.{fromBig}
+use Rattle.octets.specs.Digits.{fromBigEndian}
 use Rattle.eblock.specs.Header.{descriptorOf, secondOf, thirdOf, refusalOf}
 use Rattle.eblock.specs.declared.header.Header.the-variants.{Eodc}
 use Rattle.eblock.proofs.HeaderAnswers.{reads-21, reads-refused, reads-meant, meant-count, meant-data}
@@ -14,7 +14,7 @@ use Rattle.eblock.proofs.header.read.Tie as tie
 -- what the code calls third is the third field
 third-is : (c : tie.After-read) → c .read .result ≡ thirdOf (c .before .before .before .before .before .args .bytes .now)
 unfolding thirdOf
-third-is c = c .read .ensures ∙ ap (fromBig 256) (take-take 8 8 (drop 9 (c .before .before .before .before .before .args .bytes .now)) (omega arith))
+third-is c = c .read .ensures ∙ ap (fromBigEndian 256) (take-take 8 8 (drop 9 (c .before .before .before .before .before .args .bytes .now)) (omega arith))
 
 -- and what it calls k is the number by which the bytes are refused
 number-is : (c : tie.After-refusal) → let h = c .before .before .before .before .before .before .args .bytes .now in
@@ -78,7 +78,7 @@ returns-4 c =
     let h = r .before .before .before .before .before .before .args .bytes .now in
     let m = reads-meant h (r .before .before .before .before .if1 .left) (omega (arith, number-is r)) in
     let n = sym (e .before .has .ensures) ∙ e .if3 .left in
-    let second : c .read2 .result ≡ secondOf h = c .read2 .ensures ∙ ap (fromBig 256) (take-take 8 8 (drop 1 h) (omega arith)) in
+    let second : c .read2 .result ≡ secondOf h = c .read2 .ensures ∙ ap (fromBigEndian 256) (take-take 8 8 (drop 1 h) (omega arith)) in
     rw (second, third-is (r .before)) (sym (m ∙ meant-data (descriptorOf h) (secondOf h) (thirdOf h) n))
 
 pub read-spec : {M : Type 1} → statement M

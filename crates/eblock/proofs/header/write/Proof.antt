@@ -4,9 +4,9 @@ use native.Mathlib.Omega.{arith}
 use lib.ListN.{length, set, take, drop, length-set, length-take, length-drop}
 use borrow.Author.Needs.{needs}
 use borrow.Rule.Slice.PartMut.{putMid}
-use Rattle.octets.specs.Digits.{toBig}
+use Rattle.octets.specs.Digits.{toBigEndian}
 use Rattle.answers.proofs.WrittenBy.{refused, written}
-use Rattle.eblock.specs.Header.{headerLength, headerBytes, secondField, writeNumber, writeOf, writeAfter}
+use Rattle.eblock.specs.Header.{headerLength, headerBytes, secondField, writeRefusal, writeOf, writeAfter}
 use Rattle.eblock.proofs.HeaderAnswers.{number-refused, number-55, number-0}
 use Rattle.eblock.proofs.HeaderFields.{length-bytesOf}
 use Rattle.eblock.proofs.HeaderStores.{placed}
@@ -81,8 +81,8 @@ returns-3 c =
     let o₂ = putMid 1 8 o₁ (w₁ .write .last .1 .0) in
     let l₂ : length o₂ ≡ length o₁ = omega arith in
     let n₂ : length (take 8 (drop 9 o₂)) ≡ 8 = simp (length-take, length-drop) (omega (arith, l₂, length-set (x .out .now) 0 (x .d))) in
-    let ys : w₁ .write .last .1 .0 ≡ toBig 256 8 (secondField (x .d) (x .length)) = w₁ .write .ensures ∙ rw (n₁, f .second-field .ensures) in
-    let zs : w₂ .write2 .last .1 .0 ≡ toBig 256 8 (x .third) = w₂ .write2 .ensures ∙ rw n₂ in
+    let ys : w₁ .write .last .1 .0 ≡ toBigEndian 256 8 (secondField (x .d) (x .length)) = w₁ .write .ensures ∙ rw (n₁, f .second-field .ensures) in
+    let zs : w₂ .write2 .last .1 .0 ≡ toBigEndian 256 8 (x .third) = w₂ .write2 .ensures ∙ rw n₂ in
     let s = secondField (x .d) (x .length) in
     let h = written _ headerLength (headerBytes (x .d) s (x .third)) (x .out .now) (number-0 (x .d) (x .third) (x .out .now) (omega (arith, r .refusal .ensures)) (omega arith)) in
     let l = length-bytesOf (x .d) s (x .third) in

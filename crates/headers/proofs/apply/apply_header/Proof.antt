@@ -8,7 +8,7 @@ use Rattle.transfer.specs.declared.state.Transfer.{Transfer}
 use Rattle.transfer.specs.Channel.{putCount}
 use Rattle.transfer.specs.Transfer.{usedOf}
 use Rattle.transfer.specs.Header.{requestOf}
-use Rattle.headers.specs.Request.{headerRequest}
+use Rattle.headers.specs.Request.{toHeaderRequest}
 use Rattle.channels.specs.ChannelState.{writeBack}
 use Rattle.channels.specs.OtherChannels.{CountsOthers}
 use Rattle.headers.specs.declared.judge.Request.{Request}
@@ -26,12 +26,12 @@ abbrev begun : tie.After-judge-header → tie.Start
 begun c = c .before .before .before .before .before
 
 -- the request that the code has, by the numbers that it has
-asks : (c : tie.After-judge-header) (q : Request) → c .judge-header .result ≡ q → let x = begun c .args in headerRequest q ≡ requestOf (x .o .len) (x .x .count) (x .o .used + 1) (x .head .now)
-asks c q e = ap headerRequest (sym e) ∙ c .judge-header .ensures
+asks : (c : tie.After-judge-header) (q : Request) → c .judge-header .result ≡ q → let x = begun c .args in toHeaderRequest q ≡ requestOf (x .o .len) (x .x .count) (x .o .used + 1) (x .head .now)
+asks c q e = ap toHeaderRequest (sym e) ∙ c .judge-header .ensures
 
 -- it is what the header asks for, in a transfer of which x is a channel
 asks-for : (c : tie.After-judge-header) (q : Request) → c .judge-header .result ≡ q → (t : Transfer) → let x = begun c .args in CountsOthers t (x .c) (x .o) → x .x .state ≡ 1
-    → headerRequest q ≡ requestOf (writeBack t (x .c) (x .x) .len) (writeBack t (x .c) (x .x) .count) (usedOf (writeBack t (x .c) (x .x))) (x .head .now)
+    → toHeaderRequest q ≡ requestOf (writeBack t (x .c) (x .x) .len) (writeBack t (x .c) (x .x) .count) (usedOf (writeBack t (x .c) (x .x))) (x .head .now)
 asks-for c q e t a i = let x = begun c .args in asks c q e ∙ write-back-asked t (x .c) (x .o) a (x .x) (x .head .now) i
 
 element-copy-out-has : tie.Need-element-copy-out-has
@@ -46,29 +46,29 @@ judge-header-requires c κs = search needs
 enum-known-k : tie.Need-enum-known-k
 enum-known-k c = search needs
 
-cast-with-fault : tie.Need-cast-with-fault
-cast-with-fault c = search needs
+cast-cleared-with-fault : tie.Need-cast-cleared-with-fault
+cast-cleared-with-fault c = search needs
 
-with-fault-requires : tie.Need-with-fault-requires
-with-fault-requires c κs = search needs
+cleared-with-fault-requires : tie.Need-cleared-with-fault-requires
+cleared-with-fault-requires c κs = search needs
 
 enum-known-n : tie.Need-enum-known-n
 enum-known-n c = search needs
 
-open-requires : tie.Need-open-requires
-open-requires c κs = search needs
+expect-payload-requires : tie.Need-expect-payload-requires
+expect-payload-requires c κs = search needs
 
 enum-told : tie.Need-enum-told
 enum-told c = search needs
 
-open-requires-2 : tie.Need-open-requires-2
-open-requires-2 c κs = search needs
+expect-payload-requires-2 : tie.Need-expect-payload-requires-2
+expect-payload-requires-2 c κs = search needs
 
 enum-known-start : tie.Need-enum-known-start
 enum-known-start c = search needs
 
-claim-range-requires : tie.Need-claim-range-requires
-claim-range-requires c κs =
+claim-or-fault-requires : tie.Need-claim-or-fault-requires
+claim-or-fault-requires c κs =
     let r = c .before .before in
     let a = r .before .before in
     let b = begun a in
@@ -83,7 +83,7 @@ returns c i o t file a n =
     let q = r .before .before in
     let x = begun q .args in
     let k = r .k .given .0 .0 in
-    leaves-fault (writeBack t (x .c) (x .x)) (writeBack t (x .c) (c .with-fault .result)) (x .c) file (x .ledger .now) k (ap (writeBack t (x .c)) (c .with-fault .ensures) ∙ write-back-fault t (x .c) (x .o) a (x .x) (sixteen (begun q)) k)
+    leaves-fault (writeBack t (x .c) (x .x)) (writeBack t (x .c) (c .cleared-with-fault .result)) (x .c) file (x .ledger .now) k (ap (writeBack t (x .c)) (c .cleared-with-fault .ensures) ∙ write-back-fault t (x .c) (x .o) a (x .x) (sixteen (begun q)) k)
     ∙ apply-fault (writeBack t (x .c) (x .x)) file (x .ledger .now) (x .c) (x .head .now) k (asks-for q (Faulty k) (r .k .given .1) t a i)
 
 returns-2 : tie.Need-returns-2
@@ -94,14 +94,14 @@ returns-2 c i o t file a n =
     let x = begun q .args in
     let m = r .n .given .0 .0 in
     apply-count (writeBack t (x .c) (x .x)) file (x .ledger .now) (x .c) (x .head .now) _ _ (q .before .before .has .ensures) m (asks-for q (Counts m) (r .n .given .1) t a i)
-    (c .«open» .ensures (omega (arith, i)) t file (x .ledger .now) a)
+    (c .expect-payload .ensures (omega (arith, i)) t file (x .ledger .now) a)
 
 returns-3 : tie.Need-returns-3
 returns-3 c i o t file a n =
     let q = c .before .before .before in
     let x = begun q .args in
     apply-nothing (writeBack t (x .c) (x .x)) file (x .ledger .now) (x .c) (x .head .now) _ _ (q .before .before .has .ensures) (asks-for q Nothing (c .before .enum-told .given .1) t a i)
-    (c .open2 .ensures (omega (arith, i)) t file (x .ledger .now) a)
+    (c .expect-payload2 .ensures (omega (arith, i)) t file (x .ledger .now) a)
 
 same-length : tie.Need-same-length
 same-length c = search needs
@@ -115,7 +115,7 @@ returns-4 c i o t file a n =
     let s = r .start .given .0 .0 in
     let e = r .start .given .0 .1 .0 in
     apply-claim (writeBack t (x .c) (x .x)) file (x .ledger .now) (x .c) (x .head .now) _ _ (q .before .before .has .ensures) s e (asks-for q (Claims s e) (r .start .given .1) t a i)
-    (k .claim-range .ensures (omega (arith, i)) o t file a n)
+    (k .claim-or-fault .ensures (omega (arith, i)) o t file a n)
 
 pub apply-header-spec : {M : Type 1} → statement M
 apply-header-spec =
@@ -125,14 +125,14 @@ apply-header-spec =
     has-requires
     judge-header-requires
     enum-known-k
-    cast-with-fault
-    with-fault-requires
+    cast-cleared-with-fault
+    cleared-with-fault-requires
     enum-known-n
-    open-requires
+    expect-payload-requires
     enum-told
-    open-requires-2
+    expect-payload-requires-2
     enum-known-start
-    claim-range-requires
+    claim-or-fault-requires
     returns
     returns-2
     returns-3

@@ -7,7 +7,7 @@ use borrow.Author.Tests.{lt-ltb, le-ltb}
 use lib.Dec.{ltb}
 use lib.ListN.{drop}
 use lib.Seq.{take-take}
-use Rattle.octets.specs.Digits.{fromBig}
+use Rattle.octets.specs.Digits.{fromBigEndian}
 use Rattle.eblock.specs.Descriptor.{faultOf}
 use Rattle.eblock.specs.Header.{descriptorOf, secondOf, thirdOf}
 use Rattle.transfer.specs.Header.{requestOf}
@@ -19,11 +19,11 @@ no-fault c = le-ltb 0 (faultOf (descriptorOf (c .before .before .before .before 
 
 third-is : (c : tie.After-read) → c .read .result ≡ thirdOf (c .before .before .before .before .before .before .args .head .now)
 unfolding thirdOf
-third-is c = c .read .ensures ∙ ap (fromBig 256) (take-take 8 8 (drop 9 (c .before .before .before .before .before .before .args .head .now)) (omega arith))
+third-is c = c .read .ensures ∙ ap (fromBigEndian 256) (take-take 8 8 (drop 9 (c .before .before .before .before .before .before .args .head .now)) (omega arith))
 
 second-is : (c : tie.After-read2) → c .read2 .result ≡ secondOf (c .before .before .before .before .before .before .before .before .before .before .args .head .now)
 unfolding secondOf
-second-is c = c .read2 .ensures ∙ ap (fromBig 256) (take-take 8 8 (drop 1 (c .before .before .before .before .before .before .before .before .before .before .args .head .now)) (omega arith))
+second-is c = c .read2 .ensures ∙ ap (fromBigEndian 256) (take-take 8 8 (drop 1 (c .before .before .before .before .before .before .before .before .before .before .args .head .now)) (omega arith))
 
 shared-slice-read-d : tie.Need-shared-slice-read-d
 shared-slice-read-d c = search needs

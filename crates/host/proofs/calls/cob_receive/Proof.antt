@@ -6,9 +6,9 @@ use Rattle.transfer.specs.declared.state.Transfer.{Transfer}
 use Rattle.transfer.specs.Transfer.{World, world, verdictOf}
 use Rattle.transfer.specs.Receive.{Answer, receiveOf}
 use Rattle.receiver.specs.declared.receive.Answer.{Answer as Answered}
-use Rattle.receiver.specs.Answers.{answerOf}
+use Rattle.receiver.specs.Answers.{toAnswer}
 use Rattle.host.specs.declared.calls.Received.{Received}
-use Rattle.host.specs.Received.{wordNumber, takenIn, numberIn, receivedBy}
+use Rattle.host.specs.Received.{verdictCode, takenIn, refusalIn, receivedBy}
 use borrow.Author.Needs.{needs}
 use Rattle.host.proofs.calls.cob_receive.Statement.{statement}
 use Rattle.host.proofs.calls.cob_receive.Tie as tie
@@ -18,15 +18,15 @@ abbrev received : Transfer → ℕ → ℕ → ℕ → Received
 received t taken verdict refused = record { transfer = t; taken = taken; verdict = verdict; refused = refused }
 
 -- the fields of what a call left, by the answer that was told, and what it left of file and ledger
-leaves : {t : Transfer} {file ledger : List ℕ} {answer told : Answered} {x : Answer × World} {v : ℕ} → (answerOf answer, world t file ledger) ≡ x
-    → v ≡ wordNumber (verdictOf (world t file ledger)) → answer ≡ told
-    → (received t (takenIn (answerOf told)) v (numberIn (answerOf told)) ≡ receivedBy x) × (file ≡ x .1 .lent .file) × (ledger ≡ x .1 .lent .claimed)
+leaves : {t : Transfer} {file ledger : List ℕ} {answer told : Answered} {x : Answer × World} {v : ℕ} → (toAnswer answer, world t file ledger) ≡ x
+    → v ≡ verdictCode (verdictOf (world t file ledger)) → answer ≡ told
+    → (received t (takenIn (toAnswer told)) v (refusalIn (toAnswer told)) ≡ receivedBy x) × (file ≡ x .1 .lent .file) × (ledger ≡ x .1 .lent .ledger)
 leaves e v told = rw (v, ← e, told) (refl, refl, refl)
 
-abbrev called : tie.After-word-number → tie.After-receive
+abbrev called : tie.After-verdict-code → tie.After-receive
 called w = w .before .before .before .before .before .before .before
 
-abbrev left : tie.After-word-number → Answer × World
+abbrev left : tie.After-verdict-code → Answer × World
 left w =
     let a = called w .before .before .before .before .before .before .args in
     receiveOf (world (a .transfer) (a .file .now) (a .ledger .now)) (a .channel) (a .piece .now)
@@ -34,8 +34,8 @@ left w =
 receive-requires : tie.Need-receive-requires
 receive-requires c κs = search needs
 
-word-number-requires : tie.Need-word-number-requires
-word-number-requires c κs = search needs
+verdict-code-requires : tie.Need-verdict-code-requires
+verdict-code-requires c κs = search needs
 
 enum-known-answer : tie.Need-enum-known-answer
 enum-known-answer c = search needs
@@ -53,7 +53,7 @@ returns : tie.Need-returns
 returns c =
     let w = c .before .before .before in
     let r = called w .receive .ensures in
-    leaves {x = left w} (r .0) (w .word-number .ensures ∙ ap wordNumber (r .1)) (c .before .answer .given .1)
+    leaves {x = left w} (r .0) (w .verdict-code .ensures ∙ ap verdictCode (r .1)) (c .before .answer .given .1)
 
 same-length-3 : tie.Need-same-length-3
 same-length-3 c = search needs
@@ -65,14 +65,14 @@ returns-2 : tie.Need-returns-2
 returns-2 c =
     let w = c .before .before .before in
     let r = called w .receive .ensures in
-    leaves {x = left w} (r .0) (w .word-number .ensures ∙ ap wordNumber (r .1)) (c .before .answer2 .given .1)
+    leaves {x = left w} (r .0) (w .verdict-code .ensures ∙ ap verdictCode (r .1)) (c .before .answer2 .given .1)
 
 pub cob-receive-spec : {M : Type 1} → statement M
 cob-receive-spec =
     tie.close
     (tie.spec
     receive-requires
-    word-number-requires
+    verdict-code-requires
     enum-known-answer
     enum-known-answer-2
     same-length

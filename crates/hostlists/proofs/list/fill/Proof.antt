@@ -2,14 +2,14 @@
 use Prim.Native.Nat.{ℕ}
 use mathlib.Core.Path.{_≡_, sym, ap, _∙_}
 use borrow.Author.Needs.{needs}
-use Rattle.hostlists.specs.HostList.{clearAfter, count, fillOf, fillAfter}
+use Rattle.hostlists.specs.HostList.{clearedFrom, count, fillOf, fillAfter}
 use Rattle.hostlists.proofs.HostList.{fills-short, fills}
 use Rattle.hostlists.proofs.list.fill.Statement.{statement}
 use Rattle.hostlists.proofs.list.fill.Tie as tie
 
 -- what is left of clearing from an entry on, where so many host-ports were stored
 left : (c : tie.After-store) (n : ℕ) → count (c .store .result) ≡ n → let x = c .before .before .before .before .before .args in
-    (c .store .result ≡ fillOf (x .text .now) (x .list .now)) × (clearAfter n (c .store .last .1 .0) ≡ fillAfter (x .text .now) (x .list .now))
+    (c .store .result ≡ fillOf (x .text .now) (x .list .now)) × (clearedFrom n (c .store .last .1 .0) ≡ fillAfter (x .text .now) (x .list .now))
 left c n e =
     let x = c .before .before .before .before .before .args in
     fills (x .text .now) (x .list .now) (c .store .last .1 .0) (c .store .result) n (c .before .before .if1 .left) (c .store .kept .1 .0) (c .store .ensures) e

@@ -6,7 +6,7 @@ use borrow.Author.Needs.{needs}
 use lib.ListN.{length, take, drop, length-drop}
 use lib.Seq.{length-take-le}
 use Rattle.octets.specs.Decimal.{readOf}
-use Rattle.octets.specs.Text.{isDigit, leading}
+use Rattle.octets.specs.Text.{isDigit, leadingCount}
 use Rattle.octets.proofs.Texts.{leading-le}
 use Rattle.hostports.specs.HostPort.{valueLimit}
 use Rattle.hostports.proofs.HostPort.{rest-is, parsedOf, number-past, number-long, number-short}
@@ -14,13 +14,13 @@ use Rattle.hostports.proofs.host_port.number_at.Statement.{statement}
 use Rattle.hostports.proofs.host_port.number_at.Tie as tie
 
 -- what the code calls k is how many digits there are at the place
-run-is : (c : tie.After-leading) → let x = c .before .before .before .before .args in c .leading .result ≡ leading isDigit (drop (x .at) (x .text .now))
+run-is : (c : tie.After-leading) → let x = c .before .before .before .before .args in c .leading .result ≡ leadingCount isDigit (drop (x .at) (x .text .now))
 run-is c =
     let x = c .before .before .before .before .args in
     c .leading .ensures ∙ rw (rest-is (x .text .now) (x .at))
 
 read-is : (c : tie.After-read) → let x = c .before .before .before .before .before .before .before .args in let s = drop (x .at) (x .text .now) in
-    c .read .result ≡ readOf (take (leading isDigit s) s) valueLimit
+    c .read .result ≡ readOf (take (leadingCount isDigit s) s) valueLimit
 read-is c =
     let r = c .before .before .before in
     let x = r .before .before .before .before .args in

@@ -5,13 +5,13 @@ use mathlib.Core.Bool.{_&&_}
 use native.Mathlib.Omega.{arith}
 use lib.Dec.{eqb}
 use lib.ListN.{length, drop}
-use Rattle.ledger.specs.Ledger.{zeros}
+use Rattle.ledger.specs.Ledger.{allZero}
 use Rattle.ledger.proofs.Zeros.{gathers, gathered}
 use Rattle.ledger.proofs.rule.all_zero.Statement.{statement}
 use Rattle.ledger.proofs.rule.all_zero.Tie as tie
 
 abbrev Inv-loop : tie.InvT-loop
-Inv-loop entries any₀ i₀ any i = (i ≤ length entries) × ((eqb any 0 && zeros (drop i entries)) ≡ zeros entries)
+Inv-loop entries any₀ i₀ any i = (i ≤ length entries) × ((eqb any 0 && allZero (drop i entries)) ≡ allZero entries)
 
 abbrev μ-loop : tie.MeasureT-loop
 μ-loop entries any₀ i₀ any i = length entries - i
@@ -35,13 +35,13 @@ loop-again : tie.Need-loop-again Inv-loop μ-loop
 loop-again c =
     let l = c .before .before in
     let s = l .before .args .entries .now in
-    (omega arith, gathers s (l .loop .i) (l .loop .any) (zeros s) (l .loop .inv .1) (omega arith))
+    (omega arith, gathers s (l .loop .i) (l .loop .any) (allZero s) (l .loop .inv .1) (omega arith))
 
 returns : tie.Need-returns Inv-loop μ-loop
 returns c =
     let l = c .before in
     let s = l .before .args .entries .now in
-    gathered s (l .loop .i) (l .loop .any) (zeros s) (l .loop .inv .1) (c .loop-test .left)
+    gathered s (l .loop .i) (l .loop .any) (allZero s) (l .loop .inv .1) (c .loop-test .left)
 
 pub all-zero-spec : {M : Type 1} → statement M
 all-zero-spec =

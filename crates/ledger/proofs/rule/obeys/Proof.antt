@@ -8,7 +8,7 @@ use borrow.Author.Tests.{ne-eqb, not-true, not-false}
 use lib.Dec.{leb, ltb, eqb}
 use lib.ListN.{length, getD, drop, length-drop}
 use lib.Seq.{take-all}
-use Rattle.ledger.specs.Ledger.{zeros, obeys}
+use Rattle.ledger.specs.Ledger.{allZero, obeys}
 use Rattle.ledger.proofs.LedgerPairAt.{lowest, lowest-follows, sound, sound-unused, sound-not, sound-above, sound-on, sound-over}
 use Rattle.ledger.proofs.rule.obeys.Statement.{statement}
 use Rattle.ledger.proofs.rule.obeys.Tie as tie
@@ -74,7 +74,7 @@ returns c =
     let s = x .ledger .now in
     let e = sound-unused (lowest (l .loop .end)) (x .limit) s (l .loop .i) (omega arith) (t .if1 .taken) in
     let n : length (drop (l .loop .i) s) ≤ length s - l .loop .i = simp length-drop (omega arith) in
-    c .zero-pairs .ensures ∙ ap (λ r. zeros r && eqb (length r % 2) 0) (take-all (length s - l .loop .i) (drop (l .loop .i) s) n) ∙ sym e ∙ l .loop .inv .1
+    c .zero-pairs .ensures ∙ ap (λ r. allZero r && eqb (length r % 2) 0) (take-all (length s - l .loop .i) (drop (l .loop .i) s) n) ∙ sym e ∙ l .loop .inv .1
 
 may-follow-requires : tie.Need-may-follow-requires Inv-loop μ-loop
 may-follow-requires c κs = search needs

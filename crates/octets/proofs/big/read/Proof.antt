@@ -4,13 +4,13 @@ use mathlib.Core.Path.{_≡_, refl, ap, _∙_}
 use native.Mathlib.Omega.{arith}
 use borrow.Author.Needs.{needs}
 use lib.ListN.{getD, take}
-use Rattle.octets.specs.Digits.{fromBig, fromLittle}
-use Rattle.octets.proofs.Turn.{room, grows, big-more, take-eight}
+use Rattle.octets.specs.Digits.{fromBigEndian, fromLittleEndian}
+use Rattle.octets.proofs.LoopStep.{room, grows, big-more, take-eight}
 use Rattle.octets.proofs.big.read.Statement.{statement}
 use Rattle.octets.proofs.big.read.Tie as tie
 
 abbrev Inv-loop : tie.InvT-loop
-Inv-loop bytes w n₀ i₀ n i = (i ≤ w) × (n < 256 ^ i) × (n ≡ fromBig 256 (take i bytes))
+Inv-loop bytes w n₀ i₀ n i = (i ≤ w) × (n < 256 ^ i) × (n ≡ fromBigEndian 256 (take i bytes))
 
 abbrev μ-loop : tie.MeasureT-loop
 μ-loop bytes w n₀ i₀ n i = w - i
@@ -19,7 +19,7 @@ eight-at-most-requires : tie.Need-eight-at-most-requires Inv-loop μ-loop
 eight-at-most-requires c κs = search needs
 
 loop-holds : tie.Need-loop-holds Inv-loop μ-loop
-unfolding fromBig fromLittle
+unfolding fromBigEndian fromLittleEndian
 loop-holds c = (omega arith, omega arith, refl)
 
 mul-n : tie.Need-mul-n Inv-loop μ-loop
@@ -55,7 +55,7 @@ loop-again c =
 returns : tie.Need-returns Inv-loop μ-loop
 returns c =
     let l = c .before in
-    l .loop .inv .2 ∙ ap (fromBig 256) (take-eight (l .before .before .before .args .bytes .now) (l .loop .i) (omega arith))
+    l .loop .inv .2 ∙ ap (fromBigEndian 256) (take-eight (l .before .before .before .args .bytes .now) (l .loop .i) (omega arith))
 
 pub read-spec : {M : Type 1} → statement M
 read-spec =

@@ -2,13 +2,13 @@
 use Prim.Native.Nat.{_+_, _≤_}
 use mathlib.Core.Path.{_≡_}
 use native.Mathlib.Omega.{arith}
-use Rattle.octets.specs.Decimal.{width}
+use Rattle.octets.specs.Decimal.{digitCount}
 use Rattle.octets.proofs.Decimals.{width-small, width-step}
 use Rattle.octets.proofs.decimal.length.Statement.{statement}
 use Rattle.octets.proofs.decimal.length.Tie as tie
 
 abbrev Inv-loop : tie.InvT-loop
-Inv-loop n w₀ m₀ w m = (w + width m ≡ width n + 1) × (w + m ≤ n + 1)
+Inv-loop n w₀ m₀ w m = (w + digitCount m ≡ digitCount n + 1) × (w + m ≤ n + 1)
 
 abbrev μ-loop : tie.MeasureT-loop
 μ-loop n w₀ m₀ w m = m

@@ -7,8 +7,8 @@ use borrow.Author.Needs.{needs}
 use borrow.Author.Tests.{le-ltb, not-true, not-false}
 use lib.ListN.{length, getD, take}
 use lib.Seq.{take-all}
-use Rattle.octets.specs.Digits.{fromBig, fromLittle}
-use Rattle.octets.specs.Decimal.{numberOf, digitValue, readOf}
+use Rattle.octets.specs.Digits.{fromBigEndian, fromLittleEndian}
+use Rattle.octets.specs.Decimal.{decimalValue, digitValue, readOf}
 use Rattle.octets.specs.Text.{isDigit, all}
 use Rattle.octets.proofs.Texts.{true-between, all-not, all-more}
 use Rattle.octets.proofs.Decimals.{numberOf-more, numberOf-above}
@@ -18,14 +18,14 @@ use Rattle.octets.proofs.decimal.read.Tie as tie
 
 abbrev Inv-loop : tie.InvT-loop
 Inv-loop text limit n₀ i₀ n i =
-    (i ≤ length text) × (n ≤ limit) × (all isDigit (take i text) ≡ true) × (n ≡ numberOf (take i text))
+    (i ≤ length text) × (n ≤ limit) × (all isDigit (take i text) ≡ true) × (n ≡ decimalValue (take i text))
 
 abbrev μ-loop : tie.MeasureT-loop
 μ-loop text limit n₀ i₀ n i = length text - i
 
 -- the byte at hand, where it is a digit
 digit : (c : tie.Else2 Inv-loop μ-loop) → let l = c .before .before .before .before in isDigit (getD (l .before .before .before .args .text .now) (l .loop .i) 0) ≡ true
-digit c = sym (c .before .is-of .ensures) ∙ not-false (c .before .is-of .result) (c .if2 .left)
+digit c = sym (c .before .is-of-kind .ensures) ∙ not-false (c .before .is-of-kind .result) (c .if2 .left)
 
 bounds : (c : tie.Else2 Inv-loop μ-loop) → let l = c .before .before .before .before in let b = getD (l .before .before .before .args .text .now) (l .loop .i) 0 in (48 ≤ b) × (b ≤ 57)
 bounds c =
@@ -34,7 +34,7 @@ bounds c =
 
 -- the number of the bytes up to the one at hand
 one-more : (c : tie.In-loop Inv-loop μ-loop) → let l = c .before in let s = l .before .before .before .args .text .now in
-    numberOf (take (l .loop .i + 1) s) ≡ l .loop .n * 10 + digitValue (getD s (l .loop .i) 0)
+    decimalValue (take (l .loop .i + 1) s) ≡ l .loop .n * 10 + digitValue (getD s (l .loop .i) 0)
 one-more c =
     let l = c .before in
     let s = l .before .before .before .args .text .now in
@@ -45,21 +45,21 @@ unfolding readOf
 returns c = rw (le-ltb 0 (length (c .before .before .args .text .now)) (omega arith))
 
 loop-holds : tie.Need-loop-holds Inv-loop μ-loop
-unfolding all numberOf fromBig fromLittle
+unfolding all decimalValue fromBigEndian fromLittleEndian
 loop-holds c = (omega arith, omega arith, refl, refl)
 
 shared-slice-read-b : tie.Need-shared-slice-read-b Inv-loop μ-loop
 shared-slice-read-b c = omega arith
 
-is-of-requires : tie.Need-is-of-requires Inv-loop μ-loop
-is-of-requires c κs = search needs
+is-of-kind-requires : tie.Need-is-of-kind-requires Inv-loop μ-loop
+is-of-kind-requires c κs = search needs
 
 returns-2 : tie.Need-returns-2 Inv-loop μ-loop
 returns-2 c =
     let d = c .before in
     let l = d .before .before .before in
     let x = l .before .before .before .args in
-    let n = sym (d .is-of .ensures) ∙ not-true (d .is-of .result) (c .if2 .taken) in
+    let n = sym (d .is-of-kind .ensures) ∙ not-true (d .is-of-kind .result) (c .if2 .taken) in
     sym (readOf-spoilt (x .text .now) (x .limit) (all-not isDigit (x .text .now) (l .loop .i) (omega arith) n))
 
 sub-d : tie.Need-sub-d Inv-loop μ-loop
@@ -110,7 +110,7 @@ returns-5 c =
     let x = l .before .before .before .args in
     let s = x .text .now in
     let w : take (l .loop .i) s ≡ s = take-all (l .loop .i) s (c .loop-test .left) in
-    let n : l .loop .n ≡ numberOf s = rw w at (l .loop .inv .3) in
+    let n : l .loop .n ≡ decimalValue s = rw w at (l .loop .inv .3) in
     rw n (sym (readOf-value s (x .limit) (omega arith) (rw w at (l .loop .inv .2)) (omega arith)))
 
 pub read-spec : {M : Type 1} → statement M
@@ -122,7 +122,7 @@ read-spec =
     returns
     loop-holds
     shared-slice-read-b
-    is-of-requires
+    is-of-kind-requires
     returns-2
     sub-d
     cast-d

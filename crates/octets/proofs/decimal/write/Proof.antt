@@ -5,10 +5,10 @@ use mathlib.Core.List.{_++_, append-nil}
 use native.Mathlib.Omega.{arith}
 use lib.ListN.{length, drop, length-set}
 use lib.Seq.{drop-length}
-use Rattle.octets.specs.Digits.{toBig, toLittle}
+use Rattle.octets.specs.Digits.{toBigEndian, toLittleEndian}
 use Rattle.octets.specs.Decimal.{inDigits, digitByte}
 use Rattle.octets.proofs.Decimals.{inDigits-suc}
-use Rattle.octets.proofs.Turn.{backwards}
+use Rattle.octets.proofs.LoopStep.{backwards}
 use Rattle.octets.proofs.decimal.write.Statement.{statement}
 use Rattle.octets.proofs.decimal.write.Tie as tie
 
@@ -51,7 +51,7 @@ same-length : tie.Need-same-length Inv-loop μ-loop
 same-length c = c .before .loop .inv .1
 
 returns : tie.Need-returns Inv-loop μ-loop
-unfolding inDigits toBig toLittle
+unfolding inDigits toBigEndian toLittleEndian
 returns c =
     let e : c .before .loop .i ≡ 0 = omega arith in
     rw e at (c .before .loop .inv .2)

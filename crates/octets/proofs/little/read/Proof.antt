@@ -5,13 +5,13 @@ use native.Mathlib.Omega.{arith}
 use native.Mathlib.Nat.{one-le-pow}
 use borrow.Author.Needs.{needs}
 use lib.ListN.{length, getD, take, drop, length-take, drop-of-length-le}
-use Rattle.octets.specs.Digits.{fromLittle}
-use Rattle.octets.proofs.Turn.{room, grows, little-more}
+use Rattle.octets.specs.Digits.{fromLittleEndian}
+use Rattle.octets.proofs.LoopStep.{room, grows, little-more}
 use Rattle.octets.proofs.little.read.Statement.{statement}
 use Rattle.octets.proofs.little.read.Tie as tie
 
 abbrev Inv-loop : tie.InvT-loop
-Inv-loop bytes n₀ i₀ n i = (i ≤ min 8 (length bytes)) × (n < 256 ^ (8 - i)) × (n ≡ fromLittle 256 (drop i (take 8 bytes)))
+Inv-loop bytes n₀ i₀ n i = (i ≤ min 8 (length bytes)) × (n < 256 ^ (8 - i)) × (n ≡ fromLittleEndian 256 (drop i (take 8 bytes)))
 
 abbrev μ-loop : tie.MeasureT-loop
 μ-loop bytes n₀ i₀ n i = i
@@ -20,7 +20,7 @@ eight-at-most-requires : tie.Need-eight-at-most-requires Inv-loop μ-loop
 eight-at-most-requires c κs = search needs
 
 loop-holds : tie.Need-loop-holds Inv-loop μ-loop
-unfolding fromLittle
+unfolding fromLittleEndian
 loop-holds c =
     let s = c .before .before .args .bytes .now in
     let h : length (take 8 s) ≤ c .eight-at-most .result = simp length-take (omega arith) in

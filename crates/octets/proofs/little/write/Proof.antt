@@ -7,26 +7,26 @@ use native.Mathlib.Nat.{sub-zero}
 use native.Mathlib.Numerals.{add-one}
 use lib.ListN.{length, set, take, length-set}
 use lib.Seq.{take-length}
-use Rattle.octets.specs.Digits.{toLittle}
-use Rattle.octets.proofs.Turn.{stored-after}
+use Rattle.octets.specs.Digits.{toLittleEndian}
+use Rattle.octets.proofs.LoopStep.{stored-after}
 use Rattle.octets.proofs.little.write.Statement.{statement}
 use Rattle.octets.proofs.little.write.Tie as tie
 
 abbrev Inv-loop : tie.InvT-loop
 Inv-loop n out₀ m₀ i₀ out m i =
-    (i ≤ length out) × (length out ≡ length out₀) × (take i out ++ toLittle 256 (length out - i) m ≡ toLittle 256 (length out₀) n)
+    (i ≤ length out) × (length out ≡ length out₀) × (take i out ++ toLittleEndian 256 (length out - i) m ≡ toLittleEndian 256 (length out₀) n)
 
 abbrev μ-loop : tie.MeasureT-loop
 μ-loop n out₀ m₀ i₀ out m i = length out - i
 
 -- the byte after those that are written
 turn : (out : List ℕ) (i m : ℕ) → i < length out
-    → take (i + 1) (set out i (m % 256)) ++ toLittle 256 (length (set out i (m % 256)) - (i + 1)) (m / 256)
-    ≡ take i out ++ toLittle 256 (length out - i) m
-unfolding toLittle
+    → take (i + 1) (set out i (m % 256)) ++ toLittleEndian 256 (length (set out i (m % 256)) - (i + 1)) (m / 256)
+    ≡ take i out ++ toLittleEndian 256 (length out - i) m
+unfolding toLittleEndian
 turn out i m h =
     let e : length out - i ≡ suc (length out - (i + 1)) = omega arith in
-    rw (length-set out i (m % 256), e, add-one i) (stored-after (toLittle 256 (length out - suc i) (m / 256)) out (m % 256) i h)
+    rw (length-set out i (m % 256), e, add-one i) (stored-after (toLittleEndian 256 (length out - suc i) (m / 256)) out (m % 256) i h)
 
 loop-holds : tie.Need-loop-holds Inv-loop μ-loop
 loop-holds c = (omega arith, refl, rw (sub-zero (length (c .args .out .now))))
@@ -55,7 +55,7 @@ same-length : tie.Need-same-length Inv-loop μ-loop
 same-length c = c .before .loop .inv .1
 
 returns : tie.Need-returns Inv-loop μ-loop
-unfolding toLittle
+unfolding toLittleEndian
 returns c =
     let l = c .before in
     let e : l .loop .i ≡ length (l .loop .out) = omega arith in

@@ -9,7 +9,7 @@ use lib.ListN.{length, take, drop, length-drop}
 use lib.Seq.{take-all, drop-drop}
 use Rattle.ledger.specs.Ledger.{obeys, pairsOf, capacity}
 use Rattle.rangelists.specs.RangeText.{merged, mergeRange, rangeOf, mergedFrom, parts, Represents}
-use Rattle.octets.specs.Text.{isNotComma, leading}
+use Rattle.octets.specs.Text.{isNotComma, leadingCount}
 use Rattle.octets.proofs.Texts.{leading-le}
 use Rattle.rangelists.proofs.RangeMerging.{represents-stopped, represents-done, walk-stop, walk-last, walk-next}
 use Rattle.rangelists.proofs.ranges.join_list.Statement.{statement}
@@ -25,12 +25,12 @@ abbrev μ-loop : tie.MeasureT-loop
 
 -- the comma that the code finds is the next one
 ends : (c : tie.After-leading Inv-loop μ-loop) → let k = c .before .before in let s = k .before .before .before .args .text .now in
-    c .leading .result ≡ leading isNotComma (drop (k .loop .at) s)
+    c .leading .result ≡ leadingCount isNotComma (drop (k .loop .at) s)
 ends c =
     let k = c .before .before in
     let s = k .before .before .before .args .text .now in
     let h : length (drop (k .loop .at) s) ≤ length s - k .loop .at = simp length-drop (omega arith) in
-    c .leading .ensures ∙ ap (leading isNotComma) (take-all (length s - k .loop .at) (drop (k .loop .at) s) h)
+    c .leading .ensures ∙ ap (leadingCount isNotComma) (take-all (length s - k .loop .at) (drop (k .loop .at) s) h)
 
 ends-le : (c : tie.After-leading Inv-loop μ-loop) → let k = c .before .before in let s = k .before .before .before .args .text .now in
     k .loop .at + c .leading .result ≤ length s
@@ -42,13 +42,13 @@ ends-le c =
 -- what was joined is the text up to that comma
 said : (c : tie.After-join-text Inv-loop μ-loop) → let k = c .before .before .before .before .before in let x = k .before .before .before .args in
     let d = drop (k .loop .at) (x .text .now) in
-    Represents (mergeRange (capacity (x .ledger .now)) (pairsOf (k .loop .ledger)) (rangeOf (take (leading isNotComma d) d)) merged) (c .join-text .result) (c .join-text .last .1 .0)
+    Represents (mergeRange (capacity (x .ledger .now)) (pairsOf (k .loop .ledger)) (rangeOf (take (leadingCount isNotComma d) d)) merged) (c .join-text .result) (c .join-text .last .1 .0)
 said c =
     let u = c .before .before .before in
     let k = u .before .before in
     let x = k .before .before .before .args in
     let d = drop (k .loop .at) (x .text .now) in
-    let e : k .loop .at + u .leading .result - k .loop .at ≡ leading isNotComma d = omega (arith, ends u) in
+    let e : k .loop .at + u .leading .result - k .loop .at ≡ leadingCount isNotComma d = omega (arith, ends u) in
     rw (e, k .loop .inv .1) at (c .join-text .ensures)
 
 loop-holds : tie.Need-loop-holds Inv-loop μ-loop
@@ -109,7 +109,7 @@ returns-2 c =
     let k = j .before .before .before .before .before in
     let s = k .before .before .before .args .text .now in
     let z : j .join-text .result ≡ 0 = omega arith in
-    let e : leading isNotComma (drop (k .loop .at) s) ≡ length (drop (k .loop .at) s) = omega (arith, ends (j .before .before .before), length-drop (k .loop .at) s) in
+    let e : leadingCount isNotComma (drop (k .loop .at) s) ≡ length (drop (k .loop .at) s) = omega (arith, ends (j .before .before .before), length-drop (k .loop .at) s) in
     represents-done _ _ (said j .done z .0) (sym (k .loop .inv .3) ∙ walk-last _ _ _ (drop (k .loop .at) s) _ (said j) z e)
 
 add-at : tie.Need-add-at Inv-loop μ-loop
@@ -127,13 +127,13 @@ loop-again c =
     let s = x .text .now in
     let d = drop (k .loop .at) s in
     let z : j .join-text .result ≡ 0 = omega arith in
-    let h : leading isNotComma d < length d = omega (arith, ends u, ends-le u, length-drop (k .loop .at) s) in
-    let e : k .loop .at + suc (leading isNotComma d) ≡ k .loop .at + u .leading .result + 1 = omega (arith, ends u) in (
+    let h : leadingCount isNotComma d < length d = omega (arith, ends u, ends-le u, length-drop (k .loop .at) s) in
+    let e : k .loop .at + suc (leadingCount isNotComma d) ≡ k .loop .at + u .leading .result + 1 = omega (arith, ends u) in (
       omega (arith, ends-le u),
       j .join-text .kept .1 .0 ∙ k .loop .inv .1,
       said j .done z .0,
       ap (λ (n : ℕ). mergedFrom (capacity (x .ledger .now)) (pairsOf (j .join-text .last .1 .0)) (parts (drop n s))) (sym e)
-          ∙ ap (λ (t : List ℕ). mergedFrom (capacity (x .ledger .now)) (pairsOf (j .join-text .last .1 .0)) (parts t)) (sym (drop-drop (suc (leading isNotComma d)) (k .loop .at) s))
+          ∙ ap (λ (t : List ℕ). mergedFrom (capacity (x .ledger .now)) (pairsOf (j .join-text .last .1 .0)) (parts t)) (sym (drop-drop (suc (leadingCount isNotComma d)) (k .loop .at) s))
           ∙ sym (walk-next _ _ _ d _ (said j) z h)
           ∙ k .loop .inv .3,
     )

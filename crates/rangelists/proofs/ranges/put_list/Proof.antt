@@ -7,7 +7,7 @@ use lib.Seq.{sets}
 use Rattle.ledger.specs.Pairs.{none, pair}
 use Rattle.ledger.specs.Ledger.{pairsOf}
 use Rattle.ledger.proofs.LedgerPairAt.{pairs-unused, pairs-used, pairs-over}
-use Rattle.rangelists.specs.RangeText.{comma, rangeText, rangesText}
+use Rattle.rangelists.specs.RangeText.{separatorAfter, rangeText, rangesText}
 use Rattle.rangelists.proofs.RangeText.{listFrom, listFrom-none, listFrom-all, comma-fits, range-fits, list-left, list-put, next-all}
 use Rattle.rangelists.proofs.ranges.put_list.Statement.{statement}
 use Rattle.rangelists.proofs.ranges.put_list.Tie as tie
@@ -100,7 +100,7 @@ loop-again c =
     let a = getD (x .ledger .now) (k .loop .i) 0 in
     let b = getD (x .ledger .now) (k .loop .i + 1) 0 in
     let n = k .loop .n in
-    let m : w .put-range .result ≡ n + length (comma n) + length (rangeText a b) = omega arith in (
+    let m : w .put-range .result ≡ n + length (separatorAfter n) + length (rangeText a b) = omega arith in (
       omega arith,
       omega (arith, range-fits text n a b _ (k .loop .inv .1) (left d)),
       omega arith,

@@ -23,8 +23,8 @@ returns c =
     let n = number-refused (x .ledger .now) (x .out .now) _ (sym (c .before .refusal .ensures)) (c .if1 .taken) in
     refused _ _ (rangesText (pairsOf (x .ledger .now))) (x .out .now) _ n (c .if1 .taken)
 
-list-length-requires : tie.Need-list-length-requires
-list-length-requires c κs =
+list-text-length-requires : tie.Need-list-text-length-requires
+list-text-length-requires c κs =
     let l = c .before .before .before .before .args .ledger .now in
     length-fits l (refusal-zero l (omega (arith, c .before .refusal .ensures)) .0) .1
 
@@ -33,7 +33,7 @@ unfolding writeRanges writeRangesAfter
 returns-2 c =
     let b = c .before in
     let x = b .before .before .before .before .before .args in
-    let z = text-empty (pairsOf (x .ledger .now)) (sym (b .list-length .ensures) ∙ c .if2 .taken) in
+    let z = text-empty (pairsOf (x .ledger .now)) (sym (b .list-text-length .ensures) ∙ c .if2 .taken) in
     let n = number-54 (x .ledger .now) (x .out .now) (omega (arith, b .before .before .refusal .ensures)) z in
     refused _ _ (rangesText (pairsOf (x .ledger .now))) (x .out .now) 54 n (omega arith)
 
@@ -42,13 +42,13 @@ unfolding writeRanges writeRangesAfter
 returns-3 c =
     let b = c .before .before in
     let x = b .before .before .before .before .before .args in
-    let l = b .list-length .ensures in
+    let l = b .list-text-length .ensures in
     let z = text-some (pairsOf (x .ledger .now)) (λ z. c .before .if2 .left (l ∙ z)) in
     let n = number-55 (x .ledger .now) (x .out .now) (omega (arith, b .before .before .refusal .ensures)) z (omega arith) in
     refused _ _ (rangesText (pairsOf (x .ledger .now))) (x .out .now) 55 n (omega arith)
 
 put-list-requires : tie.Need-put-list-requires
-put-list-requires c κs = omega (arith, c .before .before .before .list-length .ensures)
+put-list-requires c κs = omega (arith, c .before .before .before .list-text-length .ensures)
 
 same-length : tie.Need-same-length
 same-length c = c .before .before .put-list .kept .1 .0
@@ -58,7 +58,7 @@ unfolding writeRanges writeRangesAfter
 returns-4 c =
     let b = c .before .before .before .before .before .before in
     let x = b .before .before .before .before .before .args in
-    let l = b .list-length .ensures in
+    let l = b .list-text-length .ensures in
     let z = text-some (pairsOf (x .ledger .now)) (λ z. c .before .before .before .before .before .if2 .left (l ∙ z)) in
     let n = number-0 (x .ledger .now) (x .out .now) (omega (arith, b .before .before .refusal .ensures)) z (omega arith) in
     let w = written-first _ _ (rangesText (pairsOf (x .ledger .now))) (x .out .now) n (omega arith) in
@@ -70,7 +70,7 @@ write-spec =
     (tie.spec
     refusal-requires
     returns
-    list-length-requires
+    list-text-length-requires
     returns-2
     returns-3
     put-list-requires

@@ -8,7 +8,7 @@ use borrow.Author.Needs.{needs}
 use borrow.Author.Tests.{not-true, not-false}
 use lib.ListN.{length}
 use Rattle.channelchecks.specs.declared.report.FitReport.{FitReport}
-use Rattle.checks.specs.ReportOf.{reportIn}
+use Rattle.checks.specs.ReportOf.{reportWithFile}
 use Rattle.transfer.specs.declared.state.Transfer.{Transfer}
 use Rattle.transfer.specs.Transfer.{world, verdictOf}
 use Rattle.transfer.specs.Receive.{isGuess}
@@ -17,14 +17,14 @@ use Rattle.receiver.proofs.Refusal.{found-fits, found-counts, guess-is,
 use Rattle.receiver.proofs.receive.refusal.Statement.{statement}
 use Rattle.receiver.proofs.receive.refusal.Tie as tie
 
-fits-by : (t : Transfer) (f l : List ℕ) (found : FitReport) (b : Bool) → found ≡ reportIn (length f) t l → found .fits ≡ b → fits (world t f l) ≡ b
+fits-by : (t : Transfer) (f l : List ℕ) (found : FitReport) (b : Bool) → found ≡ reportWithFile (length f) t l → found .fits ≡ b → fits (world t f l) ≡ b
 fits-by t f l found b e q = sym (found-fits t f l) ∙ ap (λ s. s .fits) (sym e) ∙ q
 
-does-fit : (c : tie.Else1) (t : Transfer) (f l : List ℕ) → c .before .before .args .found ≡ reportIn (length f) t l → fits (world t f l) ≡ true
+does-fit : (c : tie.Else1) (t : Transfer) (f l : List ℕ) → c .before .before .args .found ≡ reportWithFile (length f) t l → fits (world t f l) ≡ true
 does-fit c t f l e = let s = c .before .before .args .found in fits-by t f l s true e (not-false (s .fits) (c .if1 .left))
 
 guessed-is : (c : tie.After-guessed) (t : Transfer) (f l : List ℕ) → let x = c .before .before .before .before .args in
-    x .found ≡ reportIn (length f) t l → x .fault ≡ t .fault → x .count ≡ t .count → isGuess (verdictOf (world t f l)) ≡ c .guessed .result
+    x .found ≡ reportWithFile (length f) t l → x .fault ≡ t .fault → x .count ≡ t .count → isGuess (verdictOf (world t f l)) ≡ c .guessed .result
 guessed-is c t f l e i n =
     let x = c .before .before .before .before .args in
     guess-is (world t f l) (x .found .ended) (ap (λ s. s .ended) e ∙ found-counts t f l (does-fit (c .before .before) t f l e) .1) ∙ rw (← i, ← n) (sym (c .guessed .ensures))

@@ -3,7 +3,7 @@ use mathlib.Core.Path.{_≡_, sym, _∙_}
 use mathlib.Core.Bool.{true, false}
 use borrow.Author.Needs.{needs}
 use Rattle.ledger.specs.Ledger.{lengthWrong}
-use Rattle.transfer.specs.Transfer.{fresh, startNumber, startOf, startAfter}
+use Rattle.transfer.specs.Transfer.{fresh, startRefusal, startOf, startAfter}
 use Rattle.receiver.proofs.start.start.Statement.{statement}
 use Rattle.receiver.proofs.start.start.Tie as tie
 
@@ -17,7 +17,7 @@ same-length : tie.Need-same-length
 same-length c = search needs
 
 returns : tie.Need-returns
-unfolding startNumber startOf startAfter
+unfolding startRefusal startOf startAfter
 returns c =
     let w = c .before .before in
     let e : lengthWrong (w .before .before .before .args .ledger .now) ≡ true = sym (w .length-wrong .ensures) ∙ c .before .if1 .taken in
@@ -33,7 +33,7 @@ same-length-2 : tie.Need-same-length-2
 same-length-2 c = search needs
 
 returns-2 : tie.Need-returns-2
-unfolding startNumber startOf startAfter
+unfolding startRefusal startOf startAfter
 returns-2 c =
     let k = c .before .before .before in
     let w = k .before .before .before in

@@ -7,7 +7,7 @@ use native.Mathlib.Omega.{arith}
 use borrow.Author.Needs.{needs}
 use lib.ListN.{length, getD, take, length-take}
 use Rattle.transfer.specs.declared.state.Transfer.{Transfer}
-use Rattle.transfer.specs.Fit.{fitsLedger}
+use Rattle.transfer.specs.Fit.{fitsWithoutFile}
 use Rattle.channels.specs.ChannelState.{writeBack}
 use Rattle.channels.specs.HeldBytes.{withHeldBytes}
 use Rattle.channels.specs.OtherChannels.{CountsOthers}
@@ -47,7 +47,7 @@ same-length : tie.Need-same-length
 same-length c = search needs
 
 -- of a transfer that fits, with x for its channel
-filled : (h : tie.After-hold-bytes) (t : Transfer) → let x = h .before .before .before .before .args in CountsOthers t (x .c) (x .o) → fitsLedger (writeBack t (x .c) (x .x)) (x .ledger .now) ≡ true
+filled : (h : tie.After-hold-bytes) (t : Transfer) → let x = h .before .before .before .before .args in CountsOthers t (x .c) (x .o) → fitsWithoutFile (writeBack t (x .c) (x .x)) (x .ledger .now) ≡ true
     → (x .x .held + length (take (x .more) (x .piece .now)) ≡ 16) × (h .hold-bytes .result ≡ withHeldBytes (x .x) (take (x .more) (x .piece .now)))
 filled h t a e =
     let s = h .before .before .before .before in

@@ -6,9 +6,9 @@ use borrow.Author.Needs.{needs}
 use lib.Dec.{eqb}
 use lib.ListN.{length}
 use Rattle.transfer.specs.Transfer.{world}
-use Rattle.transfer.specs.Receive.{beginPayload}
+use Rattle.transfer.specs.Receive.{expectPayload}
 use Rattle.copies.proofs.CopiedBytes.{stored-is-written}
-use Rattle.channels.specs.ChannelState.{numbers, writeBack}
+use Rattle.channels.specs.ChannelState.{channelOf, writeBack}
 use Rattle.channels.proofs.WriteBack.{write-back-at}
 use Rattle.runs.proofs.Runs.{stage-of-channel, storing-below, rest-inside, stored-run-of}
 use Rattle.runs.proofs.payload_run.payload_run.Statement.{statement}
@@ -23,11 +23,11 @@ store-requires c κs = search needs
 wrapping-add-u64-requires : tie.Need-wrapping-add-u64-requires
 wrapping-add-u64-requires c κs = search needs
 
-sub-open : tie.Need-sub-open
-sub-open c = search needs
+sub-expect-payload : tie.Need-sub-expect-payload
+sub-expect-payload c = search needs
 
-open-requires : tie.Need-open-requires
-open-requires c κs = search needs
+expect-payload-requires : tie.Need-expect-payload-requires
+expect-payload-requires c κs = search needs
 
 same-length : tie.Need-same-length
 same-length c = search needs
@@ -48,14 +48,14 @@ returns c =
       λ t ledger a e.
           let w = world (writeBack t (x .c) (x .x)) (x .file .now) ledger in
           let k = write-back-at t (x .c) (x .o) a (x .x) in
-          let b : x .x .state < 4 = storing-below (numbers (x .x)) (stage-of-channel t (x .c) (x .o) a (x .x) (x .file .now) ledger e) (s .pre .2) in
+          let b : x .x .state < 4 = storing-below (channelOf (x .x)) (stage-of-channel t (x .c) (x .o) a (x .x) (x .file .now) ledger e) (s .pre .2) in
           let r = rest-inside w (x .c) (a .below) e (omega (arith, s .pre .1, ap (λ z. z .state) k)) (omega (arith, b, ap (λ z. z .state) k)) in
           let i : x .x .next + x .x .left ≤ length (x .file .now) = omega (arith, r, ap (λ z. z .next) k, ap (λ z. z .left) k) in
           let q : p .wrapping-add-u64 .result ≡ x .x .next + m = omega (arith, p .wrapping-add-u64 .ensures, n .lesser .ensures, i, file-fits (n .before)) in
-          stored-run-of (writeBack t (x .c) (x .x)) (x .file .now) _ (x .c) (numbers (x .x)) k (x .piece .now) m (a .below) (s .pre .0) (s .pre .1) b i (n .lesser .ensures)
+          stored-run-of (writeBack t (x .c) (x .x)) (x .file .now) _ (x .c) (channelOf (x .x)) k (x .piece .now) m (a .below) (s .pre .0) (s .pre .1) b i (n .lesser .ensures)
           (y .store .ensures ∙ stored-is-written (x .x .next) m (x .piece .now) (x .file .now) (omega (arith, n .lesser .ensures)) (omega (arith, n .lesser .ensures, i)))
-          (writeBack t (x .c) (o .«open» .result .channel)) (o .«open» .result .continues)
-          (λ f l. o .«open» .ensures b t f l a ∙ ap (λ z. beginPayload (world (writeBack t (x .c) (x .x)) f l) (x .c) z (x .x .left - m) (eqb (x .x .state) 3)) q) ledger e,
+          (writeBack t (x .c) (o .expect-payload .result .channel)) (o .expect-payload .result .continues)
+          (λ f l. o .expect-payload .ensures b t f l a ∙ ap (λ z. expectPayload (world (writeBack t (x .c) (x .x)) f l) (x .c) z (x .x .left - m) (eqb (x .x .state) 3)) q) ledger e,
     )
 
 pub payload-run-spec : {M : Type 1} → statement M
@@ -65,7 +65,7 @@ payload-run-spec =
     lesser-requires
     store-requires
     wrapping-add-u64-requires
-    sub-open
-    open-requires
+    sub-expect-payload
+    expect-payload-requires
     same-length
     returns)

@@ -10,7 +10,7 @@ use Rattle.transfer.specs.Channel.{putFault}
 use Rattle.transfer.specs.Transfer.{world}
 use Rattle.transfer.proofs.FitTests.{fits-together}
 use Rattle.verdicts.specs.Verdict.{countReached}
-use Rattle.channels.specs.ChannelState.{writeBack, numbers}
+use Rattle.channels.specs.ChannelState.{writeBack, channelOf}
 use Rattle.channels.proofs.WriteBack.{write-back-at, write-back-len, write-back-count-reached}
 use Rattle.runs.proofs.Runs.{stage-of-channel, ended-above, takes-header}
 use Rattle.runs.proofs.CallRuns.{fits-parts, count-reached-run-of, ended-run-of}
@@ -82,7 +82,7 @@ returns-4 c = (
       let s = i .before .before .before .before .before .before .before in
       let x = s .args in
       let k = write-back-at t (x .c) (x .o) a (x .x) in
-      let h = ended-above (numbers (x .x)) (stage-of-channel t (x .c) (x .o) a (x .x) (x .file .now) (x .ledger .now) e) (omega (arith, i .if2 .left)) (c .if3 .left) in
+      let h = ended-above (channelOf (x .x)) (stage-of-channel t (x .c) (x .o) a (x .x) (x .file .now) (x .ledger .now) e) (omega (arith, i .if2 .left)) (c .if3 .left) in
       ended-run-of (writeBack t (x .c) (x .x)) (x .file .now) (x .ledger .now) (x .c) (x .piece .now) (s .pre) (omega (arith, h, ap (λ y. y .state) k)),
 )
 

@@ -4,21 +4,21 @@ use native.Mathlib.Omega.{arith}
 use borrow.Author.Needs.{needs}
 use lib.ListN.{take, drop, length-take}
 use lib.Seq.{take-all}
-use Rattle.octets.specs.Digits.{fromLittle}
+use Rattle.octets.specs.Digits.{fromLittleEndian}
 use Rattle.savedledgers.specs.Saved.{kindOf}
 use Rattle.savedledgers.proofs.SavedFrame.{frame-short, frame-length-wrong, frame-kind-wrong, frame-right}
 use Rattle.savedledgers.proofs.saved.frame_refusal.Statement.{statement}
 use Rattle.savedledgers.proofs.saved.frame_refusal.Tie as tie
 
 -- what the two calls read
-field-is : (c : tie.After-read) → c .read .result ≡ fromLittle 256 (take 4 (c .before .before .before .before .args .bytes .now))
-field-is c = c .read .ensures ∙ ap (fromLittle 256) (take-all 8 (take 4 (c .before .before .before .before .args .bytes .now)) (simp length-take (omega arith)))
+field-is : (c : tie.After-read) → c .read .result ≡ fromLittleEndian 256 (take 4 (c .before .before .before .before .args .bytes .now))
+field-is c = c .read .ensures ∙ ap (fromLittleEndian 256) (take-all 8 (take 4 (c .before .before .before .before .args .bytes .now)) (simp length-take (omega arith)))
 
 kind-is : (c : tie.After-read2) → c .read2 .result ≡ kindOf (c .before .before .before .before .before .before .before .args .bytes .now)
 unfolding kindOf
 kind-is c =
     let h = c .before .before .before .before .before .before .before .args .bytes .now in
-    c .read2 .ensures ∙ ap (fromLittle 256) (take-all 8 (take 2 (drop 4 h)) (simp length-take (omega arith)))
+    c .read2 .ensures ∙ ap (fromLittleEndian 256) (take-all 8 (take 2 (drop 4 h)) (simp length-take (omega arith)))
 
 returns : tie.Need-returns
 returns c = let x = c .before .before .args in sym (frame-short (x .kind) (x .bytes .now) (c .if1 .taken))

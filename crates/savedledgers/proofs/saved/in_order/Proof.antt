@@ -8,7 +8,7 @@ use borrow.Author.Needs.{needs}
 use borrow.Author.Tests.{not-true, not-false}
 use lib.ListN.{length, drop}
 use Rattle.ledger.proofs.LedgerPairAt.{lowest, follows-less}
-use Rattle.ledger.specs.Pairs.{isRuled}
+use Rattle.ledger.specs.Pairs.{obeyFrom}
 use Rattle.savedledgers.specs.Saved.{pairsIn}
 use Rattle.savedledgers.proofs.SavedBody.{isRuled-turn, isRuled-next}
 use Rattle.savedledgers.proofs.saved.in_order.Statement.{statement}
@@ -16,7 +16,7 @@ use Rattle.savedledgers.proofs.saved.in_order.Tie as tie
 
 abbrev Inv-loop : tie.InvT-loop
 Inv-loop body n end₀ k₀ end k =
-    (k ≤ n) × (n ≡ length body / 16) × (isRuled (lowest end) (pairsIn (n - k) (drop (16 * k) body)) ≡ isRuled 0 (pairsIn n body))
+    (k ≤ n) × (n ≡ length body / 16) × (obeyFrom (lowest end) (pairsIn (n - k) (drop (16 * k) body)) ≡ obeyFrom 0 (pairsIn n body))
 
 abbrev μ-loop : tie.MeasureT-loop
 μ-loop body n end₀ k₀ end k = n - k
@@ -25,7 +25,7 @@ abbrev μ-loop : tie.MeasureT-loop
 turn : (c : tie.After-may-follow Inv-loop μ-loop) → let l = c .before .before .before .before in
     let body = l .before .before .args .body .now in
     let n = length body / 16 in
-    isRuled 0 (pairsIn n body) ≡ (c .may-follow .result && isRuled (suc (c .before .number-at2 .result)) (pairsIn (n - (l .loop .k + 1)) (drop (16 * (l .loop .k + 1)) body)))
+    obeyFrom 0 (pairsIn n body) ≡ (c .may-follow .result && obeyFrom (suc (c .before .number-at2 .result)) (pairsIn (n - (l .loop .k + 1)) (drop (16 * (l .loop .k + 1)) body)))
 turn c =
     let l = c .before .before .before .before in
     let body = l .before .before .args .body .now in
@@ -75,7 +75,7 @@ loop-again c =
     (omega arith, refl, sym (turn (c .before) ∙ rw e (isRuled-next a b _ q)))
 
 returns-2 : tie.Need-returns-2 Inv-loop μ-loop
-unfolding isRuled pairsIn
+unfolding obeyFrom pairsIn
 returns-2 c =
     let l = c .before in
     let z : length (l .before .before .args .body .now) / 16 - l .loop .k ≡ 0 = omega arith in

@@ -5,7 +5,7 @@ use native.Mathlib.Omega.{arith}
 use borrow.Author.Needs.{needs}
 use lib.ListN.{drop}
 use lib.Seq.{take-take}
-use Rattle.octets.specs.Digits.{fromLittle}
+use Rattle.octets.specs.Digits.{fromLittleEndian}
 use Rattle.savedledgers.proofs.saved.number_at.Statement.{statement}
 use Rattle.savedledgers.proofs.saved.number_at.Tie as tie
 
@@ -28,7 +28,7 @@ returns : tie.Need-returns
 returns c =
     let x = c .before .before .before .args in
     let e : x .at + 8 - x .at ≡ 8 = omega arith in
-    rw e at (c .read .ensures) ∙ ap (fromLittle 256) (take-take 8 8 (drop (x .at) (x .bytes .now)) (omega arith))
+    rw e at (c .read .ensures) ∙ ap (fromLittleEndian 256) (take-take 8 8 (drop (x .at) (x .bytes .now)) (omega arith))
 
 pub number-at-spec : {M : Type 1} → statement M
 number-at-spec =

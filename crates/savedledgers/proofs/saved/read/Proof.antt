@@ -9,8 +9,8 @@ use lib.ListN.{length, take, drop, length-drop}
 use lib.Seq.{take-all}
 use Rattle.ledger.specs.Ledger.{lengthWrong}
 use Rattle.ledger.proofs.LedgerSizes.{length-fits}
-use Rattle.ledger.specs.Pairs.{isRuled}
-use Rattle.savedledgers.specs.Saved.{kindOne, frameLength, frameNumber, bodyOf, pairLength, savedPairs}
+use Rattle.ledger.specs.Pairs.{obeyFrom}
+use Rattle.savedledgers.specs.Saved.{kindOne, frameLength, frameRefusal, bodyOf, pairLength, savedPairs}
 use Rattle.answers.specs.declared.loaded.Loaded.the-variants.{Refused}
 use Rattle.savedledgers.proofs.SavedFrame.{frame-sound}
 use Rattle.savedledgers.proofs.SavedReading.{reads-refused, reads-done, number-53, number-frame, number-parts, number-order, number-room, number-none, load-placed}
@@ -21,7 +21,7 @@ use Rattle.savedledgers.proofs.saved.read.Tie as tie
 lengths : (c : tie.Else1) → lengthWrong (c .before .before .before .before .before .args .ledger .now) ≡ false
 lengths c = sym (c .before .length-wrong .ensures) ∙ c .if1 .left
 
-frame : (c : tie.Else2) → frameNumber kindOne (c .before .before .before .before .before .before .before .args .bytes .now) ≡ 0
+frame : (c : tie.Else2) → frameRefusal kindOne (c .before .before .before .before .before .before .before .args .bytes .now) ≡ 0
 frame c = omega (arith, c .before .frame-refusal .ensures)
 
 long : (c : tie.Else2) → frameLength ≤ length (c .before .before .before .before .before .before .before .args .bytes .now)
@@ -37,10 +37,10 @@ whole : (c : tie.Else3) → length (bodyOf (c .before .before .before .before .b
 whole c = rw (body-is (c .before .before)) at (c .if3 .left)
 
 order-is : (c : tie.After-in-order) → c .in-order .result
-    ≡ isRuled 0 (savedPairs (c .before .before .before .before .before .before .before .before .before .before .args .bytes .now))
+    ≡ obeyFrom 0 (savedPairs (c .before .before .before .before .before .before .before .before .before .before .args .bytes .now))
 order-is c = rw (body-is (c .before .before .before)) at (c .in-order .ensures)
 
-order : (c : tie.Else4) → isRuled 0 (savedPairs (c .before .before .before .before .before .before .before .before .before .before .before .args .bytes .now)) ≡ true
+order : (c : tie.Else4) → obeyFrom 0 (savedPairs (c .before .before .before .before .before .before .before .before .before .before .before .args .bytes .now)) ≡ true
 order c = sym (order-is (c .before)) ∙ not-false (c .before .in-order .result) (c .if4 .left)
 
 length-wrong-requires : tie.Need-length-wrong-requires

@@ -5,7 +5,7 @@ use native.Mathlib.Omega.{arith}
 use borrow.Author.Needs.{needs}
 use borrow.Rule.Slice.PartMut.{putMid}
 use lib.ListN.{length, take, drop, length-take, length-drop}
-use Rattle.octets.specs.Digits.{toLittle}
+use Rattle.octets.specs.Digits.{toLittleEndian}
 use Rattle.savedledgers.proofs.SavedFrame.{frame-placed}
 use Rattle.savedledgers.proofs.saved.write_frame.Statement.{statement}
 use Rattle.savedledgers.proofs.saved.write_frame.Tie as tie
@@ -49,8 +49,8 @@ returns c =
     let o₂ = putMid 0 4 (x .out .now) (w₁ .write .last .1 .0) in
     let l₂ : length o₂ ≡ length (x .out .now) = omega arith in
     let n₂ : length (take 2 (drop 4 o₂)) ≡ 2 = simp (length-take, length-drop) (omega (arith, l₂)) in
-    let ys : w₁ .write .last .1 .0 ≡ toLittle 256 4 (2 + x .n) = w₁ .write .ensures ∙ rw n₁ in
-    let zs : w₂ .write2 .last .1 .0 ≡ toLittle 256 2 (x .kind) = w₂ .write2 .ensures ∙ rw n₂ in
+    let ys : w₁ .write .last .1 .0 ≡ toLittleEndian 256 4 (2 + x .n) = w₁ .write .ensures ∙ rw n₁ in
+    let zs : w₂ .write2 .last .1 .0 ≡ toLittleEndian 256 2 (x .kind) = w₂ .write2 .ensures ∙ rw n₂ in
     frame-placed (x .kind) (x .n) (x .out .now) _ _ (omega arith) ys zs
 
 pub write-frame-spec : {M : Type 1} → statement M

@@ -7,7 +7,7 @@ use native.Mathlib.Omega.{arith}
 use borrow.Author.Needs.{needs}
 use borrow.Author.Tests.{not-true, not-false}
 use Rattle.answers.proofs.WrittenBy.{refused}
-use Rattle.transfer.specs.Fit.{fitsLedger}
+use Rattle.transfer.specs.Fit.{fitsWithoutFile}
 use Rattle.screen.specs.declared.line.Numbers.{Numbers}
 use Rattle.screen.specs.Screen.{lineFor, screenOf, screenAfter}
 use Rattle.screen.proofs.Screen.{not-fit, fit, said, stored-whole}
@@ -55,7 +55,7 @@ returns-2 c =
     let x = f .before .before .before .before .args in
     let t = x .receiver .transfer in
     let ledger = x .ledger .now in
-    let fits : fitsLedger t ledger ≡ true = sym (f .without-file .ensures) ∙ not-false (f .without-file .result) (v .before .if1 .left) in
+    let fits : fitsWithoutFile t ledger ≡ true = sym (f .without-file .ensures) ∙ not-false (f .without-file .result) (v .before .if1 .left) in
     let bytes = s .stored .ensures ∙ stored-whole t [] ledger (omega (arith, len-fits (f .before))) fits in
     let n : Numbers = record { fault = t .fault; on = t .on; ended = e .ended .result; count = t .count; bytes = s .stored .result } in
     let line = said (v .verdict .result) n t ledger (v .verdict .ensures [] ledger) refl refl (e .ended .ensures) refl bytes in

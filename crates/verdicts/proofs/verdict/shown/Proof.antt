@@ -3,7 +3,7 @@ use Prim.Native.Nat.{_+_}
 use mathlib.Core.Path.{_≡_, _∙_}
 use native.Mathlib.Omega.{arith}
 use borrow.Author.Needs.{needs}
-use Rattle.transfer.specs.Transfer.{endedOf, isFinal, verdictOf}
+use Rattle.transfer.specs.Transfer.{endedOf, allEnded, verdictOf}
 use Rattle.verdicts.proofs.verdict.shown.Statement.{statement}
 use Rattle.verdicts.proofs.verdict.shown.Tie as tie
 
@@ -14,7 +14,7 @@ of-requires : tie.Need-of-requires
 of-requires c κs = search needs
 
 returns : tie.Need-returns
-unfolding verdictOf isFinal
+unfolding verdictOf allEnded
 returns c file ledger =
     let e = c .before .ended .ensures in
     let z : c .before .ended .result + 0 ≡ endedOf (c .before .before .args .t) = omega (arith, e) in

@@ -11,7 +11,7 @@ use Rattle.transfer.specs.Receive.{refusalOf}
 use Rattle.transfer.specs.Fit.{fits}
 use Rattle.runs.specs.Runs.{takeBytesOn}
 use Rattle.receiver.specs.declared.receive.Answer.{Answer}
-use Rattle.receiver.specs.Answers.{answerOf}
+use Rattle.receiver.specs.Answers.{toAnswer}
 use Rattle.receiver.proofs.Refusal.{found-counts, is-refused, is-taken, not-refused, some-is}
 use Rattle.receiver.proofs.receive.Receiver.receive.Statement.{statement}
 use Rattle.receiver.proofs.receive.Receiver.receive.Tie as tie
@@ -66,7 +66,7 @@ returns c =
     let r = c .before .before in
     let x = begun r .args in
     let e = c .refused .ensures in (
-      ap₂ (λ (a : Answer) (u : Transfer). (answerOf a, world u (x .file .now) (x .ledger .now))) (e .1) (e .0)
+      ap₂ (λ (a : Answer) (u : Transfer). (toAnswer a, world u (x .file .now) (x .ledger .now))) (e .1) (e .0)
           ∙ is-refused (given r) (x .channel) (x .piece .now) (r .refusal .result) (number-is r) (c .before .if1 .taken),
       e .2 (x .file .now) (x .ledger .now) ∙ ap (λ u. verdictOf (world u (x .file .now) (x .ledger .now))) (sym (e .0)),
     )

@@ -1,7 +1,7 @@
 -- `Receiver::stored`.
 use native.Mathlib.Omega.{arith}
 use borrow.Author.Needs.{needs}
-use Rattle.receiver.specs.Stored.{storedCut}
+use Rattle.receiver.specs.Stored.{storedSaturating}
 use Rattle.receiver.proofs.receive.Receiver.stored.Statement.{statement}
 use Rattle.receiver.proofs.receive.Receiver.stored.Tie as tie
 
@@ -15,7 +15,7 @@ saturating-sub-requires : tie.Need-saturating-sub-requires
 saturating-sub-requires c κs = search needs
 
 returns : tie.Need-returns
-unfolding storedCut
+unfolding storedSaturating
 returns c = omega (arith, c .before .before .total .ensures, c .before .left .ensures, c .saturating-sub .ensures)
 
 pub stored-spec : {M : Type 1} → statement M
