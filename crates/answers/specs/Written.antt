@@ -34,7 +34,7 @@ roomRefusal n out = cond (ltb (length out) n) 55 0
 unfoldable pub writtenBy : ℕ → ℕ → Written
 writtenBy k n = cond (ltb 0 k) (Refused k) (Bytes n)
 
--- unchanged by a refusal, and after the text in any case
+-- the lent bytes afterwards: as they were where k is above 0, else the text and then the lent bytes past it
 unfoldable pub writtenAfter : ℕ → List ℕ → List ℕ → List ℕ
 writtenAfter k text out = cond (ltb 0 k) out (text ++ drop (length text) out)
 

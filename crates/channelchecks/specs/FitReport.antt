@@ -16,7 +16,7 @@ unfit = record { fits = false; used = 0; ended = 0 }
 abbrev pub reportIf : Bool → Transfer → FitReport
 reportIf b t = cond b (record { fits = true; used = usedOf t; ended = endedOf t }) unfit
 
--- each channel fits, and no two payloads share a byte
+-- each channel fits, and no two payloads share a byte that is still to come
 abbrev pub channelsFitTogether : Transfer → List ℕ → Bool
 channelsFitTogether t claimed = channelsFit (pairsOf claimed) (t .channels) (t .heads) && restsApart (t .channels)
 

@@ -8,7 +8,7 @@ ghost use mathlib.Core.Bool.{true, _&&_};
 ghost use Rattle.ledger.specs.Ledger.{obeys};
 ghost use Rattle.channelchecks.specs.FitReport.{unfit, reportIf, channelsFitTogether, ledgerFits};
 
-// What one pass over the channels finds; where they don't fit, nothing.
+// What one pass over the channels finds; where they don't fit, `fits` is false and the counts are 0.
 pub struct FitReport {
     pub fits: bool,
     // The channels not unused.
@@ -49,7 +49,7 @@ fn channels_fit(t: Transfer, ledger: &[u64]) -> FitReport
     }
 }
 
-// With any ledger: it obeys its rule with no end above the file's length, each channel fits, and no two payloads share a byte.
+// With any ledger: it obeys its rule with no end above the file's length, each channel fits, and no two payloads share a byte that is still to come.
 pub fn report_channels(t: Transfer, ledger: &[u64]) -> FitReport
     ensures { λ r. ⌜ r ≡ reportIf (ledgerFits t (now (ledger .entry)) && channelsFitTogether t (now (ledger .entry))) t ⌝ }
 {

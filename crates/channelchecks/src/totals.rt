@@ -33,7 +33,7 @@ fn one_if_some(left: u64) -> usize
     1
 }
 
-// One channel more. A used one is stored at the end of those that are kept, which moves on only where bytes are left.
+// One channel more. A used one is written at the index `payloads`, which moves on only where bytes are left: else the next used one is written over it.
 fn add_channel(
     p: ChannelTotals,
     k: Channel,

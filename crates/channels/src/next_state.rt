@@ -14,7 +14,7 @@ ghost use Rattle.channels.specs.ChannelState.{writeBack};
 ghost use Rattle.channels.specs.OtherChannels.{CountsOthers};
 ghost use Rattle.channels.specs.NextState.{continuesOrStops};
 
-// A channel after a header or a payload was taken whole, and whether the call continues.
+// A channel after a whole header or a run of payload bytes, and whether the call continues.
 pub struct NextState {
     pub channel: ChannelState,
     pub continues: bool,

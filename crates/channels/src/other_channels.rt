@@ -13,7 +13,7 @@ pub struct OtherChannels {
     pub ended: u64,
 }
 
-// A count, less the one that is in it or not.
+// n without this channel, where it was counted in n.
 fn less_one_if(counted: bool, n: u64) -> u64
     ensures { λ r. ⌜ r ≡ cond counted (n - 1) n ⌝ }
 {

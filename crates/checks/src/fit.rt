@@ -1,4 +1,4 @@
-// FIT: the tests that read least come first.
+// FIT: the tests that read least come first, but for the count, which needs the channels used.
 use crate::numbers;
 use channelchecks::report;
 use channelchecks::report::FitReport;
@@ -27,7 +27,7 @@ fn fit_report(t: Transfer, ledger: &[u64]) -> FitReport
     found
 }
 
-// Its answer alone.
+// Whether transfer and ledger fit.
 pub fn without_file(t: Transfer, ledger: &[u64]) -> bool
     ensures { λ r. ⌜ r ≡ fitsWithoutFile t (now (ledger .entry)) ⌝ }
 {

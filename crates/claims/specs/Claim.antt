@@ -31,7 +31,7 @@ claimNumber (Free slot) = 0
 
 -- ---- what the calls answer and leave
 --
--- The fields that ask for a ledger by the rule and for s < e say all of it. Any other call is left open, but for the fields that ask for neither:
+-- The fields that ask for a ledger that obeys the rule and for s < e say all of it. Any other call is left open, but for the fields that ask for neither:
 -- document 01 has no such call, since each of its entries has tested, zeroed or overwritten the ledger, and no range there is empty.
 
 -- whether the range from s to e can be claimed in the ledger is answered with r

@@ -18,7 +18,7 @@ pub record ClaimLaws : Type 0 where
   -- no fault: it shares none, and there are enough pairs; it goes to its slot
   pub number-0 : (r s e : ℕ) (ps : Pairs) → (claimNumber (judged r s e ps) ≡ 0) ↔ ((overlaps s e ps ≡ false) × (size (join s e ps) ≤ r))
   pub accepted : (r s e : ℕ) (ps : Pairs) → claimNumber (judged r s e ps) ≡ 0 → judged r s e ps ≡ Free (slotOf s e ps)
-  -- in a ledger by the rule the pairs before the slot end below s
+  -- in a ledger that obeys the rule the pairs before the slot end below s
   pub before-slot : (s e i : ℕ) (l : List ℕ) → obeys l ≡ true → i < slotOf s e (pairsOf l) .at → getD l (2 * i + 1) 0 < s
   -- those of the slot share a place with the range or touch it
   pub in-slot : (s e i : ℕ) (l : List ℕ) → obeys l ≡ true → slotOf s e (pairsOf l) .at ≤ i → i < slotOf s e (pairsOf l) .past
@@ -28,6 +28,6 @@ pub record ClaimLaws : Type 0 where
   -- the slot lies inside the ledger
   pub slot-inside : (s e : ℕ) (l : List ℕ) → obeys l ≡ true → s < e
       → (slotOf s e (pairsOf l) .at ≤ slotOf s e (pairsOf l) .past) × (slotOf s e (pairsOf l) .past ≤ capacity l)
-  -- a range joined to a ledger by the rule leaves one ledger; one that was not joined leaves any ledger as it was
+  -- a range joined to a ledger that obeys the rule leaves one ledger; one that was not joined leaves any ledger as it was
   pub joined : (s e : ℕ) (l m : List ℕ) → obeys l ≡ true → s < e → JoinResult s e l true m → m ≡ laidOut (capacity l) (join s e (pairsOf l))
   pub not-joined : (s e : ℕ) (l m : List ℕ) → JoinResult s e l false m → m ≡ l

@@ -39,7 +39,7 @@ fn ends_below(ledger: &[u64], i: usize, place: u64) -> bool
     b < place
 }
 
-// The place for a range: in a ledger by the rule, the number of pairs that end below its start.
+// The index of the first pair that is unused or ends at start or later: in a ledger that obeys the rule, the number of pairs that end below start.
 fn first_pair_reaching(ledger: &[u64], start: u64) -> usize
     ensures { λ r. ⌜ (r ≤ capacity (now (ledger .entry))) × (obeys (now (ledger .entry)) ≡ true → r ≡ countEndingBelow start (pairsOf (now (ledger .entry)))) ⌝ }
 {
@@ -50,7 +50,7 @@ fn first_pair_reaching(ledger: &[u64], start: u64) -> usize
     k
 }
 
-// The first pair that is unused or starts above end, looked for from `at` on: in a ledger by the rule, the number of pairs that start by end.
+// The first pair that is unused or starts above end, looked for from `at` on: in a ledger that obeys the rule, the number of pairs that start by end.
 fn first_pair_after(ledger: &[u64], at: usize, end: u64) -> usize
     requires { ⌜ at ≤ capacity (now ledger) ⌝ }
     ensures { λ r. ⌜ (at ≤ r) × (r ≤ capacity (now (ledger .entry))) × (obeys (now (ledger .entry)) ≡ true → at ≤ countStartingBy end (pairsOf (now (ledger .entry))) → r ≡ countStartingBy end (pairsOf (now (ledger .entry)))) ⌝ }
@@ -96,7 +96,7 @@ fn overlaps(ledger: &[u64], at: usize, past: usize, start: u64, end: u64) -> boo
     false
 }
 
-// Whether the ledger lacks a pair for the range that goes there. In a ledger by the rule the last pair is used only where all are.
+// Whether the ledger lacks a pair for the range that goes there. In a ledger that obeys the rule the last pair is used only where all are.
 fn full(ledger: &[u64], slot: Slot) -> bool
     ensures { λ r. ⌜ ((s e : ℕ) → obeys (now (ledger .entry)) ≡ true → s < e → slot ≡ slotOf s e (pairsOf (now (ledger .entry))) → r ≡ ltb (capacity (now (ledger .entry))) (size (join s e (pairsOf (now (ledger .entry)))))) ⌝ }
 {

@@ -35,9 +35,9 @@ fn move_down(ledger: &mut [u64], to: usize, from: usize, end: usize)
     }
 }
 
-// Takes out the entries from `to` up to `from`: those up to end move down, and zeros take their place.
+// Removes the entries at `to` up to `from`, that not counted: those from `from` up to end move down to `to`, and zeros fill what they left.
 //
-//     .. to ++ from ..... end ..        .. to from ..... 0 0 end ..
+//     before: .. to ++ from ..... end ..        after: .. to from ..... 0 0 end ..
 pub fn close(ledger: &mut [u64], to: usize, from: usize, end: usize)
     requires { ⌜ (to ≤ from) × (from ≤ end) × (end ≤ length (now ledger)) ⌝ }
     ensures { λ _. ⌜ now (ledger .exit) ≡ closed (now (ledger .entry)) to from end ⌝ }

@@ -48,7 +48,7 @@ fn upper(b: u8) -> u8
     b - 32
 }
 
-// The word is the verb v of the table, in letters of either case.
+// The word is the entry v of the table, counted from 0, in letters of either case.
 fn is_verb(word: &[u8], v: usize) -> bool
     requires { ⌜ v < 12 ⌝ }
     ensures { λ r. ⌜ r ≡ equalTexts (map upper (now (word .entry))) (getD verbs v []) ⌝ }

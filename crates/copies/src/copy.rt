@@ -10,7 +10,7 @@ ghost use Rattle.copies.specs.Copy.{written, stored};
 // The most bytes that are moved at once.
 const SPAN: usize = 16384;
 
-// The bytes at the front of an array of their own: so the compiler sees source and target apart, and makes one move of both loops.
+// The bytes at the front of an array of their own: with it the compiler knows that source and target do not overlap, and makes one move of both loops.
 fn to_buffer(bytes: &[u8]) -> [u8; 16384]
     requires { ⌜ length (now bytes) ≤ 16384 ⌝ }
     ensures { λ r. ⌜ take (length (now (bytes .entry))) r ≡ now (bytes .entry) ⌝ }

@@ -1,2 +1,2 @@
-// Bytes copied to their place: a leaf of the receiver, no host calls it.
+// Bytes copied to their place. Internal to the receiver: a host calls `receiver`.
 pub mod copy;

@@ -36,7 +36,7 @@ closesEarly d = has senderCloses d && not (has endOfData d)
 abbrev pub suspectsCount : ℕ → Bool
 suspectsCount d = has eodc d && has suspected d
 
--- the fault of a descriptor, 0 where it is accepted: a bit without a meaning, a bit that is not for this mode, bits that contradict each other
+-- the fault of a descriptor, 0 where it is accepted: a bit without a meaning, a bit that is not accepted, bits that contradict each other
 unfoldable pub faultOf : ℕ → ℕ
 faultOf d =
     cond (has 1 d || has 2 d) 11

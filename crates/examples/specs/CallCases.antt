@@ -48,7 +48,7 @@ cases =
     withoutFault 8 1 (firstCall ∷ []) (took 21 ∷ []) guess 4 (0 ∷ 4 ∷ [])
     ∷ withoutFault 8 1 (firstCall ∷ secondCall ∷ []) (took 21 ∷ took 21 ∷ []) guess 8 (0 ∷ 8 ∷ [])
     ∷ withoutFault 8 1 (firstCall ∷ secondCall ∷ thirdCall ∷ []) (took 21 ∷ took 21 ∷ took 17 ∷ []) result 8 (0 ∷ 8 ∷ [])
-    -- after RESULT every call is 3, 1 and 2 before it
+    -- after RESULT every call is refused by 3, and one on a channel above 63 by 2
     ∷ withoutFault 8 1 (firstCall ∷ secondCall ∷ thirdCall ∷ receive 5 [] ∷ receive 64 [] ∷ []) (took 21 ∷ took 21 ∷ took 17 ∷ refused 3 ∷ refused 2 ∷ []) result 8 (0 ∷ 8 ∷ [])
     -- an empty range far past F
     ∷ withoutFault 8 0 (receive 0 (headerBytes 0 0 100) ∷ []) (took 17 ∷ []) guess 0 []

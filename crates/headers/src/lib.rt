@@ -1,3 +1,3 @@
-// A header of 17 bytes judged and applied to its channel: leaves of the receiver, no host calls them.
+// A header of 17 bytes judged and applied to its channel. Internal to the receiver: a host calls `receiver`.
 pub mod apply;
 mod judge;

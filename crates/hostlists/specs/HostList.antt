@@ -37,8 +37,8 @@ hostPortThen text (HostPort v next) on =
     cond (eqb next (length text)) (parsed (v ∷ []))
     (cond (eqb (getD text next 0) space) (prepend v (on (next + 1))) (trouble 41))
 
--- from a place on, with room for n host-ports. Where there is none a space is before the place: the end is a host-port that is
--- empty, and any further byte one too many.
+-- from a place on, where n more host-ports may come. Where none may, a space is before the place: the end of the text there is an empty
+-- host-port (41), and any further byte is a 65th (42).
 unfoldable pub listAt : ℕ → List ℕ → ℕ → ParsedList
 listAt zero text at = cond (eqb at (length text)) (trouble 41) (trouble 42)
 listAt (suc n) text at = hostPortThen text (hostPortAt text at) (listAt n text)

@@ -46,7 +46,7 @@ fn store(text: &[u8], list: &mut [u64]) -> Hosts
     Hosts::Refused(42)
 }
 
-// Zero in every entry from one on.
+// Puts 0 into every entry from the index `from` on.
 fn clear(list: &mut [u64], from: usize)
     ensures { λ _. ⌜ now (list .exit) ≡ clearedFrom from (now (list .entry)) ⌝ }
 {

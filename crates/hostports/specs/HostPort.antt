@@ -29,12 +29,12 @@ numberAt text at =
     let n = decimalValue (take k (drop at text)) in
     cond (leb 1 k && (leb k digitLimit && leb n valueLimit)) (Number n (at + k)) NoNumber
 
--- what a number makes with what comes after it: nothing well formed where it is none
+-- goes on with a number's value and the place after it; malformed where there is no number
 unfoldable pub andThen : ParsedNumber → (ℕ → ℕ → ParsedHostPort) → ParsedHostPort
 andThen NoNumber on = Malformed
 andThen (Number v next) on = on v next
 
--- the numbers so far make v and end before a place; n more come after them, a comma before each. Each counts 256 times the next.
+-- n more numbers from the place `at` on, a comma before each; v is the value so far. Each number counts 256 times the next.
 unfoldable pub moreAt : ℕ → List ℕ → ℕ → ℕ → ParsedHostPort
 moreAt zero text v at = HostPort v at
 moreAt (suc n) text v at =

@@ -45,7 +45,7 @@ obeys ledger = obeysFrom 0 ledger
 unfoldable pub ledgerRefusal : List ℕ → ℕ
 ledgerRefusal ledger = cond (lengthWrong ledger) 53 (cond (not (obeys ledger)) 1 0)
 
--- the used pairs
+-- the used pairs: in any list, those before the first whose end is 0
 unfoldable pub pairsOf : List ℕ → Pairs
 pairsOf [] = none
 pairsOf (a ∷ []) = none

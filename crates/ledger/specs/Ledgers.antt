@@ -35,7 +35,7 @@ pub record Ledgers : Type 0 where
   pub only-one : (r : ℕ) (l m : List ℕ) → length l ≡ 2 * r → length m ≡ 2 * r → obeys l ≡ true → obeys m ≡ true → ((p : ℕ) → Contains p l ↔ Contains p m) → l ≡ m
   -- its number of bytes is the number of places that it holds
   pub bytes-are-places : (f : ℕ) (ps : Pairs) → ObeyFrom 0 ps → endsAtMost f ps ≡ true → total ps ≡ countBelow f ps
-  -- a range joined to it: the union, by the rule, and as few pairs as that has
+  -- a range joined to it: the union, by the rule, with at most one pair more; and no other list by the rule has these places
   pub join-union : (s e p : ℕ) (ps : Pairs) → s < e → ObeyFrom 0 ps → contains p (join s e ps) ≡ max (inRange s e p) (contains p ps)
   pub join-obeys : (s e : ℕ) (ps : Pairs) → s < e → ObeyFrom 0 ps → ObeyFrom 0 (join s e ps)
   pub join-needs : (s e : ℕ) (ps : Pairs) → size (join s e ps) ≤ suc (size ps)

@@ -1,4 +1,4 @@
--- What the readers of numbers answer, row by row: bytes in both orders, and decimal digits.
+-- What the readers of numbers answer, case by case: bytes in both orders, and decimal digits.
 use Prim.Native.Nat.{ℕ, _+_, _*_, _-_, _≤_, _<_}
 use mathlib.Core.Path.{_≡_}
 use mathlib.Core.Logic.{_⊎_}

@@ -7,7 +7,8 @@ ghost use lib.Dec.{eqb};
 ghost use lib.ListN.{length, getD, drop};
 ghost use Rattle.rangechecks.specs.Ranges.{disjoint, disjointFrom, allDisjoint};
 
-// Whether x places from a on and y places from b on share none.
+// Whether one of two ranges, x places from a on and y places from b on, ends at or before the start of the other: where neither is empty, they
+// share no place.
 fn two_disjoint(a: u64, x: u64, b: u64, y: u64) -> bool
     ensures { λ r. ⌜ r ≡ disjoint a x b y ⌝ }
 {
@@ -17,7 +18,7 @@ fn two_disjoint(a: u64, x: u64, b: u64, y: u64) -> bool
     sum::sum_at_most(b, y, a)
 }
 
-// Whether x places from a on share none with the ranges from the number `from` on.
+// The same of x places from a on and each of the ranges from the number `from` on.
 fn disjoint_from(a: u64, x: u64, starts: &[u64], lengths: &[u64], from: usize) -> bool
     requires { ⌜ length (now lengths) ≡ length (now starts) ⌝ }
     ensures { λ r. ⌜ r ≡ disjointFrom a x (drop from (now (starts .entry))) (drop from (now (lengths .entry))) ⌝ }
@@ -32,7 +33,7 @@ fn disjoint_from(a: u64, x: u64, starts: &[u64], lengths: &[u64], from: usize) -
     true
 }
 
-// Whether there is a length for each start and no two of the ranges share a place.
+// Whether there is a length for each start and any two of the ranges are so.
 pub fn all_disjoint(starts: &[u64], lengths: &[u64]) -> bool
     ensures { λ r. ⌜ r ≡ (eqb (length (now (starts .entry))) (length (now (lengths .entry))) && allDisjoint (now (starts .entry)) (now (lengths .entry))) ⌝ }
 {

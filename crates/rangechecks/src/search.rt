@@ -29,7 +29,7 @@ pub fn pair_starts_by(ledger: &[u64], i: usize, place: u64) -> bool
     starts_by(ledger, i, place)
 }
 
-// In a ledger by the rule, how many pairs, from the first on, are used and start at the place or before it.
+// In a ledger that obeys the rule, how many pairs, from the first on, are used and start at the place or before it.
 fn started(ledger: &[u64], place: u64) -> usize
     ensures { λ r. ⌜ (r ≤ capacity (now (ledger .entry))) × (obeys (now (ledger .entry)) ≡ true → r ≡ countStartingBy place (pairsOf (now (ledger .entry)))) ⌝ }
 {

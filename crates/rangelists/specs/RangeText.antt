@@ -78,11 +78,12 @@ pub record Represents (m : Merged) (k : ℕ) (ledger : List ℕ) : Type 0 where
 unfoldable pub rangesOf : ℕ → List ℕ → Merged
 rangesOf r text = mergedFrom r none (parts text)
 
--- 1 where one of the texts is a range that holds the place p, and 0 where none is
+-- 1 where the range holds the place p, and 0 where it does not
 unfoldable pub rangeContains : ℕ → Range → ℕ
 rangeContains p Malformed = 0
 rangeContains p (Places s e) = inRange s e p
 
+-- 1 where one of the texts is a range that holds the place p, and 0 where none is
 unfoldable pub listContains : ℕ → List (List ℕ) → ℕ
 listContains p [] = 0
 listContains p (t ∷ ts) = max (rangeContains p (rangeOf t)) (listContains p ts)

@@ -1,4 +1,4 @@
-// The receiver of one transfer: what a host calls, over leaves that no host calls.
+// The receiver of one transfer: what a host calls.
 pub mod receive;
 pub mod show;
 pub mod start;

@@ -19,7 +19,8 @@ impl Receiver {
         verdict::shown(self.transfer)
     }
 
-    // The payload bytes stored since start: those claimed less those left in all payloads.
+    // The payload bytes stored since start, where transfer and ledger fit: those claimed less those left in all payloads. Nothing is tested: either
+    // sum stops at the largest number, and the difference at 0.
     pub fn stored(self, ledger: &[u64]) -> u64
         ensures { λ r. ⌜ r ≡ storedSaturating (self .transfer) (now (ledger .entry)) ⌝ }
     {

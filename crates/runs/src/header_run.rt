@@ -59,7 +59,7 @@ fn room(x: ChannelState) -> usize
     limits::HELD_LIMIT - held
 }
 
-// So many bytes of the piece make the header whole but for its last, which is in the piece too.
+// The piece has the bytes up to the 16th, so many, and the 17th too: the header is made whole and judged.
 fn judge_run(
     x: ChannelState,
     c: usize,

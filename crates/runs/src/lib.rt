@@ -1,4 +1,4 @@
-// A call's bytes taken in runs: leaves of the receiver, no host calls them.
+// A call's bytes taken in runs. Internal to the receiver: a host calls `receiver`.
 mod header_run;
 mod payload_run;
 mod run;

@@ -26,7 +26,7 @@ fn lesser(a: u64, b: usize) -> usize
     b
 }
 
-// Where the transfer fits, the payload lies in the file, and the place after these bytes is a 64-bit number.
+// Stores the piece's bytes up to the payload's end. Where the transfer fits, the payload lies in the file and the sum does not wrap.
 pub fn payload_run(
     x: ChannelState,
     c: usize,

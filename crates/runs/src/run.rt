@@ -34,7 +34,7 @@ fn gives_19(x: ChannelState, o: OtherChannels) -> bool
     verdict::count_reached(x.count, o.used)
 }
 
-// Where the transfer fits, bytes are left of a payload only in its two states.
+// Takes the bytes of the header or of the payload at hand. The last case is that of an ended channel, which takes none.
 pub fn run(
     x: ChannelState,
     c: usize,

@@ -24,7 +24,7 @@ afterByte (notTaken w) = w
 
 -- ---- a fault, the end of a channel, and the beginning of a payload
 
--- a fault clears the channel's held bytes and stops the call; nothing else changes
+-- a fault stops the call and leaves the channel in a header of which nothing is held; file, ledger, count and the other channels stay
 unfoldable pub stopWithFault : World → ℕ → ℕ → Outcome World
 stopWithFault w c k = stops (withTransfer w (putFault (putState (w .t) c (header [])) k c))
 

@@ -27,7 +27,7 @@ oneIfActive k = cond (ltb 0 (k .state) && ltb (k .state) 4) 1 0
 unfoldable pub endedOf : Transfer → ℕ
 endedOf t = sum oneIfEnded (t .channels)
 
--- the channels not unused: those that have ended and those that are alive
+-- the channels not unused: those that have ended and those that are active
 unfoldable pub usedOf : Transfer → ℕ
 usedOf t = endedOf t + sum oneIfActive (t .channels)
 

@@ -3,8 +3,9 @@
 // One channel.
 //
 //     unused --first byte--> header --17th byte--> payload --last byte--> header or, with bit 8, ended
-//                              ^                      |
-//                              +------- length 0 -----+    with bit 8 and no payload: ended
+//
+// A header without a payload, of length 0 or a count of end markers, leads to the next header or, with bit 8, to the end. After a fault the
+// channel is in a header of which nothing is held; 19 leaves it unused.
 #[repr(C)]
 pub struct Channel {
     // 0 unused, 1 in a header, 2 in a payload, 3 in a payload after which the channel ends, 4 ended.

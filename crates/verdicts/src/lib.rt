@@ -1,2 +1,2 @@
-// A leaf of the receiver, and the verdict's type: a host calls `receiver`.
+// The verdict. Internal to the receiver but for the verdict's type: a host calls `receiver`.
 pub mod verdict;

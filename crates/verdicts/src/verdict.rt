@@ -36,7 +36,7 @@ pub fn guessed(fault: u64, count: u64, ended: u64) -> bool
     !count_reached(count, ended)
 }
 
-// How many of the other channels have to end for all that were announced to have ended, one being in that state.
+// How many channels other than this one have to have ended for RESULT, this one being in that state.
 fn wanted(count: u64, state: u8) -> u64
     requires { ⌜ 0 < count ⌝ }
     ensures { λ r. ⌜ r + cond (eqb state 4) 1 0 ≡ count ⌝ }
