@@ -1,4 +1,4 @@
-pub mod Passed
+pub mod ChannelTotals
 pub mod Payloads
 pub mod FitReportFields
 pub mod Used

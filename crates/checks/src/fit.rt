@@ -36,7 +36,7 @@ pub fn without_file(t: Transfer, ledger: &[u64]) -> bool
 }
 
 // The whole of it, for a file of so many bytes.
-pub fn whole(t: Transfer, file: usize, ledger: &[u64]) -> FitReport
+pub fn report_with_file(t: Transfer, file: usize, ledger: &[u64]) -> FitReport
     ensures { λ r. ⌜ r ≡ reportWithFile file t (now (ledger .entry)) ⌝ }
 {
     if file as u64 != t.len {

@@ -15,7 +15,7 @@ use Rattle.hostlists.specs.declared.list.Hosts.the-variants.{Count, Refused as 
 use Rattle.host.specs.Header.{fieldsOf}
 use Rattle.host.specs.Written.{writtenOf}
 use Rattle.host.specs.Line.{commandOf}
-use Rattle.host.specs.Hosts.{listOf}
+use Rattle.host.specs.Hosts.{hostPortCountOf}
 use Rattle.host.specs.Numbers.{Numbers}
 
 header : (x : Header) → fieldsOf x .refused ≡ headerNumber x
@@ -39,7 +39,7 @@ unfolding writtenBytes writtenNumber
 written (Bytes n) = (refl, refl)
 written (NotWritten k) = (refl, refl)
 
-list : (x : Hosts) → listOf x .refused ≡ listNumber x
+list : (x : Hosts) → hostPortCountOf x .refused ≡ listNumber x
 unfolding listNumber
 list (Count n) = refl
 list (NoList k) = refl

@@ -11,11 +11,11 @@ use Rattle.hostlists.specs.declared.list.Hosts.{Hosts}
 use Rattle.host.specs.Header.{fieldsOf}
 use Rattle.host.specs.Written.{writtenOf}
 use Rattle.host.specs.Line.{commandOf}
-use Rattle.host.specs.Hosts.{listOf}
+use Rattle.host.specs.Hosts.{hostPortCountOf}
 
 pub record Numbers : Type 0 where
   pub header : (x : Header) → fieldsOf x .refused ≡ headerNumber x
   pub line : (x : Line) → commandOf x .refused ≡ lineNumber x
   pub verb-is : (x : Line) → commandOf x .verb ≡ verb x
   pub written : (x : Written) → (writtenOf x .length ≡ writtenBytes x) × (writtenOf x .refused ≡ writtenNumber x)
-  pub list : (x : Hosts) → listOf x .refused ≡ listNumber x
+  pub list : (x : Hosts) → hostPortCountOf x .refused ≡ listNumber x

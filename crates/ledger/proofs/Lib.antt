@@ -12,5 +12,5 @@ pub mod Zeros
 pub mod LedgerRule
 pub mod Ledgers
 pub mod LedgerEntries
-pub mod IsRuled
+pub mod PairsObey
 pub mod LedgerRefusal

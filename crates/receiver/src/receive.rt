@@ -53,7 +53,7 @@ fn refusal(found: FitReport, fault: u64, count: u64, state: u8, channel: u64, so
     if count::CHANNELS as u64 <= channel {
         return 2;
     }
-    if !verdict::guessed(fault, count, found.ended) {
+    if !verdict::is_guess(fault, count, found.ended) {
         return 3;
     }
     if !some {
@@ -79,7 +79,7 @@ fn channel_index(channel: u64) -> usize
 fn refused(t: Transfer, n: u8) -> Received
     ensures { λ r. ⌜ (r .receiver .transfer ≡ t) × (r .answer ≡ Refused n) × ((file ledger : List ℕ) → toVerdict (r .verdict) ≡ verdictOf (world t file ledger)) ⌝ }
 {
-    let shown = verdict::shown(t);
+    let shown = verdict::of_transfer(t);
     Received {
         receiver: Receiver { transfer: t },
         verdict: shown,
@@ -126,7 +126,7 @@ impl Receiver {
         ensures { λ r. ⌜ ((toAnswer (r .answer), world (r .receiver .transfer) (now (file .exit)) (now (ledger .exit))) ≡ receiveOf (world (self .transfer) (now (file .entry)) (now (ledger .entry))) channel (now (piece .entry))) × (toVerdict (r .verdict) ≡ verdictOf (world (r .receiver .transfer) (now (file .exit)) (now (ledger .exit)))) ⌝ }
     {
         let t = self.transfer;
-        let found = fit::whole(t, file.len(), ledger);
+        let found = fit::report_with_file(t, file.len(), ledger);
         let c = channel_index(channel);
         let k = t.channels[c];
         let n = refusal(found, t.fault, t.count, k.state, channel, 0 < piece.len());

@@ -16,7 +16,7 @@ impl Receiver {
     pub fn verdict(self) -> Verdict
         ensures { λ r. ⌜ ((file ledger : List ℕ) → toVerdict r ≡ verdictOf (world (self .transfer) file ledger)) ⌝ }
     {
-        verdict::shown(self.transfer)
+        verdict::of_transfer(self.transfer)
     }
 
     // The payload bytes stored since start, where transfer and ledger fit: those claimed less those left in all payloads. Nothing is tested: either

@@ -20,19 +20,19 @@ use Rattle.savedledgers.specs.Saved.{pairsIn, pairBytes}
 -- ---- order
 
 -- the k-th pair of a body is looked at
-pub isRuled-turn : (body : List ℕ) (n k end a b : ℕ) → k < n
+pub obeyFrom-turn : (body : List ℕ) (n k end a b : ℕ) → k < n
     → a ≡ fromLittleEndian 256 (take 8 (drop (16 * k) body)) → b ≡ fromLittleEndian 256 (take 8 (drop (16 * k + 8) body))
     → obeyFrom (lowest end) (pairsIn (n - k) (drop (16 * k) body))
     ≡ mayFollow end a b && obeyFrom (suc b) (pairsIn (n - (k + 1)) (drop (16 * (k + 1)) body))
 unfolding obeyFrom pairsIn
-isRuled-turn body n k end a b h e g =
+obeyFrom-turn body n k end a b h e g =
     let m : n - k ≡ suc (n - (k + 1)) = omega arith in
     let q : 16 * (k + 1) ≡ 16 * k + 16 = omega arith in
     rw (m, drop-drop 8 (16 * k) body, drop-drop 16 (16 * k) body, ← e, ← g, q, ← lowest-follows end a b) (sym (and-assoc (leb (lowest end) a) (ltb a b) _))
 
 -- a used pair ends above 0
-pub isRuled-next : (a b : ℕ) (ps : Pairs) → a < b → obeyFrom (suc b) ps ≡ obeyFrom (lowest b) ps
-isRuled-next a b ps h = rw (ne-eqb b 0 (omega arith))
+pub obeyFrom-next : (a b : ℕ) (ps : Pairs) → a < b → obeyFrom (suc b) ps ≡ obeyFrom (lowest b) ps
+obeyFrom-next a b ps h = rw (ne-eqb b 0 (omega arith))
 
 -- ---- lengths
 

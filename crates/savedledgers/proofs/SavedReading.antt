@@ -20,7 +20,7 @@ use Rattle.ledger.specs.Ledger.{lengthWrong, capacity, laidOut}
 use Rattle.ledger.proofs.PairsAsNumbers.{laidOut-flat}
 use Rattle.ledger.specs.Pairs.{ObeyFrom, obeyFrom}
 use Rattle.ledger.proofs.LedgerSizes.{length-right, length-wrong}
-use Rattle.ledger.proofs.IsRuled.{ruled-isRuled, isRuled-ruled}
+use Rattle.ledger.proofs.PairsObey.{ruled-obeyFrom, obeyFrom-ruled}
 use Rattle.savedledgers.specs.Numbers.{numbersIn}
 use Rattle.savedledgers.specs.Saved.{pairsIn, kindOne, pairLength, frameRefusal, bodyOf, savedPairs, bodyWrong, readSavedRefusal, readSaved, readSavedAfter, kindOf}
 use Rattle.savedledgers.specs.SavedReading.{Refuses, Reads, RightLength, RightFrame, IsKindOne, SavedReading, SavedPairs}
@@ -179,7 +179,7 @@ module _ (bytes ledger : List ℕ) where
     order-63 n w = number-order bytes ledger (right-length ledger l) (number-0 bytes f k) w (go (obeyFrom 0 (savedPairs bytes)) refl)
       where
         go : (t : Bool) → obeyFrom 0 (savedPairs bytes) ≡ t → t ≡ false
-        go true e = absurd (n (isRuled-ruled 0 (savedPairs bytes) e))
+        go true e = absurd (n (obeyFrom-ruled 0 (savedPairs bytes) e))
         go false e = refl
 
     number-63 : (length (drop 6 bytes) % 16 ≡ 0 → ⊥) ⊎ (ObeyFrom 0 (savedPairs bytes) → ⊥) → readSavedRefusal bytes ledger ≡ 63
@@ -198,9 +198,9 @@ module _ (bytes ledger : List ℕ) where
         wrong-kind = λ l f n. frame-refuses 62 l (number-62 bytes f n) (omega arith);
         wrong-body = λ l f k o. refuses 63 (number-63 l f k o) (omega arith);
         too-many-pairs = λ l f k b h.
-            refuses 64 (number-room bytes ledger (right-length ledger l) (number-0 bytes f k) (b .whole) (ruled-isRuled 0 (savedPairs bytes) (b .ruled)) h) (omega arith);
+            refuses 64 (number-room bytes ledger (right-length ledger l) (number-0 bytes f k) (b .whole) (ruled-obeyFrom 0 (savedPairs bytes) (b .ruled)) h) (omega arith);
         read = λ l f k b h.
-            reads (number-none bytes ledger (right-length ledger l) (number-0 bytes f k) (b .whole) (ruled-isRuled 0 (savedPairs bytes) (b .ruled)) h);
+            reads (number-none bytes ledger (right-length ledger l) (number-0 bytes f k) (b .whole) (ruled-obeyFrom 0 (savedPairs bytes) (b .ruled)) h);
       }
 
 pub saved-pairs : SavedPairs
@@ -210,5 +210,5 @@ saved-pairs =
       all-pairs = λ bytes. refl;
       no-pair = λ body. refl;
       next-pair = λ n body. refl;
-      order-is-rule = λ ps. (isRuled-ruled 0 ps, ruled-isRuled 0 ps);
+      order-is-rule = λ ps. (obeyFrom-ruled 0 ps, ruled-obeyFrom 0 ps);
     }

@@ -14,7 +14,7 @@ use Rattle.ledger.specs.Pairs.{Pairs, size, ObeyFrom, endsAtMost, obeyFrom}
 use Rattle.ledger.specs.Ledger.{largest, lengthWrong, capacity, obeys, pairsOf, laidOut}
 use Rattle.ledger.proofs.LedgerLayout.{length-laidOut, pairsOf-laidOut, rule-laidOut, rule-ruled, laidOut-pairsOf, size-pairsOf}
 use Rattle.ledger.proofs.LedgerSizes.{length-right, length-fits}
-use Rattle.ledger.proofs.IsRuled.{ruled-isRuled, isRuled-ruled}
+use Rattle.ledger.proofs.PairsObey.{ruled-obeyFrom, obeyFrom-ruled}
 use Rattle.ledger.proofs.LedgerRefusal.{refusal-none}
 use Rattle.savedledgers.specs.Saved.{kindOne, pairBytes, framed, bodyOf, frameRefusal, savedPairs, readSavedRefusal, readSaved, readSavedAfter, savedOf, writeSaved, writeSavedAfter}
 use Rattle.savedledgers.specs.SavedReading.{Reads}
@@ -40,7 +40,7 @@ module _ (ps : Pairs) (ruled : ObeyFrom 0 ps) (ends : endsAtMost largest ps ≡ 
       let l = length-pairBytes ps in
       let frame : frameRefusal kindOne h ≡ 0 = frame-back kindOne (pairBytes ps) (omega arith) (omega arith) in
       let body : length (bodyOf h) ≡ 16 * size ps = ap length (body-back kindOne (pairBytes ps)) ∙ l in
-      let order : obeyFrom 0 (savedPairs h) ≡ true = rw saved-pairs (ruled-isRuled 0 ps ruled) in
+      let order : obeyFrom 0 (savedPairs h) ≡ true = rw saved-pairs (ruled-obeyFrom 0 ps ruled) in
       rw saved-pairs at (reads h m (number-none h m lengths frame (omega arith) order (omega arith)))
 
 module _ (l out m : List ℕ) (n : ℕ) (e : writeSaved l out ≡ Bytes n) (ends : endsAtMost largest (pairsOf l) ≡ true) where
@@ -65,7 +65,7 @@ module _ (l out m : List ℕ) (n : ℕ) (e : writeSaved l out ≡ Bytes n) (ends
 
 module _ (h m : List ℕ) (bytes : AllBelow 256 h) (sound : Sound h m) where
   read-ruled : ObeyFrom 0 (savedPairs h)
-  read-ruled = isRuled-ruled 0 (savedPairs h) (sound .order)
+  read-ruled = obeyFrom-ruled 0 (savedPairs h) (sound .order)
 
   pairs-same : pairsOf (laidOut (capacity m) (savedPairs h)) ≡ savedPairs h
   pairs-same =

@@ -25,7 +25,7 @@ pub struct Transfer {
     pub pairs: u64,
     // The number of end markers that the sender announced, 0 while it is unknown.
     pub count: u64,
-    // The fault's number, 0 where there is none, and its channel.
+    // The fault's number, 0 where there is none, and the channel that it came on: the screen line's "BROKEN fault on channel".
     pub fault: u64,
     pub on: u64,
     // The held header bytes, 16 for each channel.

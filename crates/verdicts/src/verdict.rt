@@ -27,7 +27,7 @@ pub fn count_reached(count: u64, n: u64) -> bool
 }
 
 // Whether the verdict is GUESS.
-pub fn guessed(fault: u64, count: u64, ended: u64) -> bool
+pub fn is_guess(fault: u64, count: u64, ended: u64) -> bool
     ensures { λ r. ⌜ r ≡ not (ltb 0 fault || countReached count ended) ⌝ }
 {
     if 0 < fault {
@@ -37,7 +37,7 @@ pub fn guessed(fault: u64, count: u64, ended: u64) -> bool
 }
 
 // How many channels other than this one have to have ended for RESULT, this one being in that state.
-fn wanted(count: u64, state: u8) -> u64
+fn others_needed(count: u64, state: u8) -> u64
     requires { ⌜ 0 < count ⌝ }
     ensures { λ r. ⌜ r + cond (eqb state 4) 1 0 ≡ count ⌝ }
 {
@@ -57,14 +57,14 @@ pub fn of(fault: u64, count: u64, others: u64, state: u8) -> Verdict
     if count == 0 {
         return Verdict::Guess;
     }
-    if others == wanted(count, state) {
+    if others == others_needed(count, state) {
         return Verdict::Result;
     }
     Verdict::Guess
 }
 
 // BROKEN where there is a fault, else RESULT where a count is known and as many channels have ended, else GUESS.
-pub fn shown(t: Transfer) -> Verdict
+pub fn of_transfer(t: Transfer) -> Verdict
     ensures { λ r. ⌜ ((file ledger : List ℕ) → toVerdict r ≡ verdictOf (world t file ledger)) ⌝ }
 {
     of(t.fault, t.count, count::ended(t), 0)

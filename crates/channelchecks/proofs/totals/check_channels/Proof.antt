@@ -11,7 +11,7 @@ use Rattle.transfer.specs.Channel.{channelCount, blank}
 use Rattle.transfer.specs.Fit.{channelFits}
 use Rattle.transfer.proofs.FitChannels.{bytesAt}
 use Rattle.counts.proofs.Sum.{length-mapped}
-use Rattle.channelchecks.proofs.Passed.{Passed, passed-none, fails, passes, passed-all, passed-unfit}
+use Rattle.channelchecks.proofs.ChannelTotals.{Passed, passed-none, fails, passes, passed-all, passed-unfit}
 use Rattle.channelchecks.proofs.totals.check_channels.Statement.{statement}
 use Rattle.channelchecks.proofs.totals.check_channels.Tie as tie
 

@@ -1,6 +1,6 @@
 -- `hosts::cob_host_at`.
 use mathlib.Core.Path.{sym, ap, _∙_}
-use Rattle.host.specs.Hosts.{foundOf}
+use Rattle.host.specs.Hosts.{hostPortAtOf}
 use borrow.Author.Needs.{needs}
 use Rattle.host.proofs.hosts.cob_host_at.Statement.{statement}
 use Rattle.host.proofs.hosts.cob_host_at.Tie as tie
@@ -15,10 +15,10 @@ enum-told : tie.Need-enum-told
 enum-told c = search needs
 
 returns : tie.Need-returns
-returns c = ap foundOf (sym (c .before .parsed .given .1) ∙ c .before .before .before .read-at .ensures)
+returns c = ap hostPortAtOf (sym (c .before .parsed .given .1) ∙ c .before .before .before .read-at .ensures)
 
 returns-2 : tie.Need-returns-2
-returns-2 c = ap foundOf (sym (c .enum-told .given .1) ∙ c .before .before .read-at .ensures)
+returns-2 c = ap hostPortAtOf (sym (c .enum-told .given .1) ∙ c .before .before .read-at .ensures)
 
 pub cob-host-at-spec : {M : Type 1} → statement M
 cob-host-at-spec =

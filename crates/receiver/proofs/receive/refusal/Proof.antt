@@ -23,11 +23,11 @@ fits-by t f l found b e q = sym (found-fits t f l) ∙ ap (λ s. s .fits) (sym e
 does-fit : (c : tie.Else1) (t : Transfer) (f l : List ℕ) → c .before .before .args .found ≡ reportWithFile (length f) t l → fits (world t f l) ≡ true
 does-fit c t f l e = let s = c .before .before .args .found in fits-by t f l s true e (not-false (s .fits) (c .if1 .left))
 
-guessed-is : (c : tie.After-guessed) (t : Transfer) (f l : List ℕ) → let x = c .before .before .before .before .args in
-    x .found ≡ reportWithFile (length f) t l → x .fault ≡ t .fault → x .count ≡ t .count → isGuess (verdictOf (world t f l)) ≡ c .guessed .result
-guessed-is c t f l e i n =
+is-guess-is : (c : tie.After-is-guess) (t : Transfer) (f l : List ℕ) → let x = c .before .before .before .before .args in
+    x .found ≡ reportWithFile (length f) t l → x .fault ≡ t .fault → x .count ≡ t .count → isGuess (verdictOf (world t f l)) ≡ c .is-guess .result
+is-guess-is c t f l e i n =
     let x = c .before .before .before .before .args in
-    guess-is (world t f l) (x .found .ended) (ap (λ s. s .ended) e ∙ found-counts t f l (does-fit (c .before .before) t f l e) .1) ∙ rw (← i, ← n) (sym (c .guessed .ensures))
+    guess-is (world t f l) (x .found .ended) (ap (λ s. s .ended) e ∙ found-counts t f l (does-fit (c .before .before) t f l e) .1) ∙ rw (← i, ← n) (sym (c .is-guess .ensures))
 
 returns : tie.Need-returns
 returns c t f l piece e i n k s =
@@ -39,21 +39,21 @@ returns-2 c t f l piece e i n k s =
     let x = c .before .before .before .args in
     sym (refused-2 (world t f l) (x .channel) piece (does-fit (c .before) t f l e) (c .if2 .taken))
 
-guessed-requires : tie.Need-guessed-requires
-guessed-requires c κs = search needs
+is-guess-requires : tie.Need-is-guess-requires
+is-guess-requires c κs = search needs
 
 returns-3 : tie.Need-returns-3
 returns-3 c t f l piece e i n k s =
     let g = c .before in
     let x = g .before .before .before .before .args in
-    sym (refused-3 (world t f l) (x .channel) piece (does-fit (g .before .before) t f l e) (g .before .if2 .left) (guessed-is g t f l e i n ∙ not-true (g .guessed .result) (c .if3 .taken)))
+    sym (refused-3 (world t f l) (x .channel) piece (does-fit (g .before .before) t f l e) (g .before .if2 .left) (is-guess-is g t f l e i n ∙ not-true (g .is-guess .result) (c .if3 .taken)))
 
 returns-4 : tie.Need-returns-4
 returns-4 c t f l piece e i n k s =
     let h = c .before in
     let g = h .before in
     let x = g .before .before .before .before .args in
-    sym (empty-taken (world t f l) (x .channel) piece (does-fit (g .before .before) t f l e) (g .before .if2 .left) (guessed-is g t f l e i n ∙ not-false (g .guessed .result) (h .if3 .left)) (s ∙ not-true (x .some) (c .if4 .taken)))
+    sym (empty-taken (world t f l) (x .channel) piece (does-fit (g .before .before) t f l e) (g .before .if2 .left) (is-guess-is g t f l e i n ∙ not-false (g .is-guess .result) (h .if3 .left)) (s ∙ not-true (x .some) (c .if4 .taken)))
 
 returns-5 : tie.Need-returns-5
 returns-5 c t f l piece e i n k s =
@@ -61,7 +61,7 @@ returns-5 c t f l piece e i n k s =
     let h = d .before in
     let g = h .before in
     let x = g .before .before .before .before .args in
-    sym (refused-4 (world t f l) (x .channel) piece (does-fit (g .before .before) t f l e) (g .before .if2 .left) (guessed-is g t f l e i n ∙ not-false (g .guessed .result) (h .if3 .left)) (s ∙ not-false (x .some) (d .if4 .left))
+    sym (refused-4 (world t f l) (x .channel) piece (does-fit (g .before .before) t f l e) (g .before .if2 .left) (is-guess-is g t f l e i n ∙ not-false (g .is-guess .result) (h .if3 .left)) (s ∙ not-false (x .some) (d .if4 .left))
     (omega (arith, c .if5 .taken, k (g .before .if2 .left))))
 
 returns-6 : tie.Need-returns-6
@@ -70,9 +70,9 @@ returns-6 c t f l piece e i n k s =
     let h = d .before in
     let g = h .before in
     let x = g .before .before .before .before .args in
-    sym (bytes-taken (world t f l) (x .channel) piece (does-fit (g .before .before) t f l e) (g .before .if2 .left) (guessed-is g t f l e i n ∙ not-false (g .guessed .result) (h .if3 .left)) (s ∙ not-false (x .some) (d .if4 .left))
+    sym (bytes-taken (world t f l) (x .channel) piece (does-fit (g .before .before) t f l e) (g .before .if2 .left) (is-guess-is g t f l e i n ∙ not-false (g .is-guess .result) (h .if3 .left)) (s ∙ not-false (x .some) (d .if4 .left))
     (omega (arith, c .if5 .left, k (g .before .if2 .left))))
 
 pub refusal-spec : {M : Type 1} → statement M
 refusal-spec =
-    tie.close (tie.spec returns returns-2 guessed-requires returns-3 returns-4 returns-5 returns-6)
+    tie.close (tie.spec returns returns-2 is-guess-requires returns-3 returns-4 returns-5 returns-6)

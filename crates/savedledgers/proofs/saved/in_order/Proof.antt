@@ -10,7 +10,7 @@ use lib.ListN.{length, drop}
 use Rattle.ledger.proofs.LedgerPairAt.{lowest, follows-less}
 use Rattle.ledger.specs.Pairs.{obeyFrom}
 use Rattle.savedledgers.specs.Saved.{pairsIn}
-use Rattle.savedledgers.proofs.SavedBody.{isRuled-turn, isRuled-next}
+use Rattle.savedledgers.proofs.SavedBody.{obeyFrom-turn, obeyFrom-next}
 use Rattle.savedledgers.proofs.saved.in_order.Statement.{statement}
 use Rattle.savedledgers.proofs.saved.in_order.Tie as tie
 
@@ -32,7 +32,7 @@ turn c =
     let n = length body / 16 in
     let a = c .before .before .number-at in
     let b = c .before .number-at2 in
-    sym (l .loop .inv .2) ∙ isRuled-turn body n (l .loop .k) (l .loop .end) (a .result) (b .result) (omega arith) (a .ensures) (b .ensures)
+    sym (l .loop .inv .2) ∙ obeyFrom-turn body n (l .loop .k) (l .loop .end) (a .result) (b .result) (omega arith) (a .ensures) (b .ensures)
     ∙ rw (c .may-follow .ensures)
 
 loop-holds : tie.Need-loop-holds Inv-loop μ-loop
@@ -72,7 +72,7 @@ loop-again c =
     let a = c .before .before .before .number-at .result in
     let b = c .before .before .number-at2 .result in
     let q = follows-less (l .loop .end) a b (sym (c .before .may-follow .ensures) ∙ e) in
-    (omega arith, refl, sym (turn (c .before) ∙ rw e (isRuled-next a b _ q)))
+    (omega arith, refl, sym (turn (c .before) ∙ rw e (obeyFrom-next a b _ q)))
 
 returns-2 : tie.Need-returns-2 Inv-loop μ-loop
 unfolding obeyFrom pairsIn

@@ -13,8 +13,8 @@ returns c = rw (lt-ltb 0 (c .before .args .fault) (c .if1 .taken))
 returns-2 : tie.Need-returns-2
 returns-2 c = rw (le-ltb 0 (c .before .before .args .fault) (c .before .if1 .left), c .if2 .taken)
 
-wanted-requires : tie.Need-wanted-requires
-wanted-requires c κs = omega (arith, c .if2 .left)
+others-needed-requires : tie.Need-others-needed-requires
+others-needed-requires c κs = omega (arith, c .if2 .left)
 
 returns-3 : tie.Need-returns-3
 returns-3 c =
@@ -22,7 +22,7 @@ returns-3 c =
     let e = v .before in
     let x = e .before .before .args in
     let h : 0 < x .count = omega (arith, e .if2 .left) in
-    rw (le-ltb 0 (x .fault) (e .before .if1 .left), lt-ltb 0 (x .count) h, eq-eqb (x .others + cond (eqb (x .state) 4) 1 0) (x .count) (omega (arith, v .wanted .ensures, c .if3 .taken)))
+    rw (le-ltb 0 (x .fault) (e .before .if1 .left), lt-ltb 0 (x .count) h, eq-eqb (x .others + cond (eqb (x .state) 4) 1 0) (x .count) (omega (arith, v .others-needed .ensures, c .if3 .taken)))
 
 returns-4 : tie.Need-returns-4
 returns-4 c =
@@ -30,9 +30,9 @@ returns-4 c =
     let e = v .before in
     let x = e .before .before .args in
     let h : 0 < x .count = omega (arith, e .if2 .left) in
-    let d = v .wanted .ensures in
+    let d = v .others-needed .ensures in
     let l = c .if3 .left in
     rw (le-ltb 0 (x .fault) (e .before .if1 .left), lt-ltb 0 (x .count) h, ne-eqb (x .others + cond (eqb (x .state) 4) 1 0) (x .count) (λ q. l (omega (arith, d, q))))
 
 pub of-spec : {M : Type 1} → statement M
-of-spec = tie.close (tie.spec returns returns-2 wanted-requires returns-3 returns-4)
+of-spec = tie.close (tie.spec returns returns-2 others-needed-requires returns-3 returns-4)

@@ -30,7 +30,7 @@ number-is r =
     let x = begun r .args in
     let t = x .self .transfer in
     let p = r .before .before in
-    r .refusal .ensures t (x .file .now) (x .ledger .now) (x .piece .now) (p .before .whole .ensures) refl refl (λ h. ap (λ i. channelAt t i .state) (p .channel-index .ensures .1 h)) (some-is (x .piece .now))
+    r .refusal .ensures t (x .file .now) (x .ledger .now) (x .piece .now) (p .before .report-with-file .ensures) refl refl (λ h. ap (λ i. channelAt t i .state) (p .channel-index .ensures .1 h)) (some-is (x .piece .now))
 
 -- ---- a call that is not refused
 
@@ -40,8 +40,8 @@ not-refused-is e = sym (number-is (e .before)) ∙ none (e .before .refusal .res
 may : (e : tie.Else1) → let x = begun (e .before) .args in (fits (given (e .before)) ≡ true) × (x .channel < 64)
 may e = let x = begun (e .before) .args in not-refused (given (e .before)) (x .channel) (x .piece .now) (not-refused-is e)
 
-whole-requires : tie.Need-whole-requires
-whole-requires c κs = search needs
+report-with-file-requires : tie.Need-report-with-file-requires
+report-with-file-requires c κs = search needs
 
 channel-index-requires : tie.Need-channel-index-requires
 channel-index-requires c κs = search needs
@@ -77,7 +77,7 @@ taken-requires c κs =
     let r = e .before in
     let x = begun r .args in
     let i = r .before .before in
-    let f = i .before .whole .ensures in
+    let f = i .before .report-with-file .ensures in
     let n = found-counts (x .self .transfer) (x .file .now) (x .ledger .now) (may e .0) in
     (i .channel-index .ensures .0, may e .0, ap (λ s. s .used) f ∙ n .0, ap (λ s. s .ended) f ∙ n .1)
 
@@ -101,7 +101,7 @@ pub receive-spec : {M : Type 1} → statement M
 receive-spec =
     tie.close
     (tie.spec
-    whole-requires
+    report-with-file-requires
     channel-index-requires
     mul-k
     element-copy-out-k

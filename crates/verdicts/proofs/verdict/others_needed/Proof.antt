@@ -1,9 +1,9 @@
--- `verdict::wanted`.
+-- `verdict::others_needed`.
 use native.Mathlib.Omega.{arith}
 use borrow.Author.Needs.{needs}
 use borrow.Author.Tests.{ne-eqb}
-use Rattle.verdicts.proofs.verdict.wanted.Statement.{statement}
-use Rattle.verdicts.proofs.verdict.wanted.Tie as tie
+use Rattle.verdicts.proofs.verdict.others_needed.Statement.{statement}
+use Rattle.verdicts.proofs.verdict.others_needed.Tie as tie
 
 sub-result : tie.Need-sub-result
 sub-result c = search needs
@@ -14,5 +14,5 @@ returns c = rw (c .if1 .taken) (omega (arith, c .before .pre))
 returns-2 : tie.Need-returns-2
 returns-2 c = rw (ne-eqb (c .before .args .state) 4 (c .if1 .left)) (omega arith)
 
-pub wanted-spec : {M : Type 1} → statement M
-wanted-spec = tie.close (tie.spec sub-result returns returns-2)
+pub others-needed-spec : {M : Type 1} → statement M
+others-needed-spec = tie.close (tie.spec sub-result returns returns-2)

@@ -6,15 +6,15 @@ use borrow.Author.Tests.{lt-ltb, le-leb, ltb-true, leb-true}
 use lib.Dec.{leb, ltb}
 use Rattle.ledger.specs.Pairs.{Pairs, none, pair, ObeyFrom, obeyFrom}
 
-pub ruled-isRuled : (lo : ℕ) (ps : Pairs) → ObeyFrom lo ps → obeyFrom lo ps ≡ true
+pub ruled-obeyFrom : (lo : ℕ) (ps : Pairs) → ObeyFrom lo ps → obeyFrom lo ps ≡ true
 unfolding obeyFrom
-ruled-isRuled lo none c = refl
-ruled-isRuled lo (pair a b ps) c = rw (le-leb lo a (c .0), lt-ltb a b (c .1), ruled-isRuled (suc b) ps (c .2))
+ruled-obeyFrom lo none c = refl
+ruled-obeyFrom lo (pair a b ps) c = rw (le-leb lo a (c .0), lt-ltb a b (c .1), ruled-obeyFrom (suc b) ps (c .2))
 
-pub isRuled-ruled : (lo : ℕ) (ps : Pairs) → obeyFrom lo ps ≡ true → ObeyFrom lo ps
+pub obeyFrom-ruled : (lo : ℕ) (ps : Pairs) → obeyFrom lo ps ≡ true → ObeyFrom lo ps
 unfolding obeyFrom
-isRuled-ruled lo none h = tt
-isRuled-ruled lo (pair a b ps) h =
+obeyFrom-ruled lo none h = tt
+obeyFrom-ruled lo (pair a b ps) h =
     let p = and-eq-true-iff (leb lo a) (ltb a b && obeyFrom (suc b) ps) .0 h in
     let q = and-eq-true-iff (ltb a b) (obeyFrom (suc b) ps) .0 (p .1) in
-    (leb-true lo a (p .0), ltb-true a b (q .0), isRuled-ruled (suc b) ps (q .1))
+    (leb-true lo a (p .0), ltb-true a b (q .0), obeyFrom-ruled (suc b) ps (q .1))

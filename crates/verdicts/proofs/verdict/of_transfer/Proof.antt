@@ -1,11 +1,11 @@
--- `verdict::shown`: all channels are beside one that is unused.
+-- `verdict::of_transfer`: all channels are beside one that is unused.
 use Prim.Native.Nat.{_+_}
 use mathlib.Core.Path.{_≡_, _∙_}
 use native.Mathlib.Omega.{arith}
 use borrow.Author.Needs.{needs}
 use Rattle.transfer.specs.Transfer.{endedOf, allEnded, verdictOf}
-use Rattle.verdicts.proofs.verdict.shown.Statement.{statement}
-use Rattle.verdicts.proofs.verdict.shown.Tie as tie
+use Rattle.verdicts.proofs.verdict.of_transfer.Statement.{statement}
+use Rattle.verdicts.proofs.verdict.of_transfer.Tie as tie
 
 ended-requires : tie.Need-ended-requires
 ended-requires c κs = search needs
@@ -20,5 +20,5 @@ returns c file ledger =
     let z : c .before .ended .result + 0 ≡ endedOf (c .before .before .args .t) = omega (arith, e) in
     c .of .ensures ∙ rw z
 
-pub shown-spec : {M : Type 1} → statement M
-shown-spec = tie.close (tie.spec ended-requires of-requires returns)
+pub of-transfer-spec : {M : Type 1} → statement M
+of-transfer-spec = tie.close (tie.spec ended-requires of-requires returns)

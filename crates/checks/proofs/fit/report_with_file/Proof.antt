@@ -1,10 +1,10 @@
--- `fit::whole`.
+-- `fit::report_with_file`.
 use mathlib.Core.Path.{_∙_}
 use borrow.Author.Needs.{needs}
 use borrow.Author.Tests.{eq-eqb, ne-eqb}
 use Rattle.checks.specs.ReportOf.{reportWithFile}
-use Rattle.checks.proofs.fit.whole.Statement.{statement}
-use Rattle.checks.proofs.fit.whole.Tie as tie
+use Rattle.checks.proofs.fit.report_with_file.Statement.{statement}
+use Rattle.checks.proofs.fit.report_with_file.Tie as tie
 
 unfit-requires : tie.Need-unfit-requires
 unfit-requires c κs = search needs
@@ -26,5 +26,5 @@ returns-2 c =
     let x = f .before .before .before .args in
     c .fit-report .ensures ∙ rw (eq-eqb (x .file) (x .t .len) (f .if1 .left))
 
-pub whole-spec : {M : Type 1} → statement M
-whole-spec = tie.close (tie.spec unfit-requires returns fit-report-requires returns-2)
+pub report-with-file-spec : {M : Type 1} → statement M
+report-with-file-spec = tie.close (tie.spec unfit-requires returns fit-report-requires returns-2)
