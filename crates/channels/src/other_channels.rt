@@ -1,6 +1,6 @@
 // What a call asks of the rest of its transfer.
 use channelchecks::report::FitReport;
-use octets::sum;
+use sums::sum;
 ghost use mathlib.Core.Path.{_≡_};
 ghost use mathlib.Core.Bool.{cond};
 ghost use Prim.Native.Nat.{_-_};

@@ -9,11 +9,11 @@ use borrow.Author.Tests.{lt-ltb, ltb-true, eq-eqb, eqb-true}
 use lib.Dec.{ltb, eqb}
 use lib.ListN.{length, getD, take, drop, replicate, length-append, length-drop, length-replicate, drop-of-length-le}
 use lib.Seq.{drop-at, drop-drop, drop-append-add}
-use Rattle.octets.specs.Text.{all, isLetter, isPrintable, isSpace, leadingCount}
+use Rattle.texts.specs.Text.{all, isLetter, isPrintable, isSpace, leadingCount}
 use Rattle.commands.specs.Line.{takesNoArgument, textOf, endsInCrLf, verbOf, afterVerb, hasVerb, argumentStart, argumentAccepted, readOf, argumentOf, refusalNumber, verb}
 use Rattle.commands.specs.Accepted.{TakesNoArgument, CommandLine, AcceptedLines}
 use Rattle.commands.specs.Refused.{BeginsWithVerb}
-use Rattle.octets.proofs.Texts.{all-append, all-drop, leading-le, leading-rest}
+use Rattle.texts.proofs.Texts.{all-append, all-drop, leading-le, leading-rest}
 use Rattle.commands.proofs.Spaces.{spaces-over, no-space, space-first, first-no-space}
 use Rattle.commands.proofs.Printable.{letters-printable, spaces-printable, printable-at, each-printable}
 use Rattle.commands.proofs.Refused.{accepted-passed}

@@ -9,10 +9,10 @@ use borrow.Author.Tests.{lt-ltb, ltb-true, eq-eqb, eqb-true}
 use lib.Dec.{ltb, eqb}
 use lib.ListN.{length, getD, take, take-append-drop}
 use lib.Seq.{take-at, drop-at}
-use Rattle.octets.specs.Text.{isLetter, leadingCount}
+use Rattle.texts.specs.Text.{isLetter, leadingCount}
 use Rattle.commands.specs.Line.{upper, verbs, verbNumber, verbOf, afterVerb, hasVerb}
 use Rattle.commands.specs.Refused.{BeginsWithVerb}
-use Rattle.octets.proofs.Texts.{leading-append, all-leading}
+use Rattle.texts.proofs.Texts.{leading-append, all-leading}
 use Rattle.commands.proofs.VerbTable.{number-from-is, own-number}
 
 -- ---- a space follows, or nothing does

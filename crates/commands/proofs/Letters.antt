@@ -4,8 +4,8 @@ use mathlib.Core.Path.{_≡_}
 use mathlib.Core.Logic.{_⊎_, inl, inr}
 use mathlib.Core.Bool.{true, false}
 use native.Mathlib.Omega.{arith}
-use Rattle.octets.specs.Text.{isCapital, isSmall, isLetter}
-use Rattle.octets.proofs.Texts.{between-true, between-false}
+use Rattle.texts.specs.Text.{isCapital, isSmall, isLetter}
+use Rattle.texts.proofs.Texts.{between-true, between-false}
 use Rattle.commands.specs.Line.{upper}
 use Rattle.commands.specs.Letters.{Letters}
 

@@ -8,7 +8,7 @@ use borrow.Author.Tests.{le-leb, leb-true, eq-eqb, eqb-true}
 use lib.Dec.{leb, eqb}
 use lib.ListN.{length, getD, take, drop, replicate, length-append, length-drop, take-append-drop, drop-of-length-le}
 use lib.Seq.{drop-cons, drop-drop, drop-append-le, take-at, getD-append-add, getD-at}
-use Rattle.octets.specs.Text.{isLetter, isSpace, leadingCount}
+use Rattle.texts.specs.Text.{isLetter, isSpace, leadingCount}
 use Rattle.commands.specs.Line.{textOf, endsInCrLf, afterVerb, argumentStart}
 use Rattle.commands.proofs.Spaces.{spaces-taken}
 

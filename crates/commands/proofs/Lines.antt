@@ -8,11 +8,11 @@ use borrow.Author.Tests.{lt-ltb, le-ltb, eq-eqb, ne-eqb}
 use lib.Dec.{ltb}
 use lib.ListN.{length, getD, take, drop, length-take, length-drop, drop-of-length-le}
 use lib.Seq.{take-all, drop-cons}
-use Rattle.octets.specs.Text.{all, isLetter, isPrintable, isSpace, leadingCount}
+use Rattle.texts.specs.Text.{all, isLetter, isPrintable, isSpace, leadingCount}
 use Rattle.commands.specs.Line.{lineLimit, takesNoArgument, textOf, endsInCrLf, verbOf, afterVerb, hasVerb, argumentStart, argumentAccepted, readTextOf, refusalOf, readOf}
 use Rattle.commands.specs.declared.line.Line.{Line}
 use Rattle.commands.specs.declared.line.Line.the-variants.{Command, Refused}
-use Rattle.octets.proofs.Texts.{leading-le}
+use Rattle.texts.proofs.Texts.{leading-le}
 
 -- ---- the text before CR LF
 

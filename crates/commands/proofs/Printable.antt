@@ -7,8 +7,8 @@ use mathlib.Core.List.{List}
 use native.Mathlib.Omega.{arith}
 use native.Mathlib.Decide.{decLt}
 use lib.ListN.{length, getD, replicate}
-use Rattle.octets.specs.Text.{between, isCapital, isLetter, isPrintable, all, leadingCount}
-use Rattle.octets.proofs.Texts.{between-true, between-false, true-between, false-between, each-all, all-each, all-not, leading-whole, after-leading}
+use Rattle.texts.specs.Text.{between, isCapital, isLetter, isPrintable, all, leadingCount}
+use Rattle.texts.proofs.Texts.{between-true, between-false, true-between, false-between, each-all, all-each, all-not, leading-whole, after-leading}
 use Rattle.commands.specs.Accepted.{Printable}
 
 letter-printable : (b : ℕ) → isLetter b ≡ true → isPrintable b ≡ true

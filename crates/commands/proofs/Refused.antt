@@ -9,7 +9,7 @@ use borrow.Author.Tests.{ltb-true, ltb-false, le-ltb, eqb-false, ne-eqb}
 use lib.Dec.{ltb}
 use lib.ListN.{length, take, replicate, length-append, length-replicate}
 use lib.Seq.{take-all}
-use Rattle.octets.specs.Text.{all, isLetter, isPrintable, isSpace, leadingCount}
+use Rattle.texts.specs.Text.{all, isLetter, isPrintable, isSpace, leadingCount}
 use Rattle.commands.specs.Line.{lineLimit, textOf, endsInCrLf, verbOf, afterVerb, hasVerb, argumentStart, argumentAccepted, readOf, argumentOf, refusalNumber, verb}
 use Rattle.commands.specs.Accepted.{Printable, TakesNoArgument}
 use Rattle.commands.specs.Refused.{BeginsWithVerb, RefusedBy, by-31, by-32, by-33, by-34, by-35-missing, by-35-present, Refusals}

@@ -7,7 +7,7 @@ use mathlib.Core.List.{List, [], _∷_, _++_}
 use native.Mathlib.Omega.{arith}
 use borrow.Author.Tests.{eq-eqb, ne-eqb, eqb-true}
 use lib.ListN.{length, getD, take, replicate}
-use Rattle.octets.specs.Text.{isSpace, leadingCount}
+use Rattle.texts.specs.Text.{isSpace, leadingCount}
 
 pub spaces-over : (n : ℕ) (rest : List ℕ) → leadingCount isSpace (replicate n 32 ++ rest) ≡ n + leadingCount isSpace rest
 unfolding leadingCount

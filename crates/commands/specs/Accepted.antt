@@ -5,7 +5,7 @@ use mathlib.Core.Logic.{_⊎_, _≢_}
 use mathlib.Core.Bool.{true}
 use mathlib.Core.List.{List, [], _∷_, _++_, map}
 use lib.ListN.{length, getD, replicate}
-use Rattle.octets.specs.Text.{isLetter, all}
+use Rattle.texts.specs.Text.{isLetter, all}
 use Rattle.commands.specs.Line.{upper, verbs, readOf, argumentOf, refusalNumber, verb}
 
 -- every byte is one of 32 to 126

@@ -3,7 +3,7 @@ use Prim.Native.Nat.{ℕ, _-_, _≤_, _<_}
 use mathlib.Core.Path.{_≡_}
 use mathlib.Core.Logic.{_⊎_}
 use mathlib.Core.Bool.{true, false}
-use Rattle.octets.specs.Text.{isLetter}
+use Rattle.texts.specs.Text.{isLetter}
 use Rattle.commands.specs.Line.{upper}
 
 pub record Letters : Type 0 where

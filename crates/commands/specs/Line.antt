@@ -4,7 +4,7 @@ use mathlib.Core.Bool.{Bool, true, false, cond, _&&_, _||_, not}
 use mathlib.Core.List.{List, [], _∷_, map}
 use lib.Dec.{leb, ltb, eqb}
 use lib.ListN.{length, getD, take, drop}
-use Rattle.octets.specs.Text.{isSmall, isLetter, isSpace, isPrintable, all, leadingCount}
+use Rattle.texts.specs.Text.{isSmall, isLetter, isSpace, isPrintable, all, leadingCount}
 use Rattle.commands.specs.declared.line.Line.{Line}
 use Rattle.commands.specs.declared.line.Line.the-variants.{Command, Refused}
 

@@ -1,6 +1,6 @@
 // Command lines.
-use octets::text;
-use octets::text::ByteKind;
+use texts::text;
+use texts::text::ByteKind;
 ghost use Prim.Native.Nat.{_<_};
 ghost use mathlib.Core.Path.{_≡_};
 ghost use mathlib.Core.List.{[], map};

@@ -1,5 +1,5 @@
 // Counts over the 64 channels of a transfer.
-use octets::sum;
+use sums::sum;
 use transfer::state::Channel;
 use transfer::state::Transfer;
 ghost use mathlib.Core.Path.{_≡_};

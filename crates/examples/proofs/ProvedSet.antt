@@ -2,7 +2,7 @@
 use mathlib.Core.Path.{refl}
 use Rattle.octets.specs.Digits.{fromLittleEndian, fromBigEndian, toLittleEndian, toBigEndian}
 use Rattle.octets.specs.Decimal.{decimalValue}
-use Rattle.octets.specs.Text.{all, leadingCount}
+use Rattle.texts.specs.Text.{all, leadingCount}
 use Rattle.eblock.specs.Descriptor.{has, faultOf}
 use Rattle.eblock.specs.Header.{secondOf, thirdOf, headerBytes, refusalOf, meant, readRefusal, readOf, writeRefusal, secondField, writeOf, writeAfter, refusalNumber}
 use Rattle.answers.specs.Loaded.{loadedNumber}

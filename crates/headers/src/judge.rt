@@ -2,7 +2,7 @@
 use eblock::descriptor;
 use eblock::header;
 use octets::big;
-use octets::sum;
+use sums::sum;
 ghost use mathlib.Core.Path.{_≡_};
 ghost use mathlib.Core.Bool.{cond, _||_};
 ghost use Prim.Native.Nat.{_+_};

@@ -11,10 +11,10 @@ use lib.Dec.{leb, eqb}
 use lib.ListN.{length, getD, take, drop, length-drop, drop-of-length-le}
 use lib.Seq.{length-take-le, take-all}
 use Rattle.octets.specs.Decimal.{decimalValue, readOf}
-use Rattle.octets.specs.Text.{isDigit, leadingCount}
+use Rattle.texts.specs.Text.{isDigit, leadingCount}
 use Rattle.octets.specs.declared.decimal.Number.{Number as Read}
 use Rattle.octets.specs.declared.decimal.Number.the-variants.{Value, Nothing}
-use Rattle.octets.proofs.Texts.{leading-le, all-leading}
+use Rattle.texts.proofs.Texts.{leading-le, all-leading}
 use Rattle.hostports.specs.declared.host_port.ParsedNumber.{ParsedNumber}
 use Rattle.hostports.specs.declared.host_port.ParsedNumber.the-variants.{Number, Malformed as NoNumber}
 use Rattle.hostports.specs.declared.host_port.ParsedHostPort.{ParsedHostPort}

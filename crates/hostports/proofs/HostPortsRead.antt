@@ -10,8 +10,8 @@ use lib.Dec.{leb, ltb, eqb}
 use lib.ListN.{length, getD, take, drop, take-append-drop, List·getD-eq-default}
 use lib.Seq.{length-take-le, drop-cons}
 use Rattle.octets.specs.Decimal.{decimalValue}
-use Rattle.octets.specs.Text.{isDigit, leadingCount}
-use Rattle.octets.proofs.Texts.{leading-le, all-leading, leading-rest}
+use Rattle.texts.specs.Text.{isDigit, leadingCount}
+use Rattle.texts.proofs.Texts.{leading-le, all-leading, leading-rest}
 use Rattle.hostports.specs.declared.host_port.ParsedNumber.{ParsedNumber}
 use Rattle.hostports.specs.declared.host_port.ParsedNumber.the-variants.{Number, Malformed as NoNumber}
 use Rattle.hostports.specs.declared.host_port.ParsedHostPort.the-variants.{HostPort, Malformed}

@@ -8,8 +8,8 @@ use native.Mathlib.Nat.{add-zero}
 use borrow.Author.Tests.{le-leb}
 use lib.ListN.{length, getD, drop, length-append}
 use lib.Seq.{take-append-seam, drop-append-seam, drop-drop, getD-drop}
-use Rattle.octets.specs.Text.{isDigit, all, leadingCount}
-use Rattle.octets.proofs.Texts.{leading-append}
+use Rattle.texts.specs.Text.{isDigit, all, leadingCount}
+use Rattle.texts.proofs.Texts.{leading-append}
 use Rattle.hostports.specs.declared.host_port.ParsedNumber.the-variants.{Number}
 use Rattle.hostports.specs.declared.host_port.ParsedHostPort.the-variants.{HostPort}
 use Rattle.hostports.specs.HostPort.{digitLimit, valueLimit, numberAt, moreAt, hostPortAt}

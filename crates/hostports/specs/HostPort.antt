@@ -5,7 +5,7 @@ use mathlib.Core.List.{List}
 use lib.Dec.{leb, eqb}
 use lib.ListN.{getD, take, drop}
 use Rattle.octets.specs.Decimal.{decimalValue}
-use Rattle.octets.specs.Text.{isDigit, leadingCount}
+use Rattle.texts.specs.Text.{isDigit, leadingCount}
 use Rattle.hostports.specs.declared.host_port.ParsedNumber.{ParsedNumber}
 use Rattle.hostports.specs.declared.host_port.ParsedNumber.the-variants.{Number, Malformed as NoNumber}
 use Rattle.hostports.specs.declared.host_port.ParsedHostPort.{ParsedHostPort}

@@ -5,7 +5,7 @@ use mathlib.Core.Bool.{true, false}
 use mathlib.Core.List.{List, [], _∷_, _++_}
 use lib.ListN.{length, drop}
 use Rattle.octets.specs.Decimal.{decimalValue}
-use Rattle.octets.specs.Text.{isDigit, all}
+use Rattle.texts.specs.Text.{isDigit, all}
 use Rattle.hostports.specs.declared.host_port.ParsedHostPort.the-variants.{HostPort}
 use Rattle.hostports.specs.HostPort.{hostPortAt, refusalNumber, valueOf, placeAfter}
 

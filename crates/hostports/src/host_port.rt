@@ -1,7 +1,7 @@
 // One host-port at a place of a text, and the reader that holds the text.
 use octets::decimal;
-use octets::text;
-use octets::text::ByteKind;
+use texts::text;
+use texts::text::ByteKind;
 ghost use mathlib.Core.Path.{_≡_};
 ghost use Rattle.hostports.specs.HostPort.{numberAt, hostPortAt};
 

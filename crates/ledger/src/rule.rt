@@ -1,5 +1,5 @@
 // The ledger rule, and how many bytes a ledger holds.
-use octets::sum;
+use sums::sum;
 ghost use mathlib.Core.Path.{_≡_};
 ghost use mathlib.Core.Bool.{_&&_};
 ghost use Prim.Native.Nat.{_%_, min};

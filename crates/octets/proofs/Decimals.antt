@@ -14,8 +14,8 @@ use lib.ListN.{length, getD, take, drop, length-map, take-append-drop}
 use lib.Seq.{take-suc}
 use Rattle.octets.specs.Digits.{AllBelow, fromBigEndian, toBigEndian, toLittleEndian}
 use Rattle.octets.specs.Decimal.{decimalValue, digitCountBy, digitCount, inDigits, decimal, noLeadingZero, digitValue, digitByte}
-use Rattle.octets.specs.Text.{isDigit, all}
-use Rattle.octets.proofs.Texts.{between-true, true-between, all-append}
+use Rattle.texts.specs.Text.{isDigit, all}
+use Rattle.texts.proofs.Texts.{between-true, true-between, all-append}
 use Rattle.octets.proofs.Digits.{length-toBig, fromBig-snoc, fromBig-grows, fromBig-lt, fromBig-first, toBig-suc, below-toBig, big-reads-back, big-writes-back}
 
 -- ---- how many digits

@@ -9,11 +9,11 @@ use lib.Dec.{leb, ltb}
 use lib.ListN.{length, getD}
 use Rattle.octets.specs.Digits.{fromBigEndian, fromLittleEndian}
 use Rattle.octets.specs.Decimal.{digitValue, decimalValue, readOf}
-use Rattle.octets.specs.Text.{isDigit, all, leadingCount}
+use Rattle.texts.specs.Text.{isDigit, all, leadingCount}
 use Rattle.octets.specs.Reading.{Reading}
 use Rattle.octets.specs.declared.decimal.Number.the-variants.{Value, Nothing}
 use Rattle.octets.proofs.Digits.{fromBig-snoc, fromLittle-cons}
-use Rattle.octets.proofs.Texts.{between-true, between-false, true-between, false-between, each-all, all-each, all-not, leading-le, leading-each, after-leading}
+use Rattle.texts.proofs.Texts.{between-true, between-false, true-between, false-between, each-all, all-each, all-not, leading-le, leading-each, after-leading}
 
 -- ---- what a text reads as
 

@@ -5,7 +5,7 @@ use mathlib.Core.List.{List, [], _∷_, map}
 use lib.Dec.{leb, ltb, eqb}
 use lib.ListN.{length}
 use Rattle.octets.specs.Digits.{fromBigEndian, toBigEndian}
-use Rattle.octets.specs.Text.{isDigit, all}
+use Rattle.texts.specs.Text.{isDigit, all}
 use Rattle.octets.specs.declared.decimal.Number.{Number}
 use Rattle.octets.specs.declared.decimal.Number.the-variants.{Value, Nothing}
 

@@ -6,7 +6,7 @@ use mathlib.Core.List.{List, [], _∷_, _++_}
 use lib.ListN.{length, getD}
 use Rattle.octets.specs.Digits.{fromLittleEndian, fromBigEndian}
 use Rattle.octets.specs.Decimal.{decimalValue, readOf}
-use Rattle.octets.specs.Text.{isDigit, leadingCount}
+use Rattle.texts.specs.Text.{isDigit, leadingCount}
 use Rattle.octets.specs.declared.decimal.Number.the-variants.{Value, Nothing}
 
 pub record Reading : Type 0 where

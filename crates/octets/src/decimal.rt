@@ -1,6 +1,6 @@
 // Numbers in decimal digits, the most significant digit first.
-use crate::text::ByteKind;
-use crate::text::is_of_kind;
+use texts::text::ByteKind;
+use texts::text::is_of_kind;
 ghost use mathlib.Core.Path.{_≡_};
 ghost use lib.ListN.{length};
 ghost use Rattle.octets.specs.Decimal.{digitCount, inDigits, readOf};

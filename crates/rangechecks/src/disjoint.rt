@@ -1,5 +1,5 @@
 // Ranges given by where they start and how long they are, compared with each other.
-use octets::sum;
+use sums::sum;
 ghost use mathlib.Core.Path.{_≡_};
 ghost use mathlib.Core.Bool.{_&&_};
 ghost use Prim.Native.Nat.{_+_, _<_};

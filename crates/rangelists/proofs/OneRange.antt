@@ -9,9 +9,9 @@ use native.Mathlib.Numerals.{add-one}
 use lib.ListN.{length, getD, drop, take, List·getD-eq-default}
 use lib.Seq.{take-append-seam, getD-append-seam, drop-append-add, split-at}
 use Rattle.octets.specs.Decimal.{decimalValue}
-use Rattle.octets.specs.Text.{isDigit, all, leadingCount}
+use Rattle.texts.specs.Text.{isDigit, all, leadingCount}
 use Rattle.octets.proofs.Reading.{digits-at}
-use Rattle.octets.proofs.Texts.{leading-append}
+use Rattle.texts.proofs.Texts.{leading-append}
 use Rattle.rangelists.specs.RangeText.{rangeOf}
 use Rattle.rangelists.specs.OneRange.{Position, IsRange, OneRange}
 use Rattle.rangelists.specs.declared.ranges.Range.{Range}

@@ -9,8 +9,8 @@ use lib.Dec.{eqb}
 use lib.ListN.{length, take, drop}
 use lib.Seq.{take-all}
 use Rattle.rangelists.specs.RangeText.{prependToFirst, parts}
-use Rattle.octets.specs.Text.{isNotComma, leadingCount}
-use Rattle.octets.proofs.Texts.{leading-le}
+use Rattle.texts.specs.Text.{isNotComma, leadingCount}
+use Rattle.texts.proofs.Texts.{leading-le}
 
 -- without a comma the text is the one part
 pub parts-last : (text : List ℕ) → leadingCount isNotComma text ≡ length text → parts text ≡ text ∷ []

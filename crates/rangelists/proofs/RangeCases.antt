@@ -2,7 +2,7 @@
 use mathlib.Core.Path.{refl}
 use Rattle.octets.specs.Digits.{fromBigEndian, fromLittleEndian}
 use Rattle.octets.specs.Decimal.{decimalValue}
-use Rattle.octets.specs.Text.{all, leadingCount}
+use Rattle.texts.specs.Text.{all, leadingCount}
 use Rattle.ledger.specs.Pairs.{size, join}
 use Rattle.ledger.specs.Ledger.{lengthWrong, laidOut}
 use Rattle.rangelists.specs.RangeText.{isPosition, rangeOf, prependToFirst, parts, mergeRange, mergedFrom, rangesOf, loaded, entriesAfter, readRanges, readRangesAfter}

@@ -14,7 +14,7 @@ use Rattle.ledger.specs.Ledger.{obeys, pairsOf, laidOut, capacity}
 use Rattle.ledger.proofs.PairsJoin.{join-ruled}
 use Rattle.ledger.proofs.LedgerLayout.{pairsOf-laidOut, rule-laidOut, rule-ruled, laidOut-pairsOf}
 use Rattle.ledger.proofs.LedgerOdd.{obeys-even}
-use Rattle.octets.specs.Text.{isNotComma, leadingCount}
+use Rattle.texts.specs.Text.{isNotComma, leadingCount}
 use Rattle.claims.specs.Claim.{JoinResult}
 use Rattle.rangelists.specs.RangeText.{parts, rangesOf, rangeOf, Merged, merged, trouble, mergeRange, mergedFrom, Represents}
 use Rattle.rangelists.specs.declared.ranges.Range.{Range}

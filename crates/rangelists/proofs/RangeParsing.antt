@@ -8,7 +8,7 @@ use borrow.Author.Tests.{le-leb, lt-leb, leb-true, eq-eqb, ne-eqb, eqb-true}
 use lib.Dec.{leb, eqb}
 use lib.ListN.{length, getD, take, drop, List·getD-eq-default}
 use Rattle.octets.specs.Decimal.{decimalValue, readOf}
-use Rattle.octets.specs.Text.{isDigit, all, leadingCount}
+use Rattle.texts.specs.Text.{isDigit, all, leadingCount}
 use Rattle.octets.specs.declared.decimal.Number.the-variants.{Value, Nothing}
 use Rattle.octets.proofs.Reading.{digits-at, at-digits}
 use Rattle.rangelists.specs.RangeText.{lastLimit, digitLimit, isPosition, positionOf, rangeOf}

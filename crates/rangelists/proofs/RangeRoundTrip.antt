@@ -10,7 +10,7 @@ use lib.ListN.{length, take, drop}
 use lib.Seq.{take-at}
 use Rattle.octets.specs.Cases.{AllHold}
 use Rattle.octets.specs.Decimal.{digitCount, decimal}
-use Rattle.octets.specs.Text.{isDigit, all}
+use Rattle.texts.specs.Text.{isDigit, all}
 use Rattle.octets.proofs.Decimals.{width-some, all-inDigits, decimal-reads-back, length-decimal, width-20}
 use Rattle.octets.proofs.Reading.{at-digits}
 use Rattle.answers.specs.declared.loaded.Loaded.the-variants.{Done}

@@ -6,7 +6,7 @@ use mathlib.Core.List.{List, [], _∷_, _++_}
 use lib.Dec.{leb, ltb, eqb}
 use lib.ListN.{length, getD, take, drop, replicate}
 use Rattle.octets.specs.Decimal.{decimalValue, decimal}
-use Rattle.octets.specs.Text.{isDigit, all, leadingCount}
+use Rattle.texts.specs.Text.{isDigit, all, leadingCount}
 use Rattle.octets.specs.declared.decimal.Number.{Number}
 use Rattle.octets.specs.declared.decimal.Number.the-variants.{Value, Nothing}
 use Rattle.answers.specs.declared.loaded.Loaded.{Loaded}

@@ -2,7 +2,7 @@
 use crate::receive::Receiver;
 use counts::count;
 use ledger::rule;
-use octets::sum;
+use sums::sum;
 use verdicts::verdict;
 use verdicts::verdict::Verdict;
 ghost use mathlib.Core.Path.{_≡_};

@@ -6,8 +6,8 @@ use native.Mathlib.Omega.{arith}
 use borrow.Author.Needs.{needs}
 use borrow.Author.Tests.{not-true, not-false}
 use lib.ListN.{length, length-take}
-use Rattle.octets.specs.Text.{isPrintable}
-use Rattle.octets.proofs.Texts.{leading-short, leading-whole}
+use Rattle.texts.specs.Text.{isPrintable}
+use Rattle.texts.proofs.Texts.{leading-short, leading-whole}
 use Rattle.commands.specs.Line.{textOf, endsInCrLf}
 use Rattle.commands.proofs.Lines.{reads-31, reads-32, reads-33, reads-text}
 use Rattle.commands.proofs.LineParts.{ends-long}

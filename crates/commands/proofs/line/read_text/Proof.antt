@@ -7,9 +7,9 @@ use native.Mathlib.Omega.{arith}
 use borrow.Author.Needs.{needs}
 use lib.ListN.{length, take}
 use lib.Seq.{length-take-le}
-use Rattle.octets.specs.Text.{isLetter, leadingCount}
+use Rattle.texts.specs.Text.{isLetter, leadingCount}
 use Rattle.commands.specs.Line.{takesNoArgument, verbNumber, verbOf, hasVerb, argumentStart}
-use Rattle.octets.proofs.Texts.{leading-le}
+use Rattle.texts.proofs.Texts.{leading-le}
 use Rattle.commands.proofs.Lines.{argument-is, argument-within, argument-none, command-is, text-unlisted, text-not-ended, verb-ends, verb-then-space, text-verb-only, text-more, text-missing, text-argument}
 use Rattle.commands.proofs.line.read_text.Statement.{statement}
 use Rattle.commands.proofs.line.read_text.Tie as tie

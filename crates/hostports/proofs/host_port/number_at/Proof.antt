@@ -6,8 +6,8 @@ use borrow.Author.Needs.{needs}
 use lib.ListN.{length, take, drop, length-drop}
 use lib.Seq.{length-take-le}
 use Rattle.octets.specs.Decimal.{readOf}
-use Rattle.octets.specs.Text.{isDigit, leadingCount}
-use Rattle.octets.proofs.Texts.{leading-le}
+use Rattle.texts.specs.Text.{isDigit, leadingCount}
+use Rattle.texts.proofs.Texts.{leading-le}
 use Rattle.hostports.specs.HostPort.{valueLimit}
 use Rattle.hostports.proofs.HostPort.{rest-is, parsedOf, number-past, number-long, number-short}
 use Rattle.hostports.proofs.host_port.number_at.Statement.{statement}

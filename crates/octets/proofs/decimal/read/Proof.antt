@@ -9,8 +9,8 @@ use lib.ListN.{length, getD, take}
 use lib.Seq.{take-all}
 use Rattle.octets.specs.Digits.{fromBigEndian, fromLittleEndian}
 use Rattle.octets.specs.Decimal.{decimalValue, digitValue, readOf}
-use Rattle.octets.specs.Text.{isDigit, all}
-use Rattle.octets.proofs.Texts.{true-between, all-not, all-more}
+use Rattle.texts.specs.Text.{isDigit, all}
+use Rattle.texts.proofs.Texts.{true-between, all-not, all-more}
 use Rattle.octets.proofs.Decimals.{numberOf-more, numberOf-above}
 use Rattle.octets.proofs.Reading.{readOf-spoilt, readOf-above, readOf-value}
 use Rattle.octets.proofs.decimal.read.Statement.{statement}

@@ -9,8 +9,8 @@ use lib.ListN.{length, take, drop, length-drop}
 use lib.Seq.{take-all, drop-drop}
 use Rattle.ledger.specs.Ledger.{obeys, pairsOf, capacity}
 use Rattle.rangelists.specs.RangeText.{merged, mergeRange, rangeOf, mergedFrom, parts, Represents}
-use Rattle.octets.specs.Text.{isNotComma, leadingCount}
-use Rattle.octets.proofs.Texts.{leading-le}
+use Rattle.texts.specs.Text.{isNotComma, leadingCount}
+use Rattle.texts.proofs.Texts.{leading-le}
 use Rattle.rangelists.proofs.RangeMerging.{represents-stopped, represents-done, walk-stop, walk-last, walk-next}
 use Rattle.rangelists.proofs.ranges.join_list.Statement.{statement}
 use Rattle.rangelists.proofs.ranges.join_list.Tie as tie

@@ -7,7 +7,7 @@ use borrow.Author.Needs.{needs}
 use lib.ListN.{length, getD, take, drop, length-drop, length-take}
 use lib.Seq.{take-all}
 use Rattle.octets.specs.Decimal.{decimalValue}
-use Rattle.octets.specs.Text.{isDigit, leadingCount}
+use Rattle.texts.specs.Text.{isDigit, leadingCount}
 use Rattle.rangelists.specs.RangeText.{isPosition, positionOf}
 use Rattle.rangelists.proofs.RangeParsing.{position-nothing, position-value, position-is, range-no-hyphen, range-short, range-no-start, range-no-end, range-falling, range-places}
 use Rattle.rangelists.proofs.ranges.read_range.Statement.{statement}

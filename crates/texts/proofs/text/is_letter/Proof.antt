@@ -1,8 +1,8 @@
 -- `text::is_letter`.
 use mathlib.Core.Path.{sym, _∙_}
 use borrow.Author.Needs.{needs}
-use Rattle.octets.proofs.text.is_letter.Statement.{statement}
-use Rattle.octets.proofs.text.is_letter.Tie as tie
+use Rattle.texts.proofs.text.is_letter.Statement.{statement}
+use Rattle.texts.proofs.text.is_letter.Tie as tie
 
 between-requires : tie.Need-between-requires
 between-requires c κs = search needs

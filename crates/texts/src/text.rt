@@ -1,6 +1,6 @@
 // Bytes of a text by their kind.
 ghost use mathlib.Core.Path.{_≡_};
-ghost use Rattle.octets.specs.Text.{between, isLetter, isOfKind, leadingCount};
+ghost use Rattle.texts.specs.Text.{between, isLetter, isOfKind, leadingCount};
 
 pub enum ByteKind {
     Digit,

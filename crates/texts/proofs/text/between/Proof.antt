@@ -1,7 +1,7 @@
 -- `text::between`.
 use borrow.Author.Tests.{lt-leb, le-leb}
-use Rattle.octets.proofs.text.between.Statement.{statement}
-use Rattle.octets.proofs.text.between.Tie as tie
+use Rattle.texts.proofs.text.between.Statement.{statement}
+use Rattle.texts.proofs.text.between.Tie as tie
 
 returns : tie.Need-returns
 returns c = rw (lt-leb (c .before .args .low) (c .before .args .b) (c .if1 .taken))

@@ -3,10 +3,10 @@ use mathlib.Core.Path.{_≡_, refl, sym, ap, _∙_}
 use mathlib.Core.Bool.{Bool}
 use Prim.Native.Nat.{ℕ}
 use borrow.Author.Needs.{needs}
-use Rattle.octets.specs.Text.{isOfKind}
-use Rattle.octets.specs.declared.text.ByteKind.{ByteKind}
-use Rattle.octets.proofs.text.is_of_kind.Statement.{statement}
-use Rattle.octets.proofs.text.is_of_kind.Tie as tie
+use Rattle.texts.specs.Text.{isOfKind}
+use Rattle.texts.specs.declared.text.ByteKind.{ByteKind}
+use Rattle.texts.proofs.text.is_of_kind.Statement.{statement}
+use Rattle.texts.proofs.text.is_of_kind.Tie as tie
 
 -- what was answered for the kind that the match told
 told : {x y : ByteKind} {r : Bool} (b : ℕ) → x ≡ y → r ≡ isOfKind y b → r ≡ isOfKind x b

@@ -5,10 +5,10 @@ use native.Mathlib.Omega.{arith}
 use borrow.Author.Needs.{needs}
 use borrow.Author.Tests.{not-true, not-false}
 use lib.ListN.{length, drop}
-use Rattle.octets.specs.Text.{isOfKind, leadingCount}
-use Rattle.octets.proofs.Texts.{leading-stops, leading-goes, leading-ends}
-use Rattle.octets.proofs.text.leading.Statement.{statement}
-use Rattle.octets.proofs.text.leading.Tie as tie
+use Rattle.texts.specs.Text.{isOfKind, leadingCount}
+use Rattle.texts.proofs.Texts.{leading-stops, leading-goes, leading-ends}
+use Rattle.texts.proofs.text.leading.Statement.{statement}
+use Rattle.texts.proofs.text.leading.Tie as tie
 
 abbrev Inv-loop : tie.InvT-loop
 Inv-loop kind text i₀ i = (i ≤ length text) × (i + leadingCount (isOfKind kind) (drop i text) ≡ leadingCount (isOfKind kind) text)

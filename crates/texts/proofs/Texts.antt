@@ -11,7 +11,7 @@ use borrow.Author.Tests.{le-leb, lt-leb, leb-true}
 use lib.Dec.{leb}
 use lib.ListN.{length, getD, take, drop, take-append-drop, drop-of-length-le}
 use lib.Seq.{drop-cons, take-suc}
-use Rattle.octets.specs.Text.{between, all, leadingCount}
+use Rattle.texts.specs.Text.{between, all, leadingCount}
 
 -- ---- a byte between two bounds
 

@@ -3,8 +3,8 @@ use Prim.Native.Nat.{ℕ, suc}
 use mathlib.Core.Bool.{Bool, true, cond, _&&_, _||_, not}
 use mathlib.Core.List.{List, [], _∷_}
 use lib.Dec.{leb, eqb}
-use Rattle.octets.specs.declared.text.ByteKind.{ByteKind}
-use Rattle.octets.specs.declared.text.ByteKind.the-variants.{Digit, Letter, Space, Printable, NotComma}
+use Rattle.texts.specs.declared.text.ByteKind.{ByteKind}
+use Rattle.texts.specs.declared.text.ByteKind.the-variants.{Digit, Letter, Space, Printable, NotComma}
 
 -- from low to high, both counted
 abbrev pub between : ℕ → ℕ → ℕ → Bool

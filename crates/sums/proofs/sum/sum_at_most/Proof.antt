@@ -5,8 +5,8 @@ use mathlib.Core.Bool.{Bool, true, false}
 use native.Mathlib.Omega.{arith}
 use borrow.Author.Tests.{le-leb, lt-leb, leb-true, leb-false}
 use lib.Dec.{leb}
-use Rattle.octets.proofs.sum.sum_at_most.Statement.{statement}
-use Rattle.octets.proofs.sum.sum_at_most.Tie as tie
+use Rattle.sums.proofs.sum.sum_at_most.Statement.{statement}
+use Rattle.sums.proofs.sum.sum_at_most.Tie as tie
 
 -- x fits between a and b
 fits-between : (a x b : ℕ) → a ≤ b → leb x (b - a) ≡ leb (a + x) b
