@@ -43,6 +43,8 @@ pub mod Example
 pub mod FitUsed
 pub mod FitPuts
 pub mod FitKept
+pub mod FitEnds
+pub mod Never20
 pub mod Fitting
 pub mod SendingBegunCut
 pub mod SendingStreams

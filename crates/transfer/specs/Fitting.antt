@@ -1,7 +1,7 @@
 -- FIT as propositions, a field for each phrase of it (document 01, "One transfer"), and that every byte keeps it.
 use Prim.Native.Nat.{ℕ, _+_, _*_, _≤_, _<_}
 use mathlib.Core.Path.{_≡_}
-use mathlib.Core.Logic.{_↔_, _⊎_}
+use mathlib.Core.Logic.{_↔_, _⊎_, _≢_}
 use mathlib.Core.Bool.{true, cond}
 use mathlib.Core.List.{List}
 use lib.Dec.{eqb}
@@ -9,9 +9,9 @@ use lib.ListN.{length, getD}
 use Rattle.ledger.specs.Ledgers.{Obeys}
 use Rattle.transfer.specs.declared.state.Channel.{Channel}
 use Rattle.transfer.specs.declared.state.Transfer.{Transfer}
-use Rattle.transfer.specs.Channel.{channelAt}
-use Rattle.transfer.specs.Transfer.{sum, usedOf, World, world}
-use Rattle.transfer.specs.Receive.{afterByte, takeByte}
+use Rattle.transfer.specs.Channel.{ended, channelAt, stateAt}
+use Rattle.transfer.specs.Transfer.{sum, endedOf, usedOf, World, world}
+use Rattle.transfer.specs.Receive.{afterByte, takeByte, takeBytes}
 use Rattle.transfer.specs.Calls.{Call, callOf}
 use Rattle.transfer.specs.Fit.{fitsWithoutFile, fits}
 
@@ -54,6 +54,10 @@ pub record Fit (w : World) : Type 0 where
   -- the fault, if any, is 11 to 20 on a channel below 64
   pub fault : ((w .t .fault ≡ 0) × (w .t .on ≡ 0)) ⊎ ((11 ≤ w .t .fault) × (w .t .fault ≤ 20) × (w .t .on < 64))
 
+-- a byte on channel c leads from w to v: where it ends the channel and a count n is known then, fewer than n have ended before it
+abbrev pub EndsBelowCount : World → World → ℕ → Type 0
+EndsBelowCount w v c = stateAt (w .t) c ≢ ended → stateAt (v .t) c ≡ ended → 0 < v .t .count → endedOf (w .t) < v .t .count
+
 pub record Fitting : Type 0 where
   -- FIT without the file, which the screen line tests: with every file of F bytes they fit
   pub without-file : (t : Transfer) (claimed : List ℕ) → (fitsWithoutFile t claimed ≡ true) ↔ ((file : List ℕ) → length file ≡ t .len → Fit (world t file claimed))
@@ -63,3 +67,10 @@ pub record Fitting : Type 0 where
   -- every byte on every channel keeps it, in any world that fits, and so does every call
   pub byte-keeps : (w : World) (c b : ℕ) → Fit w → c < 64 → Fit (afterByte (takeByte w c b))
   pub call-keeps : (w : World) (k : Call) → Fit w → Fit (callOf w k .1)
+  -- no call on a fitting transfer reaches a channel's end with n channels ended already (document 02, Item 8): no byte does, in any world that fits,
+  -- and so none of a call, whose bytes before it are bs
+  pub byte-ends : (w : World) (c b : ℕ) → Fit w → c < 64 → EndsBelowCount w (afterByte (takeByte w c b)) c
+  pub call-ends : (w : World) (c b : ℕ) (bs : List ℕ) → Fit w → c < 64
+      → let v = takeBytes (λ u x. takeByte u c x) w bs 0 .1 in EndsBelowCount v (afterByte (takeByte v c b)) c
+  -- 20 is never given
+  pub never-20 : (w : World) (c b : ℕ) → Fit w → c < 64 → w .t .fault ≢ 20 → afterByte (takeByte w c b) .t .fault ≢ 20
