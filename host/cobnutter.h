@@ -50,7 +50,6 @@
  *     15  count 0, above 64, or below the channels in use
  *     16  payload past the file's end              17  payload shares a byte with another
  *     18  no pair left in the ledger               19  a channel more than was counted
- *     20  an end of data more than was counted
  *
  * By 1 to 5, 21 to 36, 43, 53 to 64, and the header writer's 11, 12, 13 and 15 nothing that was lent changes. By 41 and 42
  * the whole list becomes 0, by 51 and 52 the whole ledger.

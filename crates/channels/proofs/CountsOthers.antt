@@ -94,4 +94,4 @@ module _ (w : World) (f : Together w) (c : ℕ) (h : c < channelCount) (found : 
 
   pub counts-others : CountsOthers (w .t) c (othersOf (w .t .len) found (k .state))
   unfolding othersOf
-  counts-others = record { below = h; channels = f .channels; heads = f .heads; len = refl; used = rest-used; ended = rest-ended }
+  counts-others = record { has = record { below = h; channels = f .channels; heads = f .heads }; len = refl; used = rest-used; ended = rest-ended }

@@ -1,16 +1,17 @@
--- What the code leaves where a channel ends or its payload begins, in the world's terms.
-use Prim.Native.Nat.{ℕ, zero, suc}
+-- What the code leaves of a fault, and where a payload begins or is over, in the world's terms.
+use Prim.Native.Nat.{ℕ, zero, suc, _<_}
 use mathlib.Core.Path.{_≡_, refl}
 use mathlib.Core.Bool.{Bool, true, false}
 use mathlib.Core.List.{List, []}
+use native.Mathlib.Omega.{arith}
 use Rattle.transfer.specs.declared.state.Transfer.{Transfer}
 use Rattle.transfer.specs.Channel.{header, payload, ended, putState, putFault}
-use Rattle.transfer.specs.Transfer.{World, world, withTransfer, allEnded}
-use Rattle.transfer.specs.Receive.{continues, stops, stopWithFault, endChannel, expectPayload}
+use Rattle.transfer.specs.Transfer.{World, world, withTransfer}
+use Rattle.transfer.specs.Receive.{continues, stops, stopWithFault, expectPayload}
 
-opens-some : (w : World) (c p n : ℕ) (last : Bool) → (n ≡ 0 → ⊥) → continues (withTransfer w (putState (w .t) c (payload p n last))) ≡ expectPayload w c p n last
+opens-some : (w : World) (c p n : ℕ) (last : Bool) → 0 < n → continues (withTransfer w (putState (w .t) c (payload p n last))) ≡ expectPayload w c p n last
 unfolding expectPayload
-opens-some w c p zero last z = absurd (z refl)
+opens-some w c p zero last z = absurd (omega arith)
 opens-some w c p (suc n) last z = refl
 
 -- from the transfer t the code makes u
@@ -19,26 +20,18 @@ module _ (t u : Transfer) (c : ℕ) (file ledger : List ℕ) where
   unfolding stopWithFault
   leaves-fault k e = rw e
 
-  pub ends-20 : allEnded t ≡ true → u ≡ putFault (putState t c (header [])) 20 c → stops (world u file ledger) ≡ endChannel (world t file ledger) c
-  unfolding endChannel
-  ends-20 f e = rw f (leaves-fault 20 e)
-
-  pub ends-ended : allEnded t ≡ false → u ≡ putState t c ended → stops (world u file ledger) ≡ endChannel (world t file ledger) c
-  unfolding endChannel
-  ends-ended f e = rw (f, e)
-
   -- n payload bytes from the place p on are to come
   module _ (p n : ℕ) (last : Bool) where
+    pub ends : n ≡ 0 → last ≡ true → u ≡ putState t c ended
+        → stops (world u file ledger) ≡ expectPayload (world t file ledger) c p n last
+    unfolding expectPayload
+    ends z l e = rw (z, l, e)
+
     pub opens-header : n ≡ 0 → last ≡ false → u ≡ putState t c (header [])
         → continues (world u file ledger) ≡ expectPayload (world t file ledger) c p n last
     unfolding expectPayload
     opens-header z l e = rw (z, l, e)
 
-    pub opens-payload : (n ≡ 0 → ⊥) → u ≡ putState t c (payload p n last)
+    pub opens-payload : 0 < n → u ≡ putState t c (payload p n last)
         → continues (world u file ledger) ≡ expectPayload (world t file ledger) c p n last
     opens-payload z e = rw e (opens-some (world t file ledger) c p n last z)
-
--- no payload, and the channel ends
-pub opens-ends : (w : World) (c p n : ℕ) (last : Bool) → n ≡ 0 → last ≡ true → endChannel w c ≡ expectPayload w c p n last
-unfolding expectPayload
-opens-ends w c p n last z l = rw (z, l)

@@ -1,20 +1,19 @@
 -- The channel of a call written back into its transfer: what is read of it there, and what a change of it is there.
-use Prim.Native.Nat.{ℕ, _+_, _*_, _-_, _≤_, _<_}
+use Prim.Native.Nat.{ℕ, _+_, _*_, _≤_}
 use mathlib.Core.Path.{_≡_, refl, sym, ap, _∙_}
-use mathlib.Core.Bool.{Bool, true, false, cond, _&&_}
+use mathlib.Core.Bool.{Bool, true, false, cond}
 use mathlib.Core.List.{List, [], _++_, append-assoc}
 use native.Mathlib.Omega.{arith}
-use borrow.Author.Tests.{ne-eqb}
-use lib.Dec.{ltb, eqb}
+use lib.Dec.{ltb}
 use lib.ListN.{length, take, drop, length-append}
 use lib.Seq.{getD-set-same, set-set, take-at, drop-at, take-append-add, take-append-le, drop-append-add, drop-append-le, length-take-le}
 use Rattle.transfer.specs.declared.state.Transfer.{Transfer}
 use Rattle.transfer.specs.Channel.{heldLimit, State, header, payload, ended, stateCode, heldLength, nextPlace, bytesLeft, heldBytes, encodeState, blank, channelAt, putState, putFault}
-use Rattle.transfer.specs.Transfer.{oneIfEnded, oneIfActive, endedOf, usedOf, world, guess, result, broken, allEnded, verdictOf}
+use Rattle.transfer.specs.Transfer.{oneIfEnded, oneIfActive, usedOf, world, guess, result, broken, allEnded, verdictOf}
 use Rattle.transfer.specs.Header.{requestOf}
 use Rattle.channels.specs.declared.channel_state.ChannelState.{ChannelState}
 use Rattle.channels.specs.declared.other_channels.OtherChannels.{OtherChannels}
-use Rattle.channels.specs.ChannelState.{channelOf, writeBack, withState, clearedWithFault}
+use Rattle.channels.specs.ChannelState.{channelOf, HasChannel, writeBack, withState, clearedWithFault}
 use Rattle.channels.specs.HeldBytes.{withHeldBytesAt, heldBytesAt, withHeldBytes}
 use Rattle.channels.specs.OtherChannels.{CountsOthers}
 use Rattle.verdicts.specs.Verdict.{countReached}
@@ -60,7 +59,7 @@ with-held-bytes-state x bs = refl
 
 -- ---- in its transfer
 
-module _ (t : Transfer) (c : ℕ) (o : OtherChannels) (a : CountsOthers t c o) where
+module _ (t : Transfer) (c : ℕ) (a : HasChannel t c) where
   room : heldLimit * c + heldLimit ≤ length (t .heads)
   room = omega (arith, a .below, a .heads)
 
@@ -104,23 +103,17 @@ module _ (t : Transfer) (c : ℕ) (o : OtherChannels) (a : CountsOthers t c o) w
     write-back-held-bytes bs l =
         rw (getD-set-same (t .channels) c (channelOf x) blank (omega (arith, a .below, a .channels)), among (t .heads) (x .bytes) (heldLimit * c) room n (x .held) bs l, set-set (t .channels) c (channelOf x) _)
 
-  pub write-back-pairs : (x : ChannelState) → writeBack t c x .pairs ≡ t .pairs
-  unfolding writeBack
-  write-back-pairs x = refl
+pub write-back-pairs : (t : Transfer) (c : ℕ) (x : ChannelState) → writeBack t c x .pairs ≡ t .pairs
+unfolding writeBack
+write-back-pairs t c x = refl
 
-  pub write-back-len : (x : ChannelState) → writeBack t c x .len ≡ t .len
-  unfolding writeBack
-  write-back-len x = refl
+pub write-back-len : (t : Transfer) (c : ℕ) (x : ChannelState) → writeBack t c x .len ≡ t .len
+unfolding writeBack
+write-back-len t c x = refl
 
-  -- ---- counts
+-- ---- counts
 
-  pub write-back-final : (x : ChannelState) → x .state < 4 → allEnded (writeBack t c x) ≡ countReached (x .count) (o .ended)
-  unfolding allEnded
-  write-back-final x h =
-      let z : oneIfEnded (channelOf x) ≡ 0 = rw (ne-eqb (x .state) 4 (λ e. omega arith)) in
-      let e : endedOf (writeBack t c x) ≡ o .ended = omega (arith, a .ended x, z) in
-      rw e (unfold writeBack in refl)
-
+module _ (t : Transfer) (c : ℕ) (o : OtherChannels) (a : CountsOthers t c o) where
   -- the verdict by the count of the others that have ended
   pub write-back-verdict : (x : ChannelState) (file ledger : List ℕ)
       → verdictOf (world (writeBack t c x) file ledger) ≡ cond (ltb 0 (x .fault)) broken (cond (countReached (x .count) (o .ended + oneIfEnded (channelOf x))) result guess)

@@ -1,10 +1,11 @@
 -- The channel of a call, apart from its transfer and written back into it.
-use Prim.Native.Nat.{ℕ, _+_, _*_}
+use Prim.Native.Nat.{ℕ, _+_, _*_, _<_}
+use mathlib.Core.Path.{_≡_}
 use mathlib.Core.List.{List, _++_}
-use lib.ListN.{take, drop, set, replicate}
+use lib.ListN.{length, take, drop, set, replicate}
 use Rattle.transfer.specs.declared.state.Channel.{Channel}
 use Rattle.transfer.specs.declared.state.Transfer.{Transfer}
-use Rattle.transfer.specs.Channel.{heldLimit}
+use Rattle.transfer.specs.Channel.{channelCount, heldLimit}
 use Rattle.channels.specs.declared.channel_state.ChannelState.{ChannelState}
 
 abbrev pub channelOf : ChannelState → Channel
@@ -23,6 +24,12 @@ channelStateOf count fault on k heads c =
       left = k .left;
       bytes = take heldLimit (drop (heldLimit * c) heads);
     }
+
+-- t has all channels with their held bytes, and c is one of them
+pub record HasChannel (t : Transfer) (c : ℕ) : Type 0 where
+  pub below : c < channelCount
+  pub channels : length (t .channels) ≡ channelCount
+  pub heads : length (t .heads) ≡ heldLimit * channelCount
 
 unfoldable pub writeBack : Transfer → ℕ → ChannelState → Transfer
 writeBack t c x =

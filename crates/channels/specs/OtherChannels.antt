@@ -1,16 +1,14 @@
 -- The rest of the transfer: the counts of the other channels.
-use Prim.Native.Nat.{ℕ, _+_, _*_, _-_, _<_}
+use Prim.Native.Nat.{ℕ, _+_, _-_}
 use mathlib.Core.Path.{_≡_}
 use mathlib.Core.Bool.{cond}
 use lib.Dec.{eqb}
-use lib.ListN.{length}
 use Rattle.channelchecks.specs.declared.report.FitReport.{FitReport}
 use Rattle.transfer.specs.declared.state.Transfer.{Transfer}
-use Rattle.transfer.specs.Channel.{channelCount, heldLimit}
 use Rattle.transfer.specs.Transfer.{oneIfEnded, oneIfActive, endedOf, usedOf}
 use Rattle.channels.specs.declared.channel_state.ChannelState.{ChannelState}
 use Rattle.channels.specs.declared.other_channels.OtherChannels.{OtherChannels}
-use Rattle.channels.specs.ChannelState.{channelOf, writeBack}
+use Rattle.channels.specs.ChannelState.{channelOf, HasChannel, writeBack}
 
 -- the counts of all channels, less one in that state
 unfoldable pub othersOf : ℕ → FitReport → ℕ → OtherChannels
@@ -19,9 +17,7 @@ othersOf len found s =
 
 -- o are the file's length and the counts of the channels of t other than c, whatever state c is in
 pub record CountsOthers (t : Transfer) (c : ℕ) (o : OtherChannels) : Type 0 where
-  pub below : c < channelCount
-  pub channels : length (t .channels) ≡ channelCount
-  pub heads : length (t .heads) ≡ heldLimit * channelCount
+  pub has : HasChannel t c
   pub len : t .len ≡ o .len
   pub used : (x : ChannelState) → usedOf (writeBack t c x) ≡ o .used + (oneIfEnded (channelOf x) + oneIfActive (channelOf x))
   pub ended : (x : ChannelState) → endedOf (writeBack t c x) ≡ o .ended + oneIfEnded (channelOf x)

@@ -43,7 +43,7 @@ pub fn fault_fits(fault: u64, on: u64) -> bool
     if fault < 11 {
         return false;
     }
-    if 20 < fault {
+    if 19 < fault {
         return false;
     }
     on < count::CHANNELS as u64

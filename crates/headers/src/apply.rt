@@ -19,7 +19,7 @@ ghost use Rattle.ledger.specs.Ledger.{obeys};
 ghost use Rattle.transfer.specs.declared.state.Transfer.{Transfer};
 ghost use Rattle.transfer.specs.Transfer.{world};
 ghost use Rattle.transfer.specs.Receive.{applyHeader};
-ghost use Rattle.channels.specs.ChannelState.{writeBack};
+ghost use Rattle.channels.specs.ChannelState.{HasChannel, writeBack};
 ghost use Rattle.channels.specs.OtherChannels.{CountsOthers};
 ghost use Rattle.channels.specs.NextState.{continuesOrStops};
 ghost use Rattle.headers.specs.ClaimOrFault.{claimOrFault};
@@ -39,20 +39,19 @@ fn fault_of(check: ClaimCheck) -> u64
 fn claim_or_fault(
     x: ChannelState,
     c: usize,
-    o: OtherChannels,
     start: u64,
     end: u64,
     last: bool,
     ledger: &mut [u64],
 ) -> NextState
     requires { ⌜ start < end ⌝ }
-    ensures { λ r. ⌜ (x .state < 4 → obeys (now (ledger .entry)) ≡ true → (t : Transfer) (file : List ℕ) → CountsOthers t c o → length (now (ledger .entry)) ≡ 2 * t .pairs → continuesOrStops (r .continues) (world (writeBack t c (r .channel)) file (now (ledger .exit))) ≡ claimOrFault (world (writeBack t c x) file (now (ledger .entry))) c start end last) ⌝ }
+    ensures { λ r. ⌜ (obeys (now (ledger .entry)) ≡ true → (t : Transfer) (file : List ℕ) → HasChannel t c → length (now (ledger .entry)) ≡ 2 * t .pairs → continuesOrStops (r .continues) (world (writeBack t c (r .channel)) file (now (ledger .exit))) ≡ claimOrFault (world (writeBack t c x) file (now (ledger .entry))) c start end last) ⌝ }
 {
     let check = claim::judge(ledger, start, end);
     match check {
         ClaimCheck::Free(slot) => {
             claim::put(ledger, slot, start, end);
-            next_state::expect_payload(x, c, o, start, end - start, last)
+            next_state::expect_payload(x, start, end - start, last)
         }
         _ => NextState {
             channel: channel_state::cleared_with_fault(x, c, fault_of(check)),
@@ -80,9 +79,9 @@ pub fn apply_header(
         Request::Counts(n) => {
             let mut y = x;
             y.count = n;
-            next_state::expect_payload(y, c, o, 0, 0, last)
+            next_state::expect_payload(y, 0, 0, last)
         }
-        Request::Nothing => next_state::expect_payload(x, c, o, 0, 0, last),
-        Request::Claims { start, end } => claim_or_fault(x, c, o, start, end, last, ledger),
+        Request::Nothing => next_state::expect_payload(x, 0, 0, last),
+        Request::Claims { start, end } => claim_or_fault(x, c, start, end, last, ledger),
     }
 }

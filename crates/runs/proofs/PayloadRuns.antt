@@ -8,11 +8,10 @@ use native.Mathlib.Decide.{decLt}
 use lib.ListN.{length, getD, set, take}
 use lib.Seq.{sets, take-suc, take-all, length-take-le}
 use Rattle.transfer.specs.declared.state.Transfer.{Transfer}
-use Rattle.transfer.specs.Channel.{channelCount, State, header, payload, ended, stateCode, encodeState, blank, stateAt, putState, putFault}
-use Rattle.transfer.specs.Transfer.{oneIfEnded, endedOf, World, world, allEnded}
-use Rattle.transfer.specs.Receive.{Outcome, continues, stops, notTaken, took, stopWithFault, endChannel, expectPayload, storePayloadByte, takeByteIn, takeByte}
+use Rattle.transfer.specs.Channel.{channelCount, State, header, payload, ended, stateAt, putState}
+use Rattle.transfer.specs.Transfer.{World, world}
+use Rattle.transfer.specs.Receive.{Outcome, continues, stops, notTaken, took, expectPayload, storePayloadByte, takeByteIn, takeByte}
 use Rattle.transfer.proofs.ChannelReadBack.{Has, get-put, put-put}
-use Rattle.transfer.proofs.Sums.{sum-set}
 use Rattle.transfer.proofs.BlockPayloads.{sets-snoc}
 use Rattle.transfer.proofs.ReceivePieces.{at, payload-run, bytes-goes, bytes-stops}
 use Rattle.transfer.proofs.FitByChannel.{Together}
@@ -29,42 +28,12 @@ module _ (t : Transfer) (file claimed : List ℕ) (c : ℕ) (a : Has t c) (p n p
   abbrev was : State
   was = payload p′ n′ e
 
-  not-ended : (q m : ℕ) → oneIfEnded (encodeState (payload q m e)) ≡ 0
-  unfolding encodeState stateCode
-  not-ended q m = go e
-    where
-      go : (b : Bool) → oneIfEnded (encodeState (payload q m b)) ≡ 0
-      go true = refl
-      go false = refl
-
-  same-ended : endedOf (putState t c now) ≡ endedOf (putState t c was)
-  unfolding endedOf putState
-  same-ended =
-      omega (
-        arith,
-        not-ended p n,
-        not-ended p′ n′,
-        sum-set oneIfEnded blank (t .channels) c (encodeState now) (a .row),
-        sum-set oneIfEnded blank (t .channels) c (encodeState was) (a .row),
-      )
-
-  same-final : allEnded (putState t c now) ≡ allEnded (putState t c was)
-  unfolding allEnded
-  same-final = rw same-ended (unfold putState in refl)
-
   again : (x : State) → putState (putState t c now) c x ≡ putState (putState t c was) c x
   again x = put-put t c a now x tt ∙ sym (put-put t c a was x tt)
 
-  same-faults : (k : ℕ) → stopWithFault (at t file claimed c now) c k ≡ stopWithFault (at t file claimed c was) c k
-  unfolding stopWithFault
-  same-faults k = ap (λ u. stops (world (putFault u k c) file claimed)) (again (header []))
-
   pub same-opens : (q : ℕ) (l : Bool) → expectPayload (at t file claimed c now) c q 0 l ≡ expectPayload (at t file claimed c was) c q 0 l
-  unfolding expectPayload endChannel
-  same-opens q true = rw same-final (ap (λ (v : Outcome World × Outcome World). cond (allEnded (putState t c was)) (v .0) (v .1)) pairs)
-    where
-      pairs : _≡_ {A = Outcome World × Outcome World} (stopWithFault (at t file claimed c now) c 20, stops (world (putState (putState t c now) c ended) file claimed)) (stopWithFault (at t file claimed c was) c 20, stops (world (putState (putState t c was) c ended) file claimed))
-      pairs = rw (same-faults 20, again ended)
+  unfolding expectPayload
+  same-opens q true = ap (λ u. stops (world u file claimed)) (again ended)
   same-opens q false = ap (λ u. continues (world u file claimed)) (again (header []))
 
 -- ---- from a world that fits, on a channel in a payload

@@ -26,7 +26,7 @@ use Rattle.channels.specs.NextState.{continuesOrStops}
 use Rattle.verdicts.specs.Verdict.{countReached}
 use Rattle.channels.specs.declared.channel_state.ChannelState.{ChannelState}
 use Rattle.channels.specs.declared.other_channels.OtherChannels.{OtherChannels}
-use Rattle.channels.specs.ChannelState.{channelOf, writeBack}
+use Rattle.channels.specs.ChannelState.{channelOf, HasChannel, writeBack}
 use Rattle.channels.specs.OtherChannels.{CountsOthers}
 use Rattle.channels.proofs.WriteBack.{write-back-at, write-back-count-reached}
 use Rattle.runs.specs.Runs.{TakesHeader, takeBytesOn, RunOf}
@@ -79,16 +79,16 @@ takes-header (suc (suc s)) count used e h = absurd (omega arith)
 
 -- ---- of a channel written back
 
-pub held-at-most : (t : Transfer) (ledger : List ℕ) (c : ℕ) (o : OtherChannels) → CountsOthers t c o → (x : ChannelState) → fitsWithoutFile (writeBack t c x) ledger ≡ true → x .held ≤ heldLimit
-held-at-most t ledger c o a x e = omega (arith, held-within-limit (writeBack t c x) ledger c (a .below) e, ap (λ k. k .held) (write-back-at t c o a x))
+pub held-at-most : (t : Transfer) (ledger : List ℕ) (c : ℕ) → HasChannel t c → (x : ChannelState) → fitsWithoutFile (writeBack t c x) ledger ≡ true → x .held ≤ heldLimit
+held-at-most t ledger c a x e = omega (arith, held-within-limit (writeBack t c x) ledger c (a .below) e, ap (λ k. k .held) (write-back-at t c a x))
 
-pub stage-of-channel : (t : Transfer) (c : ℕ) (o : OtherChannels) → CountsOthers t c o → (x : ChannelState) (file ledger : List ℕ) → fits (world (writeBack t c x) file ledger) ≡ true → Stage (channelOf x)
-stage-of-channel t c o a x file ledger e = subst Stage (write-back-at t c o a x) (fits-together (world (writeBack t c x) file ledger) e .stages c (a .below))
+pub stage-of-channel : (t : Transfer) (c : ℕ) → HasChannel t c → (x : ChannelState) (file ledger : List ℕ) → fits (world (writeBack t c x) file ledger) ≡ true → Stage (channelOf x)
+stage-of-channel t c a x file ledger e = subst Stage (write-back-at t c a x) (fits-together (world (writeBack t c x) file ledger) e .stages c (a .below))
 
 pub write-back-takes : (t : Transfer) (c : ℕ) (o : OtherChannels) → CountsOthers t c o → (x : ChannelState) → TakesHeader (x .state) (x .count) (o .used)
     → TakesHeader (channelAt (writeBack t c x) c .state) (writeBack t c x .count) (usedOf (writeBack t c x))
-write-back-takes t c o a x (inl (s, b)) = inl (ap (λ k. k .state) (write-back-at t c o a x) ∙ s, write-back-count-reached t c o a x s ∙ b)
-write-back-takes t c o a x (inr s) = inr (ap (λ k. k .state) (write-back-at t c o a x) ∙ s)
+write-back-takes t c o a x (inl (s, b)) = inl (ap (λ k. k .state) (write-back-at t c (a .has) x) ∙ s, write-back-count-reached t c o a x s ∙ b)
+write-back-takes t c o a x (inr s) = inr (ap (λ k. k .state) (write-back-at t c (a .has) x) ∙ s)
 
 -- ---- a header's bytes
 

@@ -2,7 +2,6 @@
 use crate::run::RunResult;
 use channels::channel_state::ChannelState;
 use channels::next_state;
-use channels::other_channels::OtherChannels;
 use copies::copy;
 use std::num;
 ghost use mathlib.Core.Path.{_≡_};
@@ -13,8 +12,7 @@ ghost use lib.ListN.{length};
 ghost use Rattle.transfer.specs.declared.state.Transfer.{Transfer};
 ghost use Rattle.transfer.specs.Transfer.{world};
 ghost use Rattle.transfer.specs.Fit.{fits};
-ghost use Rattle.channels.specs.ChannelState.{writeBack};
-ghost use Rattle.channels.specs.OtherChannels.{CountsOthers};
+ghost use Rattle.channels.specs.ChannelState.{HasChannel, writeBack};
 ghost use Rattle.runs.specs.Runs.{RunOf};
 
 fn lesser(a: u64, b: usize) -> usize
@@ -27,20 +25,14 @@ fn lesser(a: u64, b: usize) -> usize
 }
 
 // Stores the piece's bytes up to the payload's end. Where the transfer fits, the payload lies in the file and the sum does not wrap.
-pub fn payload_run(
-    x: ChannelState,
-    c: usize,
-    o: OtherChannels,
-    piece: &[u8],
-    file: &mut [u8],
-) -> RunResult
+pub fn payload_run(x: ChannelState, piece: &[u8], file: &mut [u8]) -> RunResult
     requires { ⌜ (0 < length (now piece)) × (1 < x .state) × (0 < x .left) ⌝ }
-    ensures { λ r. ⌜ (r .taken ≡ min (x .left) (length (now (piece .entry)))) × ((t : Transfer) (ledger : List ℕ) → CountsOthers t c o → fits (world (writeBack t c x) (now (file .entry)) ledger) ≡ true → RunOf c (world (writeBack t c x) (now (file .entry)) ledger) (now (piece .entry)) (world (writeBack t c (r .channel)) (now (file .exit)) ledger) (r .taken) (r .continues)) ⌝ }
+    ensures { λ r. ⌜ (r .taken ≡ min (x .left) (length (now (piece .entry)))) × ((t : Transfer) (c : ℕ) (ledger : List ℕ) → HasChannel t c → fits (world (writeBack t c x) (now (file .entry)) ledger) ≡ true → RunOf c (world (writeBack t c x) (now (file .entry)) ledger) (now (piece .entry)) (world (writeBack t c (r .channel)) (now (file .exit)) ledger) (r .taken) (r .continues)) ⌝ }
 {
     let n = lesser(x.left, piece.len());
     copy::store(file, x.next as usize, piece, n);
     let place = num::wrapping_add_u64(x.next, n as u64);
-    let next = next_state::expect_payload(x, c, o, place, x.left - n as u64, x.state == 3);
+    let next = next_state::expect_payload(x, place, x.left - n as u64, x.state == 3);
     let after = next.channel;
     RunResult {
         channel: after,

@@ -60,7 +60,7 @@ pub fn run(
         return header_run::header_run(x, c, o, piece, ledger);
     }
     if 0 < x.left {
-        return payload_run::payload_run(x, c, o, piece, file);
+        return payload_run::payload_run(x, piece, file);
     }
     RunResult {
         channel: x,

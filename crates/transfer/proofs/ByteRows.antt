@@ -1,5 +1,5 @@
 -- `ByteRows` holds.
-use Prim.Native.Nat.{ℕ, zero, suc, _+_, _≤_, _<_}
+use Prim.Native.Nat.{ℕ, zero, suc, _<_}
 use mathlib.Core.Path.{_≡_, refl, sym, ap, _∙_}
 use mathlib.Core.Logic.{_⊎_, inl, inr, _≢_}
 use mathlib.Core.Bool.{Bool, true, false, and-false}
@@ -7,45 +7,24 @@ use mathlib.Core.List.{List, [], _∷_, _++_}
 use native.Mathlib.Omega.{arith}
 use borrow.Author.Tests.{ne-eqb}
 use lib.Dec.{ltb}
-use lib.ListN.{getD, set}
+use lib.ListN.{set}
 use Rattle.ledger.specs.Pairs.{Pairs, ObeyFrom}
 use Rattle.ledger.specs.Ledger.{pairsOf, laidOut}
 use Rattle.eblock.specs.Header.{secondOf}
-use Rattle.transfer.specs.declared.state.Channel.{Channel}
-use Rattle.transfer.specs.declared.state.Transfer.{Transfer}
-use Rattle.transfer.specs.Channel.{blank, unused, header, payload, ended, channelAt, decodeState, stateAt, putState, putFault, putCount}
-use Rattle.transfer.specs.Transfer.{sum, oneIfActive, endedOf, usedOf, World, world, withTransfer}
+use Rattle.transfer.specs.Channel.{unused, header, payload, ended, stateAt, putState, putFault, putCount}
+use Rattle.transfer.specs.Transfer.{usedOf, World, world, withTransfer}
 use Rattle.transfer.specs.Header.{isEodc, endsChannel, payloadLength, HeaderRequest, counts, claims, nothing, faulty, claimFault}
-use Rattle.transfer.specs.Judgement.{HeaderAsks, for-count, for-claim, Union, ClaimJudged}
-use Rattle.transfer.specs.Receive.{continues, stops, notTaken, stopWithFault, endChannel, expectPayload, claimRange, applyRequest, storePayloadByte, takeByte}
+use Rattle.transfer.specs.Judgement.{HeaderAsks, for-claim, Union, ClaimJudged}
+use Rattle.transfer.specs.Receive.{continues, stops, notTaken, stopWithFault, expectPayload, claimRange, applyRequest, storePayloadByte, takeByte}
 use Rattle.transfer.specs.ByteRows.{Seventeenth, ByteRows}
 use Rattle.transfer.proofs.JudgementByTransfer.{asked-only}
 use Rattle.transfer.proofs.Judgement.{union-is, claim-only}
-use Rattle.transfer.proofs.ReceiveBytes.{byte-unused, byte-held, byte-judged, byte-payload, byte-ended, claim-faulty, claim-opens, ends-channel, ends-20}
+use Rattle.transfer.proofs.ReceiveBytes.{byte-unused, byte-held, byte-judged, byte-payload, byte-ended, claim-faulty, claim-opens}
 
 first-held : (w : World) (c b : ℕ) → stateAt (w .t) c ≡ unused → (w .t .count ≡ 0) ⊎ (usedOf (w .t) ≢ w .t .count)
     → takeByte w c b ≡ continues (withTransfer w (putState (w .t) c (header (b ∷ []))))
 first-held w c b s (inl z) = byte-unused w c b s ∙ rw z
 first-held w c b s (inr n) = byte-unused w c b s ∙ rw (ne-eqb (usedOf (w .t)) (w .t .count) n, and-false (ltb 0 (w .t .count)))
-
--- ---- a channel in a header is used and has not ended
-
-alive-at : (ks : List Channel) (c : ℕ) → getD ks c blank .state ≡ 1 → 0 < sum oneIfActive ks
-unfolding sum
-alive-at [] c e = absurd (omega arith)
-alive-at (k ∷ ks) zero e = rw e (omega arith)
-alive-at (k ∷ ks) (suc c) e = omega (arith, alive-at ks c e)
-
-header-alive : (t : Transfer) (c : ℕ) (h : List ℕ) → stateAt t c ≡ header h → endedOf t < usedOf t
-unfolding stateAt decodeState usedOf
-header-alive t c h s = omega (arith, alive-at (t .channels) c (go (channelAt t c .state) _ s))
-  where
-    go : (n : ℕ) (r : List ℕ) → decodeState n r (channelAt t c .next) (channelAt t c .left) ≡ header h → n ≡ 1
-    go zero r e = cc
-    go (suc zero) r e = refl
-    go (suc (suc zero)) r e = cc
-    go (suc (suc (suc zero))) r e = cc
-    go (suc (suc (suc (suc n)))) r e = cc
 
 -- ---- a 17th byte
 
@@ -67,22 +46,17 @@ module _ (w : World) (c b : ℕ) (h : List ℕ) where
   unfolding applyRequest expectPayload
   count-continues n s z = heeded (counts n) s ∙ rw z
 
-  -- n is no less than the channels used, so fewer than n have ended
   count-ends : (n : ℕ) → Seventeenth w c b h (counts n) → endsChannel whole ≡ true → takeByte w c b ≡ stops (withTransfer w (putState (putCount (w .t) n) c ended))
   unfolding applyRequest expectPayload
-  count-ends n s z =
-      heeded (counts n) s ∙ rw z (ends-channel (withTransfer w (putCount (w .t) n)) c (inr (unfold putCount endedOf in λ e. omega (arith, e, few n (s .asks), header-alive (w .t) c h (s .in-header)))))
-    where
-      few : (n : ℕ) → HeaderAsks (w .t .len) (w .t .count) (usedOf (w .t)) whole (counts n) → usedOf (w .t) ≤ n
-      few _ (for-count d q k n₀ n₁ n₂) = n₂
+  count-ends n s z = heeded (counts n) s ∙ rw z
 
   empty-continues : Seventeenth w c b h nothing → endsChannel whole ≡ false → takeByte w c b ≡ continues (withTransfer w (putState (w .t) c (header [])))
   unfolding applyRequest expectPayload
   empty-continues s z = heeded nothing s ∙ rw z
 
-  empty-last : Seventeenth w c b h nothing → endsChannel whole ≡ true → takeByte w c b ≡ endChannel w c
+  empty-ends : Seventeenth w c b h nothing → endsChannel whole ≡ true → takeByte w c b ≡ stops (withTransfer w (putState (w .t) c ended))
   unfolding applyRequest expectPayload
-  empty-last s z = heeded nothing s ∙ rw z
+  empty-ends s z = heeded nothing s ∙ rw z
 
   module _ (s e : ℕ) (r : ObeyFrom 0 (pairsOf (w .lent .ledger))) where
     judged : Seventeenth w c b h (claims s e) → (k : ℕ) → ClaimJudged (w .t .pairs) (pairsOf (w .lent .ledger)) s e k → claimFault (w .t .pairs) (pairsOf (w .lent .ledger)) s e ≡ k
@@ -112,7 +86,7 @@ module _ (w : World) (c b : ℕ) (h : List ℕ) where
 -- ---- a payload's byte
 
 module _ (w : World) (c b p : ℕ) where
-  abbrev pub with-byte : World
+  abbrev with-byte : World
   with-byte = world (w .t) (set (w .lent .file) p b) (w .lent .ledger)
 
   stored : (n : ℕ) (e : Bool) → stateAt (w .t) c ≡ payload p (suc (suc n)) e → takeByte w c b ≡ continues (withTransfer with-byte (putState (w .t) c (payload (suc p) (suc n) e)))
@@ -127,9 +101,9 @@ module _ (w : World) (c b p : ℕ) where
   unfolding storePayloadByte expectPayload
   last-stored s = byte-payload w c b p 1 false s
 
-  pub last-byte : stateAt (w .t) c ≡ payload p 1 true → takeByte w c b ≡ endChannel with-byte c
+  last-ends : stateAt (w .t) c ≡ payload p 1 true → takeByte w c b ≡ stops (withTransfer with-byte (putState (w .t) c ended))
   unfolding storePayloadByte expectPayload
-  last-byte s = byte-payload w c b p 1 true s
+  last-ends s = byte-payload w c b p 1 true s
 
 pub byte-rows : ByteRows
 byte-rows =
@@ -140,13 +114,12 @@ byte-rows =
       count-continues = λ w c b n h. count-continues w c b h n;
       count-ends = λ w c b n h. count-ends w c b h n;
       empty-continues = empty-continues;
-      empty-ends = λ w c b h s z n. empty-last w c b h s z ∙ ends-channel w c n;
-      empty-20 = λ w c b h s z n e. empty-last w c b h s z ∙ ends-20 w c n e;
+      empty-ends = empty-ends;
       claim-fault = λ w c b k s e h x r. claim-fault w c b h s e r k x;
       claimed = λ w c b s e h m x r. claimed w c b h s e r m x;
       stored = stored;
       last-stored = last-stored;
-      last-ends = λ w c b p s n. last-byte w c b p s ∙ ends-channel (with-byte w c b p) c n;
+      last-ends = last-ends;
       ended-not-taken = byte-ended;
       none-left-not-taken = none-left;
     }

@@ -16,7 +16,7 @@ use Rattle.transfer.specs.Header.{requestOf}
 use Rattle.transfer.specs.Receive.{Outcome, continues, stops, notTaken, Answer, refused, took, takeBytes, isGuess, isNonEmpty}
 use Rattle.transfer.specs.Calls.{Call, receive, callOf, foldCalls, after}
 use Rattle.transfer.specs.Block.{cut, partialHeader, hasEnded}
-use Rattle.transfer.specs.Tally.{Tally, Stream, intact, faulted, taken, accepted, countedStreams, knownCount, claimed, usedIn, endedIn, tallyVerdict, empty, streamAt, withStream, tallyWithFault, keepBytes, applyJudgement, requestFault, tallyByteAfter, tallyByte, tallyRefusal, tallyCall as tallyCallOf}
+use Rattle.transfer.specs.Tally.{Tally, Stream, intact, faulted, taken, accepted, countedStreams, knownCount, claimed, usedIn, tallyVerdict, empty, streamAt, withStream, tallyWithFault, keepBytes, applyJudgement, requestFault, tallyByteAfter, tallyByte, tallyRefusal, tallyCall as tallyCallOf}
 use Rattle.transfer.specs.AfterList.{StartedWith, tallyOf}
 use Rattle.transfer.specs.EachCall.{Adds, EachCall}
 use Rattle.transfer.proofs.ReceivePieces.{bytes-goes, bytes-stops, bytes-leaves}
@@ -53,7 +53,7 @@ module _ (t : Tally) (c b : ℕ) (h : c < length (t .streams)) where
 
   keeps-leads : Leads t c b (keepBytes t c longer)
   unfolding keepBytes
-  keeps-leads = go (hasEnded (cut longer)) refl (ltb 0 (knownCount (countedStreams next)) && eqb (endedIn (countedStreams t)) (knownCount (countedStreams next)))
+  keeps-leads = go (hasEnded (cut longer)) refl
     where
       next : Tally
       next = withStream t c (intact longer)
@@ -61,10 +61,9 @@ module _ (t : Tally) (c b : ℕ) (h : c < length (t .streams)) where
       ended : hasEnded (cut longer) ≡ true → hasEnded (accepted (getD (set (t .streams) c (intact longer)) c (intact []))) ≡ true
       ended e = ap (λ s. hasEnded (accepted s)) (at (intact longer)) ∙ (unfold accepted in e)
 
-      go : (x : Bool) → hasEnded (cut longer) ≡ x → (y : Bool) → Leads t c b (cond x (stops (cond y (tallyWithFault next 20 c) next)) (continues next))
-      go true e true = (adds (intact longer) 20 c refl, inr (ended e))
-      go true e false = (adds (intact longer) (t .fault) (t .on) refl, inr (ended e))
-      go false e y = adds (intact longer) (t .fault) (t .on) refl
+      go : (x : Bool) → hasEnded (cut longer) ≡ x → Leads t c b (cond x (stops next) (continues next))
+      go true e = (adds (intact longer) (t .fault) (t .on) refl, inr (ended e))
+      go false e = adds (intact longer) (t .fault) (t .on) refl
 
   judged-leads : (k : ℕ) → Leads t c b (applyJudgement t c longer k)
   unfolding applyJudgement

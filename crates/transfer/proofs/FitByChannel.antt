@@ -1,7 +1,6 @@
 -- FIT with its phrases about channels gathered, channel by channel and place by place; this and the record `Fit` give each other.
 use Prim.Native.Nat.{ℕ, _+_, _*_, _≤_, _<_}
 use mathlib.Core.Path.{_≡_}
-use mathlib.Core.Logic.{_⊎_}
 use mathlib.Core.Bool.{true}
 use mathlib.Core.List.{List}
 use native.Mathlib.Omega.{arith}
@@ -13,21 +12,13 @@ use Rattle.ledger.proofs.PairsOverlap.{held-inside, inside-held}
 use Rattle.ledger.proofs.LedgerLayout.{rule-ruled}
 use Rattle.ledger.proofs.LedgerRule.{test-is-rule}
 use Rattle.ledger.proofs.LedgerEntries.{inside-at, ends-at}
-use Rattle.eblock.specs.Header.{countLimit}
 use Rattle.transfer.specs.declared.state.Channel.{Channel}
-use Rattle.transfer.specs.declared.state.Transfer.{Transfer}
 use Rattle.transfer.specs.Channel.{channelCount, heldLimit, blank, channelAt}
-use Rattle.transfer.specs.Transfer.{sum, usedOf, World}
+use Rattle.transfer.specs.Transfer.{sum, World}
 use Rattle.transfer.specs.Fit.{pairLimit}
-use Rattle.transfer.specs.Fitting.{InPayload, Fit}
+use Rattle.transfer.specs.Fitting.{InPayload, CountSays, FaultSays, Fit}
 use Rattle.transfer.proofs.FitChannelKinds.{Stage, stage-of, state-known, some-left, held-within, none-held, rest-zero, in-payload, waits}
 use Rattle.transfer.proofs.Sums.{one-of, two-of, sum-apart}
-
-abbrev pub CountSays : Transfer → Type 0
-CountSays t = (t .count ≡ 0) ⊎ ((0 < t .count) × (t .count ≤ countLimit) × (usedOf t ≤ t .count))
-
-abbrev pub FaultSays : Transfer → Type 0
-FaultSays t = ((t .fault ≡ 0) × (t .on ≡ 0)) ⊎ ((11 ≤ t .fault) × (t .fault ≤ 20) × (t .on < channelCount))
 
 pub record Together (w : World) : Type 0 where
   pub file : length (w .lent .file) ≡ w .t .len

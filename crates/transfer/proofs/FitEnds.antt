@@ -1,7 +1,6 @@
 -- A byte moves the number of ended channels by its own channel alone, and ends it only where fewer than n have ended.
 use Prim.Native.Nat.{ℕ, zero, suc, _+_, _*_, _≤_, _<_}
 use mathlib.Core.Path.{_≡_, refl, sym, ap, _∙_}
-use mathlib.Core.Logic.{inl, inr, _≢_}
 use mathlib.Core.Bool.{Bool, true, false, cond, _&&_}
 use mathlib.Core.List.{List, [], _∷_, _++_}
 use native.Mathlib.Omega.{arith}
@@ -11,14 +10,16 @@ use lib.Seq.{getD-set-same}
 use Rattle.ledger.specs.Ledger.{pairsOf}
 use Rattle.transfer.specs.declared.state.Transfer.{Transfer}
 use Rattle.transfer.specs.Channel.{channelCount, heldLimit, blank, State, unused, header, payload, ended, encodeState, decodeState, channelAt, stateAt, putState, putFault, putCount}
-use Rattle.transfer.specs.Transfer.{oneIfEnded, endedOf, usedOf, World, world, withTransfer, allEnded}
+use Rattle.transfer.specs.Transfer.{oneIfEnded, endedOf, usedOf, World, world, withTransfer}
 use Rattle.transfer.specs.Header.{endsChannel, payloadLength, HeaderRequest, counts, claims, nothing, faulty, requestOf, claimFault}
-use Rattle.transfer.specs.Receive.{Outcome, continues, stops, notTaken, afterByte, stopWithFault, endChannel, expectPayload, claimRange, applyRequest, applyHeader, takeHeaderByte, storePayloadByte, takeByteIn, takeByte, isEnded}
+use Rattle.transfer.specs.Receive.{Outcome, continues, notTaken, afterByte, stopWithFault, expectPayload, claimRange, applyRequest, applyHeader, takeHeaderByte, storePayloadByte, takeByteIn, takeByte, isEnded}
 use Rattle.transfer.specs.Tally.{oneIf}
 use Rattle.transfer.specs.Fitting.{EndsBelowCount}
 use Rattle.transfer.proofs.Sums.{sum-set}
+use Rattle.transfer.proofs.Rows.{not-ended}
 use Rattle.transfer.proofs.FitChannelKinds.{state-known}
-use Rattle.transfer.proofs.FitByChannel.{CountSays, Together}
+use Rattle.transfer.proofs.FitByChannel.{Together}
+use Rattle.transfer.proofs.FitUsed.{used-within}
 use Rattle.transfer.proofs.FitKept.{byte-keeps}
 
 -- ---- one channel
@@ -35,12 +36,6 @@ one-ended t c = go (channelAt t c .state)
     go (suc (suc (suc zero))) g = refl
     go (suc (suc (suc (suc zero)))) g = refl
     go (suc (suc (suc (suc (suc n))))) g = absurd (omega arith)
-
-not-ended : (x : State) → x ≢ ended → isEnded x ≡ false
-not-ended unused n = refl
-not-ended (header h) n = refl
-not-ended (payload p m e) n = refl
-not-ended ended n = absurd (n refl)
 
 -- ---- the number of ended channels, from w on
 
@@ -70,14 +65,9 @@ module _ (w : World) (c : ℕ) (h : c < length (w .t .channels)) where
   unfolding stopWithFault putFault endedOf
   fault-moves v s k = put-moves v s (header [])
 
-  end-moves : (v : World) → Same v → Moves (endChannel v c)
-  unfolding endChannel
-  end-moves v s =
-      either (allEnded (v .t)) (stopWithFault v c 20) (stops (withTransfer v (putState (v .t) c ended))) (fault-moves v s 20) (put-moves v s ended)
-
   payload-moves : (v : World) → Same v → (p n : ℕ) (e : Bool) → Moves (expectPayload v c p n e)
   unfolding expectPayload
-  payload-moves v s p zero true = end-moves v s
+  payload-moves v s p zero true = put-moves v s ended
   payload-moves v s p zero false = put-moves v s (header [])
   payload-moves v s p (suc n) e = put-moves v s (payload p (suc n) e)
 
@@ -113,7 +103,7 @@ module _ (w : World) (c : ℕ) (h : c < length (w .t .channels)) where
 
 -- FIT after the byte says that no more than n are used then, and one more has ended than before
 pub byte-ends : (w : World) (c b : ℕ) → Together w → c < channelCount → EndsBelowCount w (afterByte (takeByte w c b)) c
-byte-ends w c b f h a e n = go (after .count)
+byte-ends w c b f h a e n = unfold usedOf in omega (arith, used-within (v .t) (after .count) n, byte-moves w c (omega (arith, f .channels, h)) b, none-before, one-after)
   where
     v : World
     v = afterByte (takeByte w c b)
@@ -126,7 +116,3 @@ byte-ends w c b f h a e n = go (after .count)
 
     one-after : oneIfEnded (channelAt (v .t) c) ≡ 1
     one-after = sym (one-ended (v .t) c (state-known (channelAt (v .t) c) (after .stages c h))) ∙ ap (λ x. oneIf (isEnded x)) e
-
-    go : CountSays (v .t) → endedOf (w .t) < v .t .count
-    go (inl z) = absurd (omega (arith, n))
-    go (inr q) = unfold usedOf in omega (arith, q .2, byte-moves w c (omega (arith, f .channels, h)) b, none-before, one-after)

@@ -6,7 +6,7 @@ use mathlib.Core.Bool.{Bool, true, false, cond, _&&_}
 use mathlib.Core.List.{List, [], _∷_, _++_}
 use native.Mathlib.Omega.{arith}
 use native.Mathlib.Decide.{decLt}
-use borrow.Author.Tests.{ltb-true, ltb-false, eqb-false, ne-eqb}
+use borrow.Author.Tests.{ltb-false, eqb-false, ne-eqb}
 use lib.Dec.{ltb, eqb}
 use lib.ListN.{length, set, take, drop, length-take, length-append}
 use Rattle.ledger.specs.Pairs.{inRange, contains}
@@ -16,17 +16,17 @@ use Rattle.ledger.proofs.PairsOverlap.{shares-none}
 use Rattle.eblock.specs.Header.{secondOf, thirdOf}
 use Rattle.transfer.specs.declared.state.Channel.{Channel}
 use Rattle.transfer.specs.Channel.{channelCount, heldLimit, State, unused, header, payload, ended, nextPlace, bytesLeft, decodeState, stateAt, channelAt, putState, putFault, putCount}
-use Rattle.transfer.specs.Transfer.{sum, usedOf, World, world, withTransfer, allEnded}
+use Rattle.transfer.specs.Transfer.{sum, usedOf, World, world, withTransfer}
 use Rattle.transfer.specs.Header.{endsChannel, payloadLength, HeaderRequest, counts, claims, nothing, faulty, requestOf, claimFault}
 use Rattle.transfer.specs.Judgement.{HeaderAsks, for-count, for-nothing, for-claim}
-use Rattle.transfer.specs.Receive.{continues, stops, notTaken, afterByte, stopWithFault, endChannel, expectPayload, claimRange, applyRequest, storePayloadByte, takeByte}
+use Rattle.transfer.specs.Receive.{continues, notTaken, afterByte, stopWithFault, expectPayload, claimRange, applyRequest, storePayloadByte, takeByte}
 use Rattle.transfer.proofs.ChannelBytes.{inRange-nothing}
 use Rattle.transfer.proofs.JudgementByTransfer.{Numbered, asked, in-range}
 use Rattle.transfer.proofs.Judgement.{claim-numbered, claim-accepted}
 use Rattle.transfer.proofs.ReceiveBytes.{byte-unused, byte-held, byte-judged, byte-payload, byte-ended, claim-faulty, claim-opens}
 use Rattle.transfer.proofs.FitChannelKinds.{waits, held-within}
-use Rattle.transfer.proofs.FitByChannel.{CountSays, Together, ruled}
-use Rattle.transfer.proofs.FitUsed.{oneIfUsed}
+use Rattle.transfer.proofs.FitByChannel.{Together, ruled}
+use Rattle.transfer.proofs.FitUsed.{used-within}
 use Rattle.transfer.proofs.FitStates.{Steady}
 use Rattle.transfer.proofs.FitPuts.{Room, put-keeps, fault-keeps, count-keeps, store-keeps, claimed-holds, claim-keeps}
 
@@ -37,32 +37,20 @@ module _ (c : ℕ) (h : c < channelCount) where
   InUse w = 0 < channelAt (w .t) c .state
 
   in-use-room : (w : World) → Together w → InUse w → Room w c
-  in-use-room w f u n = omega (arith, ap {B = ℕ} (λ b. cond b 0 1) (ne-eqb (channelAt (w .t) c .state) 0 (λ e. omega arith)), within-count (f .count))
-    where
-      within-count : CountSays (w .t) → usedOf (w .t) ≤ w .t .count
-      within-count (inl z) = absurd (omega arith)
-      within-count (inr q) = q .2
+  in-use-room w f u n = omega (arith, ap {B = ℕ} (λ b. cond b 0 1) (ne-eqb (channelAt (w .t) c .state) 0 (λ e. omega arith)), used-within (w .t) (f .count) n)
 
   -- a state without a payload
   clear-keeps : (w : World) → Together w → (x : State) → Steady x → bytesLeft x ≡ 0 → Room w c → Together (withTransfer w (putState (w .t) c x))
   clear-keeps w f x s e r = put-keeps w f c h x s r (λ p. omega (arith, f .rests p, inRange-nothing (nextPlace x) (nextPlace x + bytesLeft x) p (omega arith)))
 
-  faults-keep : (w : World) → Together w → InUse w → (k : ℕ) → 11 ≤ k → k ≤ 20 → Together (afterByte (stopWithFault w c k))
+  faults-keep : (w : World) → Together w → InUse w → (k : ℕ) → 11 ≤ k → k ≤ 19 → Together (afterByte (stopWithFault w c k))
   unfolding stopWithFault
   faults-keep w f u k a b = fault-keeps (withTransfer w (putState (w .t) c (header []))) (clear-keeps w f (header []) (omega arith) (unfold bytesLeft in refl) (in-use-room w f u)) c h k a b
-
-  ends-keep : (w : World) → Together w → InUse w → Together (afterByte (endChannel w c))
-  unfolding endChannel
-  ends-keep w f u = go (allEnded (w .t))
-    where
-      go : (b : Bool) → Together (afterByte (cond b (stopWithFault w c 20) (stops (withTransfer w (putState (w .t) c ended)))))
-      go true = faults-keep w f u 20 (omega arith) (omega arith)
-      go false = clear-keeps w f ended tt (unfold bytesLeft in refl) (in-use-room w f u)
 
   opens-keep : (w : World) → Together w → InUse w → (p n : ℕ) (e : Bool)
       → ((q : ℕ) → sum (waits q) (w .t .channels) + inRange p (p + n) q ≤ contains q (pairsOf (w .lent .ledger)) + waits q (channelAt (w .t) c)) → Together (afterByte (expectPayload w c p n e))
   unfolding expectPayload
-  opens-keep w f u p zero true r = ends-keep w f u
+  opens-keep w f u p zero true r = clear-keeps w f ended tt (unfold bytesLeft in refl) (in-use-room w f u)
   opens-keep w f u p zero false r = clear-keeps w f (header []) (omega arith) (unfold bytesLeft in refl) (in-use-room w f u)
   opens-keep w f u p (suc n) e r = put-keeps w f c h (payload p (suc n) e) (omega arith) (in-use-room w f u) (unfold nextPlace bytesLeft in r)
 
@@ -122,11 +110,7 @@ module _ (c : ℕ) (h : c < channelCount) where
       go : (x y : Bool) → ltb 0 (w .t .count) ≡ x → eqb (usedOf (w .t)) (w .t .count) ≡ y
           → Together (afterByte (cond (x && y) (notTaken (withTransfer w (putFault (w .t) 19 c))) (continues (withTransfer w (putState (w .t) c (header (b ∷ [])))))))
       go true true p q = fault-keeps w f c h 19 (omega arith) (omega arith)
-      go true false p q = held (λ n. room (f .count))
-        where
-          room : CountSays (w .t) → usedOf (w .t) < w .t .count + oneIfUsed (channelAt (w .t) c)
-          room (inl z) = absurd (omega (arith, ltb-true 0 (w .t .count) p))
-          room (inr z) = let n : usedOf (w .t) ≢ w .t .count = eqb-false (usedOf (w .t)) (w .t .count) q in omega (arith, z .2)
+      go true false p q = held (λ n. let d : usedOf (w .t) ≢ w .t .count = eqb-false (usedOf (w .t)) (w .t .count) q in omega (arith, used-within (w .t) (f .count) n))
       go false y p q = held (λ n. absurd (omega (arith, ltb-false 0 (w .t .count) p)))
 
   stores-keep : (w : World) (n b : ℕ) (e : Bool) → Together w → InUse w → channelAt (w .t) c .left ≡ n → Together (afterByte (storePayloadByte w c (channelAt (w .t) c .next) n e b))

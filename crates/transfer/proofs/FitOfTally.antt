@@ -17,6 +17,7 @@ use Rattle.transfer.specs.Fit.{pairLimit, fits}
 use Rattle.transfer.specs.Block.{Block}
 use Rattle.transfer.specs.Tally.{Tally, Stream, taken, accepted, blocksOf, countsOf, knownCount, claimed, usedIn, streamAt}
 use Rattle.transfer.specs.StateFrom.{stateFrom}
+use Rattle.transfer.specs.Fitting.{CountSays, FaultSays}
 use Rattle.transfer.proofs.ChannelReadBack.{length-heldBytes}
 use Rattle.transfer.proofs.BlockClaims.{sum-append, hitBy, cover, claims-ruled, claims-holds}
 use Rattle.transfer.proofs.BlockPayloads.{length-withPayloads}
@@ -26,7 +27,7 @@ use Rattle.transfer.proofs.TallyTransfer.{rowOf, headsOf, transferOf, w
 use Rattle.transfer.proofs.TallyInvariant.{Count, unknown, announced, Fault, no-fault, fault-of, Invariant}
 use Rattle.transfer.proofs.TallyHeader.{pairs-are}
 use Rattle.transfer.proofs.FitChannelKinds.{waits}
-use Rattle.transfer.proofs.FitByChannel.{CountSays, FaultSays, Together}
+use Rattle.transfer.proofs.FitByChannel.{Together}
 use Rattle.transfer.proofs.FitStates.{Steady, steady-stands, steady-stage, steady-zero}
 use Rattle.transfer.proofs.FitTests.{together-fits}
 

@@ -17,10 +17,11 @@ use Rattle.eblock.specs.Header.{countLimit}
 use Rattle.transfer.specs.Channel.{channelCount, heldLimit, blank, State, nextPlace, bytesLeft, heldBytes, encodeState, channelAt, putState, putFault, putCount}
 use Rattle.transfer.specs.Transfer.{sum, oneIfEnded, oneIfActive, endedOf, usedOf, World, world, withTransfer}
 use Rattle.transfer.specs.Receive.{claimRange}
+use Rattle.transfer.specs.Fitting.{CountSays}
 use Rattle.transfer.proofs.ChannelReadBack.{length-heldBytes}
 use Rattle.transfer.proofs.Sums.{sum-set}
 use Rattle.transfer.proofs.FitChannelKinds.{Stage, waits, state-known}
-use Rattle.transfer.proofs.FitByChannel.{CountSays, Together, ruled}
+use Rattle.transfer.proofs.FitByChannel.{Together, ruled}
 use Rattle.transfer.proofs.FitUsed.{oneIfUsed, used-one}
 use Rattle.transfer.proofs.FitStates.{Steady, steady-stands, steady-stage, steady-zero}
 
@@ -133,7 +134,7 @@ module _ (w : World) (f : Together w) (c : ℕ) (h : c < channelCount) where
                 )),
           )
 
-  pub fault-keeps : (k : ℕ) → 11 ≤ k → k ≤ 20 → Together (withTransfer w (putFault (w .t) k c))
+  pub fault-keeps : (k : ℕ) → 11 ≤ k → k ≤ 19 → Together (withTransfer w (putFault (w .t) k c))
   unfolding putFault usedOf endedOf
   fault-keeps k u v =
       record {

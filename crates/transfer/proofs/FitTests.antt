@@ -1,21 +1,22 @@
 -- The test of FIT and what it says: each gives the other.
 use Prim.Native.Nat.{ℕ, _*_, _<_}
 use mathlib.Core.Path.{_≡_, refl}
-use mathlib.Core.Logic.{inl, inr, _≢_}
-use mathlib.Core.Bool.{Bool, true, false, cond, _&&_, _||_}
+use mathlib.Core.Logic.{inl, inr}
+use mathlib.Core.Bool.{true, _&&_}
 use native.Mathlib.Omega.{arith}
-use borrow.Author.Tests.{lt-ltb, le-leb, eq-eqb, ne-eqb, ltb-true, leb-true, eqb-true, eqb-false}
-use lib.Dec.{leb, ltb, eqb}
+use native.Mathlib.Decide.{ℕ-discrete}
+use borrow.Author.Tests.{lt-ltb, le-leb, eq-eqb, ne-eqb, ltb-true, leb-true, eqb-true}
+use lib.Dec.{leb, eqb}
 use lib.ListN.{length}
 use Rattle.ledger.specs.Pairs.{endsAtMost}
 use Rattle.ledger.specs.Ledger.{obeys, pairsOf}
 use Rattle.ledger.proofs.PairsPlaces.{holds-le}
-use Rattle.eblock.specs.Header.{countLimit}
 use Rattle.transfer.specs.declared.state.Transfer.{Transfer}
 use Rattle.transfer.specs.Channel.{channelCount, heldLimit, channelAt}
-use Rattle.transfer.specs.Transfer.{usedOf, World}
+use Rattle.transfer.specs.Transfer.{World}
 use Rattle.transfer.specs.Fit.{pairLimit, channelsFit, restsApart, countFits, faultFits, fitsWithoutFile, fits}
-use Rattle.transfer.proofs.FitByChannel.{CountSays, FaultSays, Together, rests-of, rest-inside}
+use Rattle.transfer.specs.Fitting.{CountSays, FaultSays}
+use Rattle.transfer.proofs.FitByChannel.{Together, rests-of, rest-inside}
 use Rattle.transfer.proofs.FitChannels.{both, ChannelSays, bytesAt, channel-says, channel-fits, zeros-byte, byte-zeros, channels-at, at-channels}
 use Rattle.transfer.proofs.FitRests.{apart-says, rests-say, rests-apart}
 
@@ -23,35 +24,32 @@ use Rattle.transfer.proofs.FitRests.{apart-says, rests-say, rests-apart
 
 count-says : (t : Transfer) → countFits t ≡ true → CountSays t
 unfolding countFits
-count-says t h = go (eqb (t .count) 0) refl h
+count-says t h = go (ℕ-discrete (t .count) 0)
   where
-    go : (b : Bool) → eqb (t .count) 0 ≡ b → (b || (leb (t .count) countLimit && leb (usedOf t) (t .count))) ≡ true → CountSays t
-    go true e z = inl (eqb-true (t .count) 0 e)
-    go false e z =
-        let n : t .count ≢ 0 = eqb-false (t .count) 0 e in
-        let q = both (leb (t .count) countLimit) (leb (usedOf t) (t .count)) z in
-        inr (omega arith, leb-true (t .count) countLimit (q .0), leb-true (usedOf t) (t .count) (q .1))
+    go : Dec (t .count ≡ 0) → CountSays t
+    go (yes e) = inl e
+    go (no n) = let q = both _ _ (rw (ne-eqb (t .count) 0 n) at h) in inr (omega arith, leb-true _ _ (q .0), leb-true _ _ (q .1))
 
 count-fits : (t : Transfer) → CountSays t → countFits t ≡ true
 unfolding countFits
 count-fits t (inl e) = rw e
-count-fits t (inr q) = rw (ne-eqb (t .count) 0 (λ e. omega arith), le-leb (t .count) countLimit (q .1), le-leb (usedOf t) (t .count) (q .2))
+count-fits t (inr q) = rw (ne-eqb (t .count) 0 (λ e. omega arith), le-leb _ _ (q .1), le-leb _ _ (q .2))
 
 fault-says : (t : Transfer) → faultFits t ≡ true → FaultSays t
 unfolding faultFits
-fault-says t h = go (eqb (t .fault) 0) refl h
+fault-says t h = go (ℕ-discrete (t .fault) 0)
   where
-    go : (b : Bool) → eqb (t .fault) 0 ≡ b → cond b (eqb (t .on) 0) (leb 11 (t .fault) && (leb (t .fault) 20 && ltb (t .on) channelCount)) ≡ true → FaultSays t
-    go true e z = inl (eqb-true (t .fault) 0 e, eqb-true (t .on) 0 z)
-    go false e z =
-        let q = both (leb 11 (t .fault)) (leb (t .fault) 20 && ltb (t .on) channelCount) z in
-        let r = both (leb (t .fault) 20) (ltb (t .on) channelCount) (q .1) in
-        inr (leb-true 11 (t .fault) (q .0), leb-true (t .fault) 20 (r .0), ltb-true (t .on) channelCount (r .1))
+    go : Dec (t .fault ≡ 0) → FaultSays t
+    go (yes e) = inl (e, eqb-true _ _ (rw e at h))
+    go (no n) =
+        let q = both _ _ (rw (ne-eqb (t .fault) 0 n) at h) in
+        let r = both _ _ (q .1) in
+        inr (leb-true _ _ (q .0), leb-true _ _ (r .0), ltb-true _ _ (r .1))
 
 fault-fits : (t : Transfer) → FaultSays t → faultFits t ≡ true
 unfolding faultFits
 fault-fits t (inl e) = rw (e .0, e .1)
-fault-fits t (inr q) = rw (ne-eqb (t .fault) 0 (λ e. omega arith), le-leb 11 (t .fault) (q .0), le-leb (t .fault) 20 (q .1), lt-ltb (t .on) channelCount (q .2))
+fault-fits t (inr q) = rw (ne-eqb (t .fault) 0 (λ e. omega arith), le-leb _ _ (q .0), le-leb _ _ (q .1), lt-ltb _ _ (q .2))
 
 -- ---- all but the file's length
 

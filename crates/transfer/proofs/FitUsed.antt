@@ -1,14 +1,17 @@
--- The channels in use, counted one by one where the states are those of the struct.
+-- The channels in use: counted one by one where the states are those of the struct, and no more than n where a count is known.
 use Prim.Native.Nat.{ℕ, zero, suc, _+_, _≤_, _<_}
 use mathlib.Core.Path.{_≡_, refl}
+use mathlib.Core.Logic.{inl, inr}
 use mathlib.Core.Bool.{cond, _&&_}
 use mathlib.Core.List.{List, [], _∷_}
 use native.Mathlib.Omega.{arith}
 use lib.Dec.{ltb, eqb}
 use lib.ListN.{length, getD}
 use Rattle.transfer.specs.declared.state.Channel.{Channel}
+use Rattle.transfer.specs.declared.state.Transfer.{Transfer}
 use Rattle.transfer.specs.Channel.{blank}
-use Rattle.transfer.specs.Transfer.{sum, oneIfEnded, oneIfActive}
+use Rattle.transfer.specs.Transfer.{sum, oneIfEnded, oneIfActive, usedOf}
+use Rattle.transfer.specs.Fitting.{CountSays}
 
 abbrev pub oneIfUsed : Channel → ℕ
 oneIfUsed k = cond (eqb (k .state) 0) 0 1
@@ -28,3 +31,7 @@ pub used-sum : (ks : List Channel) → ((c : ℕ) → c < length ks → getD ks 
 unfolding sum
 used-sum [] h = refl
 used-sum (k ∷ ks) h = omega (arith, used-one k (h 0 (omega arith)), used-sum ks (λ c g. h (suc c) (omega arith)))
+
+pub used-within : (t : Transfer) → CountSays t → 0 < t .count → usedOf t ≤ t .count
+used-within t (inl z) n = absurd (omega arith)
+used-within t (inr q) n = omega (arith, q .2)

@@ -22,7 +22,6 @@ use Rattle.transfer.proofs.FitTests.{ledger-together, together-ledger, 
 use Rattle.transfer.proofs.FitUsed.{oneIfUsed, used-sum}
 use Rattle.transfer.proofs.FitKept.{byte-keeps}
 use Rattle.transfer.proofs.FitEnds.{byte-ends}
-use Rattle.transfer.proofs.Never20.{never-20}
 
 used-are : (w : World) → Fit w → usedOf (w .t) ≡ sum oneIfUsed (w .t .channels)
 unfolding usedOf endedOf
@@ -69,5 +68,4 @@ fitting =
       call-keeps = λ w k f. together-fit (callOf w k .1) (call-keeps w k (fit-together w f));
       byte-ends = λ w c b f h. byte-ends w c b (fit-together w f) h;
       call-ends = λ w c b bs f h. byte-ends (takeBytes (λ u x. takeByte u c x) w bs 0 .1) c b (piece-keeps c h bs w 0 (fit-together w f)) h;
-      never-20 = λ w c b f h. never-20 c h w b (fit-together w f);
     }

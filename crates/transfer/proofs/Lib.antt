@@ -44,7 +44,6 @@ pub mod FitUsed
 pub mod FitPuts
 pub mod FitKept
 pub mod FitEnds
-pub mod Never20
 pub mod Fitting
 pub mod SendingBegunCut
 pub mod SendingStreams

@@ -6,14 +6,12 @@ use mathlib.Core.List.{List, [], _∷_, _++_}
 use native.Mathlib.Omega.{arith}
 use borrow.Author.Tests.{lt-ltb, eq-eqb, le-leb, lt-leb, leb-true, leb-false}
 use lib.Dec.{leb}
-use lib.ListN.{set}
-use Rattle.transfer.specs.Channel.{channelCount, State, unused, header, payload, ended, stateAt, putState, putFault}
-use Rattle.transfer.specs.Transfer.{endedOf, usedOf, World, world, withTransfer, Verdict, guess, result, broken, verdictOf}
-use Rattle.transfer.specs.Receive.{stops, notTaken, Answer, refused, took, takeBytes, takeByte, isGuess, isEnded, isNonEmpty, refusalOf, receiveOf}
+use Rattle.transfer.specs.Channel.{channelCount, State, unused, header, payload, ended, stateAt, putFault}
+use Rattle.transfer.specs.Transfer.{usedOf, World, withTransfer, Verdict, guess, result, broken, verdictOf}
+use Rattle.transfer.specs.Receive.{notTaken, Answer, refused, took, takeBytes, takeByte, isGuess, isEnded, isNonEmpty, refusalOf, receiveOf}
 use Rattle.transfer.specs.Fit.{fits}
 use Rattle.transfer.specs.Calls.{Call, receive, callOf, foldCalls, answersOf, after}
-use Rattle.transfer.proofs.ReceiveBytes.{byte-unused, ends-20}
-use Rattle.transfer.proofs.ByteRows.{with-byte, last-byte}
+use Rattle.transfer.proofs.ReceiveBytes.{byte-unused}
 use Rattle.transfer.proofs.ReceivePieces.{bytes-none, bytes-goes, bytes-stops, bytes-leaves}
 use Rattle.transfer.specs.Rows.{Rows}
 
@@ -22,7 +20,7 @@ not-guess guess h = absurd (h refl)
 not-guess result h = refl
 not-guess broken h = refl
 
-not-ended : (x : State) → (x ≡ ended → ⊥) → isEnded x ≡ false
+pub not-ended : (x : State) → (x ≡ ended → ⊥) → isEnded x ≡ false
 not-ended unused h = refl
 not-ended (header r) h = refl
 not-ended (payload p n e) h = refl
@@ -63,14 +61,10 @@ first-row w c piece e = refuses w c piece 0 (unfold refusalOf in rw e)
 second-row : (w : World) (c : ℕ) (piece : List ℕ) → fits w ≡ true → channelCount ≤ c → receiveOf w c piece ≡ (refused 2, w)
 second-row w c piece e h = refuses w c piece 1 (unfold refusalOf in rw (e, le-leb channelCount c h))
 
--- ---- 19 and 20
+-- ---- 19
 
 nineteen : (w : World) (c b : ℕ) → stateAt (w .t) c ≡ unused → 0 < w .t .count → usedOf (w .t) ≡ w .t .count → takeByte w c b ≡ notTaken (withTransfer w (putFault (w .t) 19 c))
 nineteen w c b u n e = byte-unused w c b u ∙ rw (lt-ltb 0 (w .t .count) n, eq-eqb (usedOf (w .t)) (w .t .count) e)
-
-twenty : (w : World) (c b p : ℕ) → stateAt (w .t) c ≡ payload p 1 true → 0 < w .t .count → endedOf (w .t) ≡ w .t .count
-    → takeByte w c b ≡ stops (world (putFault (putState (w .t) c (header [])) 20 c) (set (w .lent .file) p b) (w .lent .ledger))
-twenty w c b p s n e = last-byte w c b p s ∙ ends-20 (with-byte w c b p) c n e
 
 -- ---- lists of calls
 
@@ -116,7 +110,6 @@ rows =
       piece-stops = bytes-stops;
       piece-not-taken = bytes-leaves;
       by-19 = nineteen;
-      by-20 = twenty;
       one-more = one-more-call;
       stays = stays-put;
     }

@@ -18,7 +18,7 @@ use Rattle.transfer.specs.Transfer.{sum}
 use Rattle.transfer.specs.Header.{isEodc, payloadLength, requestOf}
 use Rattle.transfer.specs.Receive.{Outcome, continues, stops, isNonEmpty}
 use Rattle.transfer.specs.Block.{Block, block, placeOf, sizeOf, blockBytes, cut, partialHeader, partialHeaderBy, hasEnded}
-use Rattle.transfer.specs.Tally.{Tally, Stream, intact, taken, accepted, blocksOf, countsOf, knownCount, claimed, usedIn, endedIn, streamAt, withStream, keepBytes, applyJudgement, requestFault, tallyByteAfter, tallyByte}
+use Rattle.transfer.specs.Tally.{Tally, Stream, intact, taken, accepted, blocksOf, countsOf, knownCount, claimed, usedIn, streamAt, withStream, keepBytes, applyJudgement, requestFault, tallyByteAfter, tallyByte}
 use Rattle.transfer.specs.Sending.{WellFormedBlocks}
 use Rattle.transfer.proofs.BlockClaims.{hitBy, claims-ruled, claims-holds}
 use Rattle.transfer.proofs.BlockCounts.{sum-counts}
@@ -31,7 +31,7 @@ use Rattle.transfer.proofs.TallyByteCases.{stream-now}
 use Rattle.transfer.proofs.TallyHeader.{new, claims-are, sum-is, sized, joins}
 use Rattle.transfer.proofs.SendingBegunCut.{FirstOf, Part}
 use Rattle.transfer.proofs.SendingWellFormed.{Sendable}
-use Rattle.transfer.proofs.SendingBegun.{Underway, part-at, apart, room, counts-are, known-is, used-most, on-channel, ended-below, used-below, one-more}
+use Rattle.transfer.proofs.SendingBegun.{Underway, part-at, apart, room, counts-are, known-is, used-most, on-channel, used-below, one-more}
 
 -- a header that has come is one that was sent
 first-sent : (F : ℕ) (done : List Block) (x : Block) (ys : List Block) → WellFormedBlocks F ys → FirstOf (done ++ (x ∷ [])) ys
@@ -69,7 +69,7 @@ module _ (F R : ℕ) (before : Pairs) (ruled : ObeyFrom 0 before) (n : ℕ) (all
     part : Part (accepted (streamIn all c)) (accepted (streamAt next c)) m
     part = part-at F R before n all sent (next .streams) c m (u′ .clean) (ap (λ s. taken s ++ m) now ∙ append-assoc bs (b ∷ []) m ∙ e)
 
-    -- ---- fault 19, fault 20
+    -- ---- fault 19
 
     no-nineteen : (not (isNonEmpty bs) && (ltb 0 (knownCount (t .streams)) && eqb (usedIn (t .streams)) (knownCount (t .streams)))) ≡ false
     no-nineteen = go (isNonEmpty bs) refl (known-is F R before n all sent (t .streams) u)
@@ -81,21 +81,12 @@ module _ (F R : ℕ) (before : Pairs) (ruled : ObeyFrom 0 before) (n : ℕ) (all
             let less = used-below F R before n all sent (t .streams) u c b m e v in
             rw (lt-ltb 0 (knownCount (t .streams)) (omega (arith, sent .some)), ne-eqb (usedIn (t .streams)) (knownCount (t .streams)) (λ q. omega (arith, less)))
 
-    no-twenty : (ltb 0 (knownCount (next .streams)) && eqb (endedIn (t .streams)) (knownCount (next .streams))) ≡ false
-    no-twenty = go (known-is F R before n all sent (next .streams) u′)
-      where
-        go : (knownCount (next .streams) ≡ 0) ⊎ (knownCount (next .streams) ≡ n) → (ltb 0 (knownCount (next .streams)) && eqb (endedIn (t .streams)) (knownCount (next .streams))) ≡ false
-        go (inl h) = rw (le-ltb 0 (knownCount (next .streams)) (omega arith))
-        go (inr h) =
-            let less = ended-below F R before n all sent (t .streams) u c b m e in
-            rw (lt-ltb 0 (knownCount (next .streams)) (omega (arith, sent .some)), ne-eqb (endedIn (t .streams)) (knownCount (next .streams)) (λ q. omega (arith, less)))
-
     keeps-byte : Takes (keepBytes t c (bs ++ b ∷ [])) next m
     unfolding keepBytes accepted
     keeps-byte = go (hasEnded (cut (bs ++ b ∷ []))) refl
       where
         go : (v : Bool) → hasEnded (cut (bs ++ b ∷ [])) ≡ v → Takes (keepBytes t c (bs ++ b ∷ [])) next m
-        go true h = inr (rw (h, no-twenty), part .ended-last (ap (λ s. hasEnded (accepted s)) now ∙ h))
+        go true h = inr (rw h, part .ended-last (ap (λ s. hasEnded (accepted s)) now ∙ h))
         go false h = inl (rw h)
 
     -- ---- the faults of a header

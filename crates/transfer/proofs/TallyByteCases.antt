@@ -1,28 +1,26 @@
 -- One byte: that the receiver on the world of a tally does what the tally does, and the bytes for which a channel goes on or opens.
 use Prim.Native.Nat.{ℕ, zero, suc, _+_, _-_, _≤_, _<_}
 use mathlib.Core.Path.{_≡_, refl, sym, ap, _∙_}
-use mathlib.Core.Bool.{Bool, true, false, _&&_}
+use mathlib.Core.Bool.{Bool, true, false}
 use mathlib.Core.List.{List, [], _∷_, _++_, append-nil}
 use native.Mathlib.Omega.{arith}
 use native.Mathlib.Decide.{decLt}
-use borrow.Author.Tests.{lt-ltb, le-ltb, ne-eqb}
-use lib.Dec.{ltb, eqb}
 use lib.ListN.{length, set}
 use lib.Seq.{getD-set-same}
 use Rattle.ledger.specs.Pairs.{Pairs}
 use Rattle.eblock.specs.Header.{headerLength, thirdOf}
 use Rattle.transfer.specs.declared.state.Transfer.{Transfer}
 use Rattle.transfer.specs.Channel.{channelCount, State, header, payload, ended, putState}
-use Rattle.transfer.specs.Transfer.{endedOf, World, world, withTransfer, allEnded}
+use Rattle.transfer.specs.Transfer.{World, world, withTransfer}
 use Rattle.transfer.specs.Header.{endsChannel, payloadLength}
-use Rattle.transfer.specs.Receive.{Outcome, continues, stops, notTaken, endChannel, expectPayload, isNonEmpty, isEnded}
+use Rattle.transfer.specs.Receive.{Outcome, continues, stops, notTaken, expectPayload, isNonEmpty, isEnded}
 use Rattle.transfer.specs.Block.{Block, block, cut, hasEnded, blockBytes}
-use Rattle.transfer.specs.Tally.{Tally, Stream, intact, taken, accepted, blocksOf, countsOf, knownCount, oneIf, usedIn, endedIn, streamAt, withStream, keepBytes}
+use Rattle.transfer.specs.Tally.{Tally, Stream, intact, accepted, blocksOf, countsOf, usedIn, streamAt, withStream, keepBytes}
 use Rattle.transfer.proofs.BlockCut.{Done, done-append, blockBytes-append, cuts-payload}
 use Rattle.transfer.specs.StateFrom.{stateFrom}
 use Rattle.transfer.proofs.ChannelBytes.{Shape, in-header, in-payload, at-end, Proper, kind, kind-ended, stateFrom-header, stateFrom-payload, stateFrom-end}
 use Rattle.transfer.proofs.TallyTransfer.{transferOf, worldOf, put-is}
-use Rattle.transfer.proofs.TallyInvariant.{Count, unknown, announced, intact-set, Invariant, Grows, stays, ended-lt, used-same, same-blocks, kept-same}
+use Rattle.transfer.proofs.TallyInvariant.{Count, intact-set, Invariant, Grows, stays, same-blocks, kept-same}
 
 -- the receiver's x and the tally's y are the same step from t₀: both go on, both stop, or both leave the byte
 pub data Follows (F R : ℕ) (before : Pairs) (file : List ℕ) (t₀ : Tally) (c : ℕ) (x : Outcome World) (y : Outcome Tally) : Type 0 where
@@ -100,32 +98,15 @@ module _ (F R : ℕ) (before : Pairs) (file : List ℕ) where
 
   -- ---- a block's bytes up to here are accepted
 
-  -- the test for fault 20 fails, with the count and the number of ended channels of either side
-  no-twenty : (t : Tally) (c : ℕ) (bs : List ℕ) (n e : ℕ) → Invariant F R before t → c < length (t .streams) → isNonEmpty bs ≡ true → Invariant F R before (withStream t c (intact bs))
-      → oneIf (isNonEmpty (taken (streamAt t c))) ≡ 1 → oneIf (hasEnded (accepted (streamAt t c))) ≡ 0
-      → n ≡ knownCount (set (t .streams) c (intact bs)) → e ≡ endedIn (t .streams) → (ltb 0 n && eqb e n) ≡ false
-  no-twenty t c bs n e i h u j p q k g = go (j .count)
-    where
-      go : Count (countsOf (set (t .streams) c (intact bs))) (usedIn (set (t .streams) c (intact bs))) → (ltb 0 n && eqb e n) ≡ false
-      go (unknown z) = let y : n ≡ 0 = k ∙ rw z in rw (le-ltb 0 n (omega arith))
-      go (announced m z a b d) =
-          let y : n ≡ m = k ∙ rw z in
-          rw (lt-ltb 0 n (omega arith), ne-eqb e n (λ x. omega (arith, ended-lt (t .streams) c (i .proper) h p q, used-same t c (intact bs) h p u)))
-
-  pub opens-on : (t : Tally) (c : ℕ) (bs : List ℕ) → Invariant F R before t → t .fault ≡ 0 → c < channelCount → isNonEmpty bs ≡ true → Proper (intact bs) → Invariant F R before (withStream t c (intact bs))
-      → oneIf (isNonEmpty (taken (streamAt t c))) ≡ 1 → oneIf (hasEnded (accepted (streamAt t c))) ≡ 0
+  pub opens-on : (t : Tally) (c : ℕ) (bs : List ℕ) → Invariant F R before t → t .fault ≡ 0 → c < channelCount → Proper (intact bs) → Invariant F R before (withStream t c (intact bs))
       → Grows (blocksOf (t .streams)) (blocksOf (set (t .streams) c (intact bs)))
       → (w : World) → withTransfer w (putState (w .t) c (stateFrom (intact bs))) ≡ worldOf F R before file (withStream t c (intact bs))
-      → w .t .count ≡ knownCount (set (t .streams) c (intact bs)) → endedOf (w .t) ≡ endedIn (t .streams)
       → (p n : ℕ) (e : Bool) → stateFrom (intact bs) ≡ tipOf p n e → Follows F R before file t c (expectPayload w c p n e) (keepBytes t c bs)
-  unfolding expectPayload endChannel keepBytes allEnded
-  opens-on t c bs i z h u o j p q gr w wp k m x n e v = go n e v
+  unfolding expectPayload keepBytes
+  opens-on t c bs i z h o j gr w wp x n e v = go n e v
     where
       h′ : c < length (t .streams)
       h′ = omega (arith, i .number)
-
-      next : Tally
-      next = withStream t c (intact bs)
 
       -- the state is that of a channel not ended
       on : (y : State) → stateFrom (intact bs) ≡ y → isEnded y ≡ false → Follows F R before file t c (continues (withTransfer w (putState (w .t) c y))) (keepBytes t c bs)
@@ -135,9 +116,6 @@ module _ (F R : ℕ) (before : Pairs) (file : List ℕ) where
 
       go : (n : ℕ) (e : Bool) → stateFrom (intact bs) ≡ tipOf x n e → Follows F R before file t c (expectPayload w c x n e) (keepBytes t c bs)
       go zero true v =
-          both-stop (withStream t c (intact bs))
-          (rw (ends-by bs o ended v, no-twenty t c bs (knownCount (set (t .streams) c (intact bs))) (endedIn (t .streams)) i h′ u j p q refl refl))
-          (rw (no-twenty t c bs (w .t .count) (endedOf (w .t)) i h′ u j p q k m) (ap stops (ap (λ r. withTransfer w (putState (w .t) c r)) (sym v) ∙ wp)))
-          j gr
+          both-stop (withStream t c (intact bs)) (rw (ends-by bs o ended v)) (ap stops (ap (λ r. withTransfer w (putState (w .t) c r)) (sym v) ∙ wp)) j gr
       go zero false v = on (header []) v refl
       go (suc n) e v = on (payload x (suc n) e) v refl

@@ -16,17 +16,17 @@ use Rattle.eblock.specs.Header.{countLimit, descriptorOf, secondOf, thirdOf}
 use Rattle.transfer.specs.Channel.{channelCount, heldLimit, putCount}
 use Rattle.transfer.specs.Transfer.{sum, withTransfer, endedOf}
 use Rattle.transfer.specs.Header.{isEodc, endsChannel, payloadLength}
-use Rattle.transfer.specs.Receive.{expectPayload, claimRange, isNonEmpty, isEnded}
-use Rattle.transfer.specs.Block.{Block, block, placeOf, sizeOf, cut, countsIn, addClaim, claimsIn, hasEnded, withPayloads, blockBytes}
+use Rattle.transfer.specs.Receive.{expectPayload, claimRange, isNonEmpty}
+use Rattle.transfer.specs.Block.{Block, block, placeOf, sizeOf, cut, countsIn, addClaim, claimsIn, withPayloads, blockBytes}
 use Rattle.transfer.specs.Tally.{Tally, Stream, intact, taken, accepted, blocksOf, countsOf, knownCount, claimed, oneIf, usedIn, streamAt, withStream, keepBytes}
 use Rattle.transfer.proofs.BlockClaims.{sum-insert, hitBy, cover, claims-ruled, claims-holds, claims-insert}
 use Rattle.transfer.proofs.BlockCounts.{counts-without, counts-first}
 use Rattle.transfer.proofs.BlockPayloads.{withPayloads-insert}
 use Rattle.transfer.proofs.BlockCut.{Done, cuts-header}
 use Rattle.transfer.specs.StateFrom.{stateFrom}
-use Rattle.transfer.proofs.ChannelBytes.{in-header, kind, kind-ended, stateFrom-header, inRange-nothing}
+use Rattle.transfer.proofs.ChannelBytes.{inRange-nothing}
 use Rattle.transfer.proofs.TallyStreams.{proper-set, Split, split}
-use Rattle.transfer.proofs.TallyTransfer.{transferOf, worldOf, put-is, put-count-is, ended-is}
+use Rattle.transfer.proofs.TallyTransfer.{transferOf, worldOf, put-is, put-count-is}
 use Rattle.transfer.proofs.TallyInvariant.{Count, unknown, announced, intact-set, headerFault, Invariant, opens-block, used-same}
 use Rattle.transfer.proofs.TallyByteCases.{Follows, world-is, isSome-append, tipOf, Opened, opened, opens-on}
 
@@ -101,11 +101,6 @@ module _ (F R : ℕ) (before : Pairs) (file : List ℕ) (ruled : ObeyFrom 0 befo
     used-now : oneIf (isNonEmpty (taken (streamAt t c))) ≡ 1
     used-now = ap (λ s. oneIf (isNonEmpty (taken s))) e ∙ ap oneIf u
 
-    not-ended : oneIf (hasEnded (accepted (streamAt t c))) ≡ 0
-    not-ended =
-        ap (λ s. oneIf (hasEnded (accepted s))) e
-        ∙ ap oneIf (kind-ended (stateFrom (intact bs)) (accepted (intact bs)) (isNonEmpty bs) (kind (intact bs) (in-header done r d (omega arith) u g)) ∙ ap isEnded (stateFrom-header bs done r d (omega arith) u g))
-
     same-used : usedIn next ≡ usedIn (t .streams)
     same-used = used-same t c (intact (bs ++ b ∷ [])) h′ used-now (isSome-append bs b)
 
@@ -148,10 +143,10 @@ module _ (F R : ℕ) (before : Pairs) (file : List ℕ) (ruled : ObeyFrom 0 befo
         → Follows F R before file t c (expectPayload (withTransfer (worldOf F R before file t) (putCount (transferOf F R t) (thirdOf head))) c 0 0 (endsChannel head)) (keepBytes t c (bs ++ b ∷ []))
     unfolding worldOf transferOf putCount endedOf
     accepts-count f₀ q k₀ n₀ n₁ n₂ =
-        opens-on F R before file t c (bs ++ b ∷ []) i z k (isSome-append bs b) (new .shape) (kept-empty s₀ f₀ (announced (thirdOf head) the-count n₀ n₁ n₂))
-        used-now not-ended (opens-block front x (around .back) now then) (withTransfer (worldOf F R before file t) (putCount (transferOf F R t) (thirdOf head)))
+        opens-on F R before file t c (bs ++ b ∷ []) i z k (new .shape) (kept-empty s₀ f₀ (announced (thirdOf head) the-count n₀ n₁ n₂))
+        (opens-block front x (around .back) now then) (withTransfer (worldOf F R before file t) (putCount (transferOf F R t) (thirdOf head)))
         (world-is (put-count-is F R t c (intact (bs ++ b ∷ [])) (thirdOf head) (i .proper) h′ (ap (λ m. getD m 0 0) the-count)) (sym same-file) (ap (laidOut R) (sym (same-claims s₀))))
-        (sym (ap (λ m. getD m 0 0) the-count)) (ended-is F R t (i .proper)) 0 0 (endsChannel head) (tip-empty s₀)
+        0 0 (endsChannel head) (tip-empty s₀)
       where
         s₀ : payloadLength head ≡ 0
         s₀ = unfold payloadLength in rw q
@@ -167,10 +162,10 @@ module _ (F R : ℕ) (before : Pairs) (file : List ℕ) (ruled : ObeyFrom 0 befo
         → Follows F R before file t c (expectPayload (worldOf F R before file t) c 0 0 (endsChannel head)) (keepBytes t c (bs ++ b ∷ []))
     unfolding worldOf transferOf
     accepts-nothing f₀ q q₀ =
-        opens-on F R before file t c (bs ++ b ∷ []) i z k (isSome-append bs b) (new .shape) (kept-empty s₀ f₀ (rw (same-counts q) (i .count)))
-        used-now not-ended (opens-block front x (around .back) now then) (worldOf F R before file t)
+        opens-on F R before file t c (bs ++ b ∷ []) i z k (new .shape) (kept-empty s₀ f₀ (rw (same-counts q) (i .count)))
+        (opens-block front x (around .back) now then) (worldOf F R before file t)
         (world-is (put-is F R t c (intact (bs ++ b ∷ [])) (i .proper) h′ (ap (λ m. getD m 0 0) (same-counts q))) (sym same-file) (ap (laidOut R) (sym (same-claims s₀))))
-        (sym (ap (λ m. getD m 0 0) (same-counts q))) (ended-is F R t (i .proper)) 0 0 (endsChannel head) (tip-empty s₀)
+        0 0 (endsChannel head) (tip-empty s₀)
       where
         s₀ : payloadLength head ≡ 0
         s₀ = unfold payloadLength in rw q q₀
@@ -187,11 +182,11 @@ module _ (F R : ℕ) (before : Pairs) (file : List ℕ) (ruled : ObeyFrom 0 befo
         (keepBytes t c (bs ++ b ∷ []))
     unfolding worldOf transferOf claimRange
     accepts-claim f₀ q q₀ q₁ q₂ q₃ =
-        opens-on F R before file t c (bs ++ b ∷ []) i z k (isSome-append bs b) (new .shape)
+        opens-on F R before file t c (bs ++ b ∷ []) i z k (new .shape)
         (kept f₀
         (λ o. omega (arith, i .apart o, shares-none (thirdOf head) (thirdOf head + secondOf head) o (claimed before (t .streams)) q₂, claims-holds o (blocksOf (t .streams)) before ruled, ap (λ m. inRange (thirdOf head) (thirdOf head + m) o) (sized q)))
         (rw (joins q q₀) (join-ends (thirdOf head) (thirdOf head + secondOf head) F (claimed before (t .streams)) q₁ (i .ends))) (rw (joins q q₀) q₃) (rw (same-counts q) (i .count)))
-        used-now not-ended (opens-block front x (around .back) now then) (claimRange (worldOf F R before file t) (thirdOf head) (thirdOf head + secondOf head))
+        (opens-block front x (around .back) now then) (claimRange (worldOf F R before file t) (thirdOf head) (thirdOf head + secondOf head))
         (world-is (put-is F R t c (intact (bs ++ b ∷ [])) (i .proper) h′ (ap (λ m. getD m 0 0) (same-counts q))) (sym same-file)
         (ap (λ m. laidOut R (join (thirdOf head) (thirdOf head + secondOf head) m)) (pairs-are t i) ∙ ap (laidOut R) (sym (claims-are ∙ joins q q₀))))
-        (sym (ap (λ m. getD m 0 0) (same-counts q))) (ended-is F R t (i .proper)) (thirdOf head) (payloadLength head) (endsChannel head) looks
+        (thirdOf head) (payloadLength head) (endsChannel head) looks

@@ -28,7 +28,7 @@ pub data Count (cs : List ℕ) (u : ℕ) : Type 0 where
 
 pub data Fault (k c : ℕ) : Type 0 where
   no-fault : k ≡ 0 → c ≡ 0 → Fault k c
-  fault-of : 11 ≤ k → k ≤ 20 → c < channelCount → Fault k c
+  fault-of : 11 ≤ k → k ≤ 19 → c < channelCount → Fault k c
 
 -- no stream has a fault
 abbrev pub AllSound : List Stream → Type 0
@@ -83,12 +83,6 @@ unfolding sum
 ended-le [] a = omega arith
 ended-le (s ∷ ss) a = omega (arith, ended-le ss (a .1), ended-used s (a .0))
 
-pub ended-lt : (ss : List Stream) (c : ℕ) → AllProper ss → c < length ss → oneIf (isNonEmpty (taken (getD ss c (intact [])))) ≡ 1 → oneIf (hasEnded (accepted (getD ss c (intact [])))) ≡ 0 → endedIn ss < usedIn ss
-unfolding sum
-ended-lt [] c a h p q = absurd (omega arith)
-ended-lt (s ∷ ss) zero a h p q = omega (arith, ended-le ss (a .1))
-ended-lt (s ∷ ss) (suc c) a h p q = omega (arith, ended-lt ss c (a .1) (omega arith) p q, ended-used s (a .0))
-
 -- a channel that was used and is used counts the same
 pub used-same : (t : Tally) (c : ℕ) (s : Stream) → c < length (t .streams) → oneIf (isNonEmpty (taken (streamAt t c))) ≡ 1 → isNonEmpty (taken s) ≡ true
     → usedIn (set (t .streams) c s) ≡ usedIn (t .streams)
@@ -111,7 +105,7 @@ same-blocks t c s h e =
 
 module _ (F R : ℕ) (before : Pairs) where
   -- with a fault
-  pub kept-fault : (t : Tally) (k c : ℕ) → Invariant F R before t → 11 ≤ k → k ≤ 20 → c < channelCount → Invariant F R before (tallyWithFault t k c)
+  pub kept-fault : (t : Tally) (k c : ℕ) → Invariant F R before t → 11 ≤ k → k ≤ 19 → c < channelCount → Invariant F R before (tallyWithFault t k c)
   kept-fault t k c i h g q =
       record { number = i .number; proper = i .proper; clean = λ z. absurd (omega arith); apart = i .apart; ends = i .ends; room = i .room; count = i .count; fault = fault-of h g q; headers = i .headers }
 
@@ -134,7 +128,7 @@ module _ (F R : ℕ) (before : Pairs) where
 
   -- where a header is judged a fault
   pub kept-spoilt : (t : Tally) (c : ℕ) (bs : List ℕ) (k : ℕ) → Invariant F R before t → c < channelCount → Proper (faulted bs) → accepted (faulted bs) ≡ accepted (streamAt t c) → oneIf (isNonEmpty (taken (streamAt t c))) ≡ 1
-      → 11 ≤ k → k ≤ 20 → Invariant F R before (tallyWithFault (withStream t c (faulted bs)) k c)
+      → 11 ≤ k → k ≤ 19 → Invariant F R before (tallyWithFault (withStream t c (faulted bs)) k c)
   kept-spoilt t c bs k i h o e u g g′ =
       let h′ : c < length (t .streams) = omega (arith, i .number) in
       let b : blocksOf (set (t .streams) c (faulted bs)) ≡ blocksOf (t .streams) = same-blocks t c (faulted bs) h′ e in

@@ -11,17 +11,16 @@ use Rattle.eblock.specs.Header.{headerLength, thirdOf}
 use Rattle.transfer.specs.Channel.{channelCount}
 use Rattle.transfer.specs.Transfer.{sum, world}
 use Rattle.transfer.specs.Header.{endsChannel, payloadLength}
-use Rattle.transfer.specs.Receive.{storePayloadByte, isNonEmpty, isEnded}
-use Rattle.transfer.specs.Block.{Block, block, cut, countsIn, claimsIn, hasEnded, withPayloads, blockBytes}
+use Rattle.transfer.specs.Receive.{storePayloadByte, isNonEmpty}
+use Rattle.transfer.specs.Block.{Block, block, cut, countsIn, claimsIn, withPayloads, blockBytes}
 use Rattle.transfer.specs.Tally.{Tally, intact, taken, accepted, blocksOf, countsOf, claimed, oneIf, usedIn, streamAt, withStream, keepBytes}
 use Rattle.transfer.proofs.BlockClaims.{hitBy, cover, claims-same}
 use Rattle.transfer.proofs.BlockCounts.{counts-same}
 use Rattle.transfer.proofs.BlockPayloads.{Bodies, bodies-left, withPayloads-extend}
 use Rattle.transfer.proofs.BlockCut.{Done, cuts-payload}
 use Rattle.transfer.specs.StateFrom.{stateFrom}
-use Rattle.transfer.proofs.ChannelBytes.{in-payload, kind, kind-ended, stateFrom-payload}
 use Rattle.transfer.proofs.TallyStreams.{proper-set, proper-bodies, Split, split}
-use Rattle.transfer.proofs.TallyTransfer.{transferOf, worldOf, put-is, ended-is}
+use Rattle.transfer.proofs.TallyTransfer.{transferOf, worldOf, put-is}
 use Rattle.transfer.proofs.TallyInvariant.{intact-set, Invariant, adds-byte, headerFault, used-same, sum-same}
 use Rattle.transfer.proofs.TallyByteCases.{Follows, world-is, isSome-append, tipOf, Opened, opened, opens-on}
 
@@ -32,11 +31,9 @@ module _ (F R : ℕ) (before : Pairs) (file : List ℕ) where
   unfolding storePayloadByte worldOf transferOf accepted
   fills t c bs done h p b i z k e d y q u g =
       rw left-is
-      (opens-on F R before file t c (bs ++ b ∷ []) i z k (isSome-append bs b) (new .shape) kept used-now not-ended (adds-byte front (block h p) (r .back) b now then)
+      (opens-on F R before file t c (bs ++ b ∷ []) i z k (new .shape) kept (adds-byte front (block h p) (r .back) b now then)
       (world (transferOf F R t) (set (withPayloads (blocksOf (t .streams)) file) (thirdOf h + length p) b) (laidOut R (claimed before (t .streams))))
       (world-is (put-is F R t c (intact (bs ++ b ∷ [])) (i .proper) h′ (ap (λ cs. getD cs 0 0) same-counts)) (sym one-store) (ap (laidOut R) (sym same-claims)))
-      (ap (λ cs. getD cs 0 0) (sym same-counts))
-      (ended-is F R t (i .proper))
       (suc (thirdOf h + length p)) (payloadLength h - suc (length p)) (endsChannel h) looks)
     where
       h′ : c < length (t .streams)
@@ -99,11 +96,6 @@ module _ (F R : ℕ) (before : Pairs) (file : List ℕ) where
 
       used-now : oneIf (isNonEmpty (taken (streamAt t c))) ≡ 1
       used-now = ap (λ s. oneIf (isNonEmpty (taken s))) e ∙ ap oneIf u
-
-      not-ended : oneIf (hasEnded (accepted (streamAt t c))) ≡ 0
-      not-ended =
-          ap (λ s. oneIf (hasEnded (accepted s))) e
-          ∙ ap oneIf (kind-ended (stateFrom (intact bs)) (accepted (intact bs)) (isNonEmpty bs) (kind (intact bs) (in-payload done h p d y q u g)) ∙ ap isEnded (stateFrom-payload bs done h p d y q u g))
 
       same-used : usedIn (set (t .streams) c (intact (bs ++ b ∷ []))) ≡ usedIn (t .streams)
       same-used = used-same t c (intact (bs ++ b ∷ [])) h′ used-now (isSome-append bs b)

@@ -1,4 +1,4 @@
--- What one byte leads to, in any world, by the state of its channel (document 01, "One transfer"). 19, and 20 at a payload's last byte, are in Rows.
+-- What one byte leads to, in any world, by the state of its channel (document 01, "One transfer"). 19 is in Rows.
 use Prim.Native.Nat.{ℕ, suc, _<_}
 use mathlib.Core.Path.{_≡_}
 use mathlib.Core.Logic.{_⊎_, _≢_}
@@ -9,7 +9,7 @@ use Rattle.ledger.specs.Pairs.{Pairs, ObeyFrom}
 use Rattle.ledger.specs.Ledger.{pairsOf, laidOut}
 use Rattle.eblock.specs.Header.{secondOf}
 use Rattle.transfer.specs.Channel.{unused, header, payload, ended, stateAt, putState, putFault, putCount}
-use Rattle.transfer.specs.Transfer.{endedOf, usedOf, World, world, withTransfer}
+use Rattle.transfer.specs.Transfer.{usedOf, World, world, withTransfer}
 use Rattle.transfer.specs.Header.{endsChannel, HeaderRequest, counts, claims, nothing, faulty}
 use Rattle.transfer.specs.Judgement.{HeaderAsks, Union, ClaimJudged}
 use Rattle.transfer.specs.Receive.{continues, stops, notTaken, takeByte}
@@ -19,10 +19,6 @@ pub record Seventeenth (w : World) (c b : ℕ) (h : List ℕ) (a : HeaderRequest
   pub in-header : stateAt (w .t) c ≡ header h
   pub sixteen : length h ≡ 16
   pub asks : HeaderAsks (w .t .len) (w .t .count) (usedOf (w .t)) (h ++ (b ∷ [])) a
-
--- n is unknown, or not n channels have ended
-abbrev pub MayEnd : World → Type 0
-MayEnd w = (w .t .count ≡ 0) ⊎ (endedOf (w .t) ≢ w .t .count)
 
 pub record ByteRows : Type 0 where
   -- the first byte of an unused channel, where it does not give 19
@@ -39,13 +35,11 @@ pub record ByteRows : Type 0 where
       → takeByte w c b ≡ continues (withTransfer w (putState (putCount (w .t) n) c (header [])))
   pub count-ends : (w : World) (c b n : ℕ) (h : List ℕ) → Seventeenth w c b h (counts n) → endsChannel (h ++ (b ∷ [])) ≡ true
       → takeByte w c b ≡ stops (withTransfer w (putState (putCount (w .t) n) c ended))
-  -- an empty payload; with bit 8 the channel ends, and 20 is given where n have ended already
+  -- an empty payload; with bit 8 the channel ends
   pub empty-continues : (w : World) (c b : ℕ) (h : List ℕ) → Seventeenth w c b h nothing → endsChannel (h ++ (b ∷ [])) ≡ false
       → takeByte w c b ≡ continues (withTransfer w (putState (w .t) c (header [])))
-  pub empty-ends : (w : World) (c b : ℕ) (h : List ℕ) → Seventeenth w c b h nothing → endsChannel (h ++ (b ∷ [])) ≡ true → MayEnd w
+  pub empty-ends : (w : World) (c b : ℕ) (h : List ℕ) → Seventeenth w c b h nothing → endsChannel (h ++ (b ∷ [])) ≡ true
       → takeByte w c b ≡ stops (withTransfer w (putState (w .t) c ended))
-  pub empty-20 : (w : World) (c b : ℕ) (h : List ℕ) → Seventeenth w c b h nothing → endsChannel (h ++ (b ∷ [])) ≡ true → 0 < w .t .count → endedOf (w .t) ≡ w .t .count
-      → takeByte w c b ≡ stops (withTransfer w (putFault (putState (w .t) c (header [])) 20 c))
   -- a range: 17 or 18, with nothing claimed, or the ledger holds it and its bytes are to come
   pub claim-fault : (w : World) (c b k s e : ℕ) (h : List ℕ) → Seventeenth w c b h (claims s e) → ObeyFrom 0 (pairsOf (w .lent .ledger))
       → ClaimJudged (w .t .pairs) (pairsOf (w .lent .ledger)) s e k → 0 < k → takeByte w c b ≡ stops (withTransfer w (putFault (putState (w .t) c (header [])) k c))
@@ -58,7 +52,7 @@ pub record ByteRows : Type 0 where
       → takeByte w c b ≡ continues (world (putState (w .t) c (payload (suc p) (suc n) e)) (set (w .lent .file) p b) (w .lent .ledger))
   pub last-stored : (w : World) (c b p : ℕ) → stateAt (w .t) c ≡ payload p 1 false
       → takeByte w c b ≡ continues (world (putState (w .t) c (header [])) (set (w .lent .file) p b) (w .lent .ledger))
-  pub last-ends : (w : World) (c b p : ℕ) → stateAt (w .t) c ≡ payload p 1 true → MayEnd w
+  pub last-ends : (w : World) (c b p : ℕ) → stateAt (w .t) c ≡ payload p 1 true
       → takeByte w c b ≡ stops (world (putState (w .t) c ended) (set (w .lent .file) p b) (w .lent .ledger))
   -- an ended channel's byte is not taken, nor one of a payload with nothing left, which does not fit
   pub ended-not-taken : (w : World) (c b : ℕ) → stateAt (w .t) c ≡ ended → takeByte w c b ≡ notTaken w

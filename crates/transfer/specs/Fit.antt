@@ -61,7 +61,7 @@ unfoldable pub countFits : Transfer → Bool
 countFits t = eqb (t .count) 0 || (leb (t .count) countLimit && leb (usedOf t) (t .count))
 
 unfoldable pub faultFits : Transfer → Bool
-faultFits t = cond (eqb (t .fault) 0) (eqb (t .on) 0) (leb 11 (t .fault) && (leb (t .fault) 20 && ltb (t .on) channelCount))
+faultFits t = cond (eqb (t .fault) 0) (eqb (t .on) 0) (leb 11 (t .fault) && (leb (t .fault) 19 && ltb (t .on) channelCount))
 
 -- ---- the whole
 

@@ -25,6 +25,14 @@ InPayload k = (k .state ≡ 2) ⊎ (k .state ≡ 3)
 abbrev pub Awaits : Channel → ℕ → Type 0
 Awaits k p = InPayload k × (k .next ≤ p) × (p < k .next + k .left)
 
+-- n is unknown, or in 1 to 64 with used at most n
+abbrev pub CountSays : Transfer → Type 0
+CountSays t = (t .count ≡ 0) ⊎ ((0 < t .count) × (t .count ≤ 64) × (usedOf t ≤ t .count))
+
+-- the fault, if any, is 11 to 19 on a channel below 64
+abbrev pub FaultSays : Transfer → Type 0
+FaultSays t = ((t .fault ≡ 0) × (t .on ≡ 0)) ⊎ ((11 ≤ t .fault) × (t .fault ≤ 19) × (t .on < 64))
+
 pub record Fit (w : World) : Type 0 where
   -- the file has F bytes
   pub file : length (w .lent .file) ≡ w .t .len
@@ -49,10 +57,8 @@ pub record Fit (w : World) : Type 0 where
   pub none-held : (c : ℕ) → c < 64 → (InHeader (channelAt (w .t) c) → ⊥) → channelAt (w .t) c .held ≡ 0
   pub bytes-zero : (c i : ℕ) → c < 64 → channelAt (w .t) c .held ≤ i → i < 16 → getD (w .t .heads) (16 * c + i) 0 ≡ 0
   pub rest-zero : (c : ℕ) → c < 64 → (InPayload (channelAt (w .t) c) → ⊥) → (channelAt (w .t) c .next ≡ 0) × (channelAt (w .t) c .left ≡ 0)
-  -- n is unknown, or in 1 to 64 with used at most n
-  pub count : (w .t .count ≡ 0) ⊎ ((0 < w .t .count) × (w .t .count ≤ 64) × (usedOf (w .t) ≤ w .t .count))
-  -- the fault, if any, is 11 to 20 on a channel below 64
-  pub fault : ((w .t .fault ≡ 0) × (w .t .on ≡ 0)) ⊎ ((11 ≤ w .t .fault) × (w .t .fault ≤ 20) × (w .t .on < 64))
+  pub count : CountSays (w .t)
+  pub fault : FaultSays (w .t)
 
 -- a byte on channel c leads from w to v: where it ends the channel and a count n is known then, fewer than n have ended before it
 abbrev pub EndsBelowCount : World → World → ℕ → Type 0
@@ -72,5 +78,3 @@ pub record Fitting : Type 0 where
   pub byte-ends : (w : World) (c b : ℕ) → Fit w → c < 64 → EndsBelowCount w (afterByte (takeByte w c b)) c
   pub call-ends : (w : World) (c b : ℕ) (bs : List ℕ) → Fit w → c < 64
       → let v = takeBytes (λ u x. takeByte u c x) w bs 0 .1 in EndsBelowCount v (afterByte (takeByte v c b)) c
-  -- 20 is never given
-  pub never-20 : (w : World) (c b : ℕ) → Fit w → c < 64 → w .t .fault ≢ 20 → afterByte (takeByte w c b) .t .fault ≢ 20

@@ -7,7 +7,7 @@ use lib.ListN.{length, set}
 use Rattle.ledger.specs.Pairs.{join}
 use Rattle.ledger.specs.Ledger.{pairsOf, laidOut}
 use Rattle.transfer.specs.Channel.{channelCount, heldLimit, State, unused, header, payload, ended, stateAt, putState, putFault, putCount}
-use Rattle.transfer.specs.Transfer.{usedOf, World, withTransfer, Verdict, guess, result, broken, allEnded, verdictOf}
+use Rattle.transfer.specs.Transfer.{usedOf, World, withTransfer, Verdict, guess, result, broken, verdictOf}
 use Rattle.transfer.specs.Header.{endsChannel, payloadLength, HeaderRequest, counts, claims, nothing, faulty, requestOf, claimFault}
 use Rattle.transfer.specs.Fit.{fits}
 
@@ -22,19 +22,15 @@ afterByte (continues w) = w
 afterByte (stops w) = w
 afterByte (notTaken w) = w
 
--- ---- a fault, the end of a channel, and the beginning of a payload
+-- ---- a fault, and the beginning of a payload
 
 -- a fault stops the call and leaves the channel in a header of which nothing is held; file, ledger, count and the other channels stay
 unfoldable pub stopWithFault : World → ℕ → ℕ → Outcome World
 stopWithFault w c k = stops (withTransfer w (putFault (putState (w .t) c (header [])) k c))
 
--- the channel's last byte is taken: fault 20 where as many as announced have ended already
-unfoldable pub endChannel : World → ℕ → Outcome World
-endChannel w c = cond (allEnded (w .t)) (stopWithFault w c 20) (stops (withTransfer w (putState (w .t) c ended)))
-
--- n payload bytes from the place p are to come, after which the channel ends or not
+-- n payload bytes from the place p are to come, after which the channel ends or not; where it ends, the call stops
 unfoldable pub expectPayload : World → ℕ → ℕ → ℕ → Bool → Outcome World
-expectPayload w c p zero true = endChannel w c
+expectPayload w c p zero true = stops (withTransfer w (putState (w .t) c ended))
 expectPayload w c p zero false = continues (withTransfer w (putState (w .t) c (header [])))
 expectPayload w c p (suc n) e = continues (withTransfer w (putState (w .t) c (payload p (suc n) e)))
 

@@ -3,9 +3,8 @@ use Prim.Native.Nat.{ℕ, suc, _≤_, _<_}
 use mathlib.Core.Path.{_≡_}
 use mathlib.Core.Bool.{true, false}
 use mathlib.Core.List.{List, [], _∷_, _++_}
-use lib.ListN.{set}
-use Rattle.transfer.specs.Channel.{unused, header, payload, ended, stateAt, putState, putFault}
-use Rattle.transfer.specs.Transfer.{endedOf, usedOf, World, world, withTransfer, guess, verdictOf}
+use Rattle.transfer.specs.Channel.{unused, ended, stateAt, putFault}
+use Rattle.transfer.specs.Transfer.{usedOf, World, withTransfer, guess, verdictOf}
 use Rattle.transfer.specs.Receive.{Outcome, continues, stops, notTaken, refused, took, takeBytes, takeByte, receiveOf}
 use Rattle.transfer.specs.Fit.{fits}
 use Rattle.transfer.specs.Calls.{Call, callOf, answersOf, after}
@@ -34,9 +33,6 @@ pub record Rows : Type 1 where
   pub piece-not-taken : {W : Type 0} (f : W → ℕ → Outcome W) (w v : W) (b : ℕ) (bs : List ℕ) (k : ℕ) → f w b ≡ notTaken v → takeBytes f w (b ∷ bs) k ≡ (took k, v)
   -- 19: the first byte of an unused channel is not taken while n is known and as many channels are used
   pub by-19 : (w : World) (c b : ℕ) → stateAt (w .t) c ≡ unused → 0 < w .t .count → usedOf (w .t) ≡ w .t .count → takeByte w c b ≡ notTaken (withTransfer w (putFault (w .t) 19 c))
-  -- 20: the last byte of a channel while n have ended already
-  pub by-20 : (w : World) (c b p : ℕ) → stateAt (w .t) c ≡ payload p 1 true → 0 < w .t .count → endedOf (w .t) ≡ w .t .count
-      → takeByte w c b ≡ stops (world (putFault (putState (w .t) c (header [])) 20 c) (set (w .lent .file) p b) (w .lent .ledger))
   -- one more call gets what the last left
   pub one-more : (w : World) (ks : List Call) (k : Call)
       → (after w (ks ++ k ∷ []) ≡ callOf (after w ks) k .1) × (answersOf w (ks ++ k ∷ []) ≡ answersOf w ks ++ (callOf (after w ks) k .0 ∷ []))

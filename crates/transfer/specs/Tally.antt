@@ -88,13 +88,11 @@ tallyWithFault t k c = record { streams = t .streams; fault = k; on = c }
 
 -- ---- a byte
 
--- channel c has taken the bytes bs without a fault; fault 20 where it ends and as many as announced have ended already
+-- channel c has taken the bytes bs without a fault; where it ends, the call stops
 unfoldable pub keepBytes : Tally → ℕ → List ℕ → Outcome Tally
 keepBytes t c bs =
     let next = withStream t c (intact bs) in
-    cond (hasEnded (cut bs))
-    (stops (cond (ltb 0 (knownCount (countedStreams next)) && eqb (endedIn (countedStreams t)) (knownCount (countedStreams next))) (tallyWithFault next 20 c) next))
-    (continues next)
+    cond (hasEnded (cut bs)) (stops next) (continues next)
 
 -- the last of the bytes bs made a header whole, which is judged k
 unfoldable pub applyJudgement : Tally → ℕ → List ℕ → ℕ → Outcome Tally

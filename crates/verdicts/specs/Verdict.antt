@@ -1,4 +1,4 @@
--- What the verdict means, and the test that it and the faults 19 and 20 share.
+-- What the verdict means, and the test that it and fault 19 share.
 use Prim.Native.Nat.{ℕ}
 use mathlib.Core.Bool.{Bool, _&&_}
 use lib.Dec.{ltb, eqb}

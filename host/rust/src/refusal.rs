@@ -43,7 +43,6 @@ pub fn meaning(number: u64) -> &'static str {
         17 => "a payload that shares a byte with another",
         18 => "a payload for which the ledger has no pair left",
         19 => "one channel more than the sender counted",
-        20 => "one end of data more than the sender counted",
         21 => "a header that does not have 17 bytes",
         31 => "a line of more than 2,048 bytes",
         32 => "a line that does not end with CR LF",

@@ -1,4 +1,4 @@
-//! Holds the library against the second reading of document 01, on inputs of chance: after each call the answers and all
+//! Holds the library against the second reading of the papers, on inputs of chance: after each call the answers and all
 //! that the calls leave have to be equal. COBNUTTER_SEED and COBNUTTER_ROUNDS choose others and more.
 
 mod second;

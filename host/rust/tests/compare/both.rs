@@ -95,7 +95,6 @@ impl<'a> Both<'a> {
         self.seen.note("receive", &mine);
         let fault = self.library.transfer.fault;
         if fault != before {
-            assert_ne!(fault, 20, "no transfer that fits reaches it");
             self.seen.note::<()>("fault", &Err(fault));
         }
         self.compare();

@@ -40,6 +40,18 @@ pub fn start(random: &Random, seen: &mut Seen) {
     let _ = both.receive(0, &[0]);
 }
 
+/// A fault that a host makes up: the call is refused with 3 where the transfer fits, since it is BROKEN, else with 1.
+#[test]
+fn made_up_faults() {
+    let (random, mut seen) = (Random::new(1), Seen::default());
+    let mut both = Both::start(8, 2, &random, &mut seen);
+    for fault in 1..=30 {
+        both.harm(|lent, _| lent.transfer.fault = fault);
+        let number = if (11..=19).contains(&fault) { 3 } else { 1 };
+        assert_eq!(both.receive(0, &[0]), Err(number), "fault {fault}");
+    }
+}
+
 fn lent(random: &Random) -> Lent {
     // Far from 0 no file can be lent: there the screen line and the stored bytes are left to compare.
     let far = random.one_in(4);
@@ -126,7 +138,7 @@ fn know_numbers(transfer: &mut Transfer, random: &Random) {
         transfer.count = *random.pick(&[least, random.between(least, CHANNELS)]) as u64;
     }
     if random.one_in(8) {
-        transfer.fault = random.between(11, 20) as u64;
+        transfer.fault = random.between(11, 19) as u64;
         transfer.on = random.below(CHANNELS) as u64;
     }
 }

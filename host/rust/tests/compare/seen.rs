@@ -41,7 +41,6 @@ impl Seen {
                 .collect();
             println!("{entry:13}{}", counts.join(", "));
         }
-        println!("fault 20 is unreachable: {}", self.count("fault", 20));
     }
 
     /// The numbers that an entry can give and never gave.

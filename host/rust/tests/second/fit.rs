@@ -55,7 +55,7 @@ impl Transfer {
     fn fault_fits(&self) -> bool {
         match self.fault {
             0 => self.on == 0,
-            11..=20 => self.on < CHANNELS as u64,
+            11..=19 => self.on < CHANNELS as u64,
             _ => false,
         }
     }

@@ -1,5 +1,5 @@
-//! A second reading of document 01 in plain Rust, written apart from the proved library. An `Err` is a number of its
-//! table "Numbers the host sees".
+//! A second reading, in plain Rust, of document 01 with the items of document 02 that are built so far. It is written
+//! apart from the proved library. An `Err` is a number of the table "Numbers the host sees", as those items leave it.
 
 pub mod block;
 pub mod control;

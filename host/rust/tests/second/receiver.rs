@@ -141,7 +141,7 @@ impl Transfer {
                 UNUSED if self.count != 0 && self.used() == self.count => return Err(19),
                 UNUSED => self.channels[at].state = HEADER,
                 HEADER => self.take_header(at, rest, ledger)?,
-                PAYLOAD | LAST_PAYLOAD => self.take_payload(at, rest, file)?,
+                PAYLOAD | LAST_PAYLOAD => self.take_payload(at, rest, file),
                 _ => break,
             }
         }
@@ -174,7 +174,7 @@ impl Transfer {
             return self.open_payload(at, header, ledger);
         }
         if header.is_last() {
-            self.end(at)?;
+            self.end(at);
         }
         Ok(())
     }
@@ -211,7 +211,7 @@ impl Transfer {
         Ok(())
     }
 
-    fn take_payload(&mut self, at: usize, rest: &mut &[u8], file: &mut [u8]) -> Answer<()> {
+    fn take_payload(&mut self, at: usize, rest: &mut &[u8], file: &mut [u8]) {
         let Channel {
             state, next, left, ..
         } = self.channels[at];
@@ -232,20 +232,14 @@ impl Transfer {
                 ..Channel::default()
             };
         } else {
-            self.end(at)?;
+            self.end(at);
         }
-        Ok(())
     }
 
-    /// Fault 20, as the paper lists it. No calls are known that reach it.
-    fn end(&mut self, at: usize) -> Answer<()> {
-        if self.count != 0 && self.ended() == self.count {
-            return Err(20);
-        }
+    fn end(&mut self, at: usize) {
         self.channels[at] = Channel {
             state: ENDED,
             ..Channel::default()
         };
-        Ok(())
     }
 }

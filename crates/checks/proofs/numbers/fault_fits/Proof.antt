@@ -21,7 +21,7 @@ returns-3 c =
     let g = c .before in
     let f = g .before in
     let n = f .before .args .fault in
-    λ t e o. rw (e, ne-eqb n 0 (f .if1 .left), le-leb 11 n (g .if2 .left), lt-leb n 20 (c .if3 .taken))
+    λ t e o. rw (e, ne-eqb n 0 (f .if1 .left), le-leb 11 n (g .if2 .left), lt-leb n 19 (c .if3 .taken))
 
 returns-4 : tie.Need-returns-4
 unfolding faultFits
@@ -29,7 +29,7 @@ returns-4 c =
     let g = c .before in
     let f = g .before in
     let n = f .before .args .fault in
-    λ t e o. rw (e, o, ne-eqb n 0 (f .if1 .left), le-leb 11 n (g .if2 .left), le-leb n 20 (c .if3 .left))
+    λ t e o. rw (e, o, ne-eqb n 0 (f .if1 .left), le-leb 11 n (g .if2 .left), le-leb n 19 (c .if3 .left))
 
 pub fault-fits-spec : {M : Type 1} → statement M
 fault-fits-spec = tie.close (tie.spec returns returns-2 returns-3 returns-4)

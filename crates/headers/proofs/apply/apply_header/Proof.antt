@@ -1,7 +1,6 @@
 -- `apply::apply_header`.
 use Prim.Native.Nat.{_+_}
 use mathlib.Core.Path.{_≡_, sym, ap, _∙_}
-use native.Mathlib.Omega.{arith}
 use borrow.Author.Needs.{needs}
 use lib.ListN.{length}
 use Rattle.transfer.specs.declared.state.Transfer.{Transfer}
@@ -83,7 +82,7 @@ returns c i o t file a n =
     let q = r .before .before in
     let x = begun q .args in
     let k = r .k .given .0 .0 in
-    leaves-fault (writeBack t (x .c) (x .x)) (writeBack t (x .c) (c .cleared-with-fault .result)) (x .c) file (x .ledger .now) k (ap (writeBack t (x .c)) (c .cleared-with-fault .ensures) ∙ write-back-fault t (x .c) (x .o) a (x .x) (sixteen (begun q)) k)
+    leaves-fault (writeBack t (x .c) (x .x)) (writeBack t (x .c) (c .cleared-with-fault .result)) (x .c) file (x .ledger .now) k (ap (writeBack t (x .c)) (c .cleared-with-fault .ensures) ∙ write-back-fault t (x .c) (a .has) (x .x) (sixteen (begun q)) k)
     ∙ apply-fault (writeBack t (x .c) (x .x)) file (x .ledger .now) (x .c) (x .head .now) k (asks-for q (Faulty k) (r .k .given .1) t a i)
 
 returns-2 : tie.Need-returns-2
@@ -94,14 +93,14 @@ returns-2 c i o t file a n =
     let x = begun q .args in
     let m = r .n .given .0 .0 in
     apply-count (writeBack t (x .c) (x .x)) file (x .ledger .now) (x .c) (x .head .now) _ _ (q .before .before .has .ensures) m (asks-for q (Counts m) (r .n .given .1) t a i)
-    (c .expect-payload .ensures (omega (arith, i)) t file (x .ledger .now) a)
+    (c .expect-payload .ensures t (x .c) file (x .ledger .now) (a .has))
 
 returns-3 : tie.Need-returns-3
 returns-3 c i o t file a n =
     let q = c .before .before .before in
     let x = begun q .args in
     apply-nothing (writeBack t (x .c) (x .x)) file (x .ledger .now) (x .c) (x .head .now) _ _ (q .before .before .has .ensures) (asks-for q Nothing (c .before .enum-told .given .1) t a i)
-    (c .expect-payload2 .ensures (omega (arith, i)) t file (x .ledger .now) a)
+    (c .expect-payload2 .ensures t (x .c) file (x .ledger .now) (a .has))
 
 same-length : tie.Need-same-length
 same-length c = search needs
@@ -115,7 +114,7 @@ returns-4 c i o t file a n =
     let s = r .start .given .0 .0 in
     let e = r .start .given .0 .1 .0 in
     apply-claim (writeBack t (x .c) (x .x)) file (x .ledger .now) (x .c) (x .head .now) _ _ (q .before .before .has .ensures) s e (asks-for q (Claims s e) (r .start .given .1) t a i)
-    (k .claim-or-fault .ensures (omega (arith, i)) o t file a n)
+    (k .claim-or-fault .ensures o t file (a .has) n)
 
 pub apply-header-spec : {M : Type 1} → statement M
 apply-header-spec =

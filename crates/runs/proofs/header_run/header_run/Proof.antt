@@ -45,9 +45,9 @@ returns-2 c =
       s .pre,
       omega arith,
       λ t file a k e n.
-          let h = ap (λ y. y .held) (write-back-at t (x .c) (x .o) a (x .x)) in
-          held-run-of (writeBack t (x .c) (x .x)) (x .ledger .now) (x .c) (x .piece .now) (a .below) e (write-back-takes t (x .c) (x .o) a (x .x) k) (s .pre) (omega (arith, h, l))
-          (writeBack t (x .c) (c .hold-bytes .result)) (ap (writeBack t (x .c)) (c .hold-bytes .ensures l) ∙ write-back-held-bytes t (x .c) (x .o) a (x .x) (sixteen s) (x .piece .now) l) file (n ∙ sym (write-back-len t (x .c) (x .o) a (x .x))),
+          let h = ap (λ y. y .held) (write-back-at t (x .c) (a .has) (x .x)) in
+          held-run-of (writeBack t (x .c) (x .x)) (x .ledger .now) (x .c) (x .piece .now) (a .has .below) e (write-back-takes t (x .c) (x .o) a (x .x) k) (s .pre) (omega (arith, h, l))
+          (writeBack t (x .c) (c .hold-bytes .result)) (ap (writeBack t (x .c)) (c .hold-bytes .ensures l) ∙ write-back-held-bytes t (x .c) (a .has) (x .x) (sixteen s) (x .piece .now) l) file (n ∙ sym (write-back-len t (x .c) (x .x))),
     )
 
 pub header-run-spec : {M : Type 1} → statement M

@@ -1,5 +1,5 @@
 -- `header_run::judge_run`: the last byte of a header, as the law of a header's bytes says.
-use Prim.Native.Nat.{_+_, _*_, _-_, _≤_}
+use Prim.Native.Nat.{_+_, _*_}
 use mathlib.Core.Path.{_≡_, refl, sym, ap, _∙_}
 use mathlib.Core.Bool.{true}
 use mathlib.Core.List.{[], _∷_, _++_}
@@ -52,7 +52,7 @@ filled : (h : tie.After-hold-bytes) (t : Transfer) → let x = h .before .before
 filled h t a e =
     let s = h .before .before .before .before in
     let x = s .args in
-    let f = held-at-most t (x .ledger .now) (x .c) (x .o) a (x .x) e in
+    let f = held-at-most t (x .ledger .now) (x .c) (a .has) (x .x) e in
     let l : x .x .held + length (take (x .more) (x .piece .now)) ≡ 16 = omega (arith, f, s .pre .0, s .pre .1, length-take (x .more) (x .piece .now)) in
     (l, h .hold-bytes .ensures (omega (arith, l)))
 
@@ -65,16 +65,16 @@ returns c = (
       let h = w .before .before in
       let s = h .before .before .before .before in
       let x = s .args in
-      let b = ap (λ z. z .held) (write-back-at t (x .c) (x .o) a (x .x)) in
+      let b = ap (λ z. z .held) (write-back-at t (x .c) (a .has) (x .x)) in
       let g = filled h t a e in
       let l = length-take (x .more) (x .piece .now) in
       let f = ledger-fits (writeBack t (x .c) (x .x)) (x .ledger .now) e in
-      judged-run-of (writeBack t (x .c) (x .x)) (x .ledger .now) _ (x .c) (x .piece .now) (x .more) (a .below) e (write-back-takes t (x .c) (x .o) a (x .x) k) (omega (arith, b, g .0, l, s .pre .0)) (s .pre .0)
-      (writeBack t (x .c) (h .hold-bytes .result)) (ap (writeBack t (x .c)) (g .1) ∙ write-back-held-bytes t (x .c) (x .o) a (x .x) (sixteen s) (take (x .more) (x .piece .now)) (omega (arith, g .0)))
-      (w .whole-header .result) (w .whole-header .ensures ∙ ap (λ z. z ++ getD (x .piece .now) (x .more) 0 ∷ []) (sym (write-back-bytes t (x .c) (x .o) a (h .hold-bytes .result) (held-sixteen h))))
+      judged-run-of (writeBack t (x .c) (x .x)) (x .ledger .now) _ (x .c) (x .piece .now) (x .more) (a .has .below) e (write-back-takes t (x .c) (x .o) a (x .x) k) (omega (arith, b, g .0, l, s .pre .0)) (s .pre .0)
+      (writeBack t (x .c) (h .hold-bytes .result)) (ap (writeBack t (x .c)) (g .1) ∙ write-back-held-bytes t (x .c) (a .has) (x .x) (sixteen s) (take (x .more) (x .piece .now)) (omega (arith, g .0)))
+      (w .whole-header .result) (w .whole-header .ensures ∙ ap (λ z. z ++ getD (x .piece .now) (x .more) 0 ∷ []) (sym (write-back-bytes t (x .c) (a .has) (h .hold-bytes .result) (held-sixteen h))))
       (writeBack t (x .c) (y .apply-header .result .channel)) (y .apply-header .result .continues)
-      (λ v. y .apply-header .ensures (ap (λ z. z .state) (g .1) ∙ with-held-bytes-state (x .x) (take (x .more) (x .piece .now))) (f .0) t v a (f .1 ∙ ap (λ z. 2 * z) (write-back-pairs t (x .c) (x .o) a (x .x)))) file
-      (n ∙ sym (write-back-len t (x .c) (x .o) a (x .x))),
+      (λ v. y .apply-header .ensures (ap (λ z. z .state) (g .1) ∙ with-held-bytes-state (x .x) (take (x .more) (x .piece .now))) (f .0) t v a (f .1 ∙ ap (λ z. 2 * z) (write-back-pairs t (x .c) (x .x)))) file
+      (n ∙ sym (write-back-len t (x .c) (x .x))),
 )
 
 pub judge-run-spec : {M : Type 1} → statement M

@@ -1,14 +1,11 @@
 -- `run::run`: one of four runs, by the channel's state.
-use Prim.Native.Nat.{_≤_, _<_}
-use mathlib.Core.Path.{_≡_, sym, ap, _∙_}
-use mathlib.Core.Bool.{true, false, true≢false, _&&_, and-eq-true-iff}
+use mathlib.Core.Path.{sym, ap, _∙_}
+use mathlib.Core.Bool.{true, false, true≢false, and-eq-true-iff}
 use native.Mathlib.Omega.{arith}
 use borrow.Author.Needs.{needs}
 use borrow.Author.Tests.{eqb-true}
 use lib.Dec.{eqb}
 use Rattle.transfer.specs.Channel.{putFault}
-use Rattle.transfer.specs.Transfer.{world}
-use Rattle.transfer.proofs.FitTests.{fits-together}
 use Rattle.verdicts.specs.Verdict.{countReached}
 use Rattle.channels.specs.ChannelState.{writeBack, channelOf}
 use Rattle.channels.proofs.WriteBack.{write-back-at, write-back-len, write-back-count-reached}
@@ -31,7 +28,7 @@ returns c = (
       let x = s .args in
       let b = and-eq-true-iff (eqb (x .x .state) 0) (countReached (x .x .count) (x .o .used)) .0 (sym (g .gives-19 .ensures) ∙ c .if1 .taken) in
       let z = eqb-true (x .x .state) 0 (b .0) in
-      count-reached-run-of (writeBack t (x .c) (x .x)) (x .file .now) (x .ledger .now) (x .c) (x .piece .now) (s .pre) (ap (λ k. k .state) (write-back-at t (x .c) (x .o) a (x .x)) ∙ z)
+      count-reached-run-of (writeBack t (x .c) (x .x)) (x .file .now) (x .ledger .now) (x .c) (x .piece .now) (s .pre) (ap (λ k. k .state) (write-back-at t (x .c) (a .has) (x .x)) ∙ z)
       (write-back-count-reached t (x .c) (x .o) a (x .x) z ∙ b .1),
 )
 
@@ -53,7 +50,7 @@ returns-2 c =
       λ q. r .0,
       λ t a e.
           let f = fits-parts (writeBack t (x .c) (x .x)) (x .file .now) (x .ledger .now) e in
-          r .2 t (x .file .now) a (takes-header (x .x .state) (x .x .count) (x .o .used) (sym (g .gives-19 .ensures) ∙ i .before .before .if1 .left) (i .if2 .taken)) (f .1) (f .0 ∙ write-back-len t (x .c) (x .o) a (x .x)),
+          r .2 t (x .file .now) a (takes-header (x .x .state) (x .x .count) (x .o .used) (sym (g .gives-19 .ensures) ∙ i .before .before .if1 .left) (i .if2 .taken)) (f .1) (f .0 ∙ write-back-len t (x .c) (x .x)),
     )
 
 payload-run-requires : tie.Need-payload-run-requires
@@ -70,7 +67,7 @@ returns-3 c =
     let n = p .payload-run .ensures .0 in (
       omega (arith, n),
       λ q. omega (arith, n, i .if3 .taken, s .pre),
-      λ t a e. p .payload-run .ensures .1 t (s .args .ledger .now) a e,
+      λ t a e. p .payload-run .ensures .1 t (s .args .c) (s .args .ledger .now) (a .has) e,
     )
 
 returns-4 : tie.Need-returns-4
@@ -81,8 +78,8 @@ returns-4 c = (
       let i = c .before .before in
       let s = i .before .before .before .before .before .before .before in
       let x = s .args in
-      let k = write-back-at t (x .c) (x .o) a (x .x) in
-      let h = ended-above (channelOf (x .x)) (stage-of-channel t (x .c) (x .o) a (x .x) (x .file .now) (x .ledger .now) e) (omega (arith, i .if2 .left)) (c .if3 .left) in
+      let k = write-back-at t (x .c) (a .has) (x .x) in
+      let h = ended-above (channelOf (x .x)) (stage-of-channel t (x .c) (a .has) (x .x) (x .file .now) (x .ledger .now) e) (omega (arith, i .if2 .left)) (c .if3 .left) in
       ended-run-of (writeBack t (x .c) (x .x)) (x .file .now) (x .ledger .now) (x .c) (x .piece .now) (s .pre) (omega (arith, h, ap (λ y. y .state) k)),
 )
 

@@ -100,7 +100,7 @@ returns c t a f =
     let e = c .before .before .before .before .before .before .before .before in
     let l = e .before .before .before .before .before in
     let x = l .before .before .before .before .args in
-    sym (l .loop .inv .3 t a f .1 ∙ stopped (x .c) (a .below) _ _ (x .piece .now) (l .loop .i) (e .run .result .taken) (e .run .result .continues) (run-of e t (a, f)) (not-true (e .run .result .continues) (c .if1 .taken)))
+    sym (l .loop .inv .3 t a f .1 ∙ stopped (x .c) (a .has .below) _ _ (x .piece .now) (l .loop .i) (e .run .result .taken) (e .run .result .continues) (run-of e t (a, f)) (not-true (e .run .result .continues) (c .if1 .taken)))
 
 loop-less : tie.Need-loop-less Inv-loop μ-loop
 loop-less c =
@@ -119,8 +119,8 @@ loop-again c =
       e .run .kept .1 .1 .1 .1 .1 .0 ∙ v .2,
       λ t a f.
           let r = run-of e t (a, f) in (
-            still-fits (x .c) (a .below) _ _ (x .piece .now) (l .loop .i) (e .run .result .taken) (e .run .result .continues) r o (v .3 t a f .0),
-            v .3 t a f .1 ∙ further (x .c) (a .below) _ _ (x .piece .now) (l .loop .i) (e .run .result .taken) (e .run .result .continues) r o,
+            still-fits (x .c) (a .has .below) _ _ (x .piece .now) (l .loop .i) (e .run .result .taken) (e .run .result .continues) r o (v .3 t a f .0),
+            v .3 t a f .1 ∙ further (x .c) (a .has .below) _ _ (x .piece .now) (l .loop .i) (e .run .result .taken) (e .run .result .continues) r o,
           ),
     )
 
