@@ -27,7 +27,7 @@ fn payload_number(last: bool) -> u8
     2
 }
 
-// left payload bytes from the place next on are to come, after which the channel ends or not; where it ends, the call stops.
+// left payload bytes from the place next on are to come, after which the channel ends or not; a channel's end stops the call.
 pub fn expect_payload(x: ChannelState, next: u64, left: u64, last: bool) -> NextState
     ensures { λ r. ⌜ ((t : Transfer) (c : ℕ) (file ledger : List ℕ) → HasChannel t c → continuesOrStops (r .continues) (world (writeBack t c (r .channel)) file ledger) ≡ expectPayload (world (writeBack t c x) file ledger) c next left last) ⌝ }
 {

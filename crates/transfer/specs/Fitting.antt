@@ -1,4 +1,4 @@
--- FIT as propositions, a field for each phrase of it (document 01, "One transfer"), and that every byte keeps it.
+-- FIT as propositions, a field for each phrase of it (document 01, "One transfer"); that every byte keeps it, and ends a channel only below the count.
 use Prim.Native.Nat.{ℕ, _+_, _*_, _≤_, _<_}
 use mathlib.Core.Path.{_≡_}
 use mathlib.Core.Logic.{_↔_, _⊎_, _≢_}
@@ -73,8 +73,8 @@ pub record Fitting : Type 0 where
   -- every byte on every channel keeps it, in any world that fits, and so does every call
   pub byte-keeps : (w : World) (c b : ℕ) → Fit w → c < 64 → Fit (afterByte (takeByte w c b))
   pub call-keeps : (w : World) (k : Call) → Fit w → Fit (callOf w k .1)
-  -- no call on a fitting transfer reaches a channel's end with n channels ended already (document 02, Item 8): no byte does, in any world that fits,
-  -- and so none of a call, whose bytes before it are bs
+  -- no call on a fitting transfer reaches a channel's end with n channels ended already (document 02, Item 8): no byte does in any world that fits,
+  -- and so no byte of a call does, bs being those before it
   pub byte-ends : (w : World) (c b : ℕ) → Fit w → c < 64 → EndsBelowCount w (afterByte (takeByte w c b)) c
   pub call-ends : (w : World) (c b : ℕ) (bs : List ℕ) → Fit w → c < 64
       → let v = takeBytes (λ u x. takeByte u c x) w bs 0 .1 in EndsBelowCount v (afterByte (takeByte v c b)) c

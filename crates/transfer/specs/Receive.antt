@@ -28,7 +28,7 @@ afterByte (notTaken w) = w
 unfoldable pub stopWithFault : World → ℕ → ℕ → Outcome World
 stopWithFault w c k = stops (withTransfer w (putFault (putState (w .t) c (header [])) k c))
 
--- n payload bytes from the place p are to come, after which the channel ends or not; where it ends, the call stops
+-- n payload bytes from the place p are to come, after which the channel ends or not; a channel's end stops the call
 unfoldable pub expectPayload : World → ℕ → ℕ → ℕ → Bool → Outcome World
 expectPayload w c p zero true = stops (withTransfer w (putState (w .t) c ended))
 expectPayload w c p zero false = continues (withTransfer w (putState (w .t) c (header [])))

@@ -88,7 +88,7 @@ tallyWithFault t k c = record { streams = t .streams; fault = k; on = c }
 
 -- ---- a byte
 
--- channel c has taken the bytes bs without a fault; where it ends, the call stops
+-- channel c has taken the bytes bs without a fault; a channel's end stops the call
 unfoldable pub keepBytes : Tally → ℕ → List ℕ → Outcome Tally
 keepBytes t c bs =
     let next = withStream t c (intact bs) in
