@@ -19,23 +19,16 @@ use Rattle.transfer.proofs.Sums.{sum-set}
 use Rattle.transfer.proofs.Rows.{not-ended}
 use Rattle.transfer.proofs.FitChannelKinds.{state-known}
 use Rattle.transfer.proofs.FitByChannel.{Together}
-use Rattle.transfer.proofs.FitUsed.{used-within}
+use Rattle.transfer.proofs.FitUsed.{by-state, used-within}
 use Rattle.transfer.proofs.FitKept.{byte-keeps}
 
 -- ---- one channel
 
 one-ended : (t : Transfer) (c : ℕ) → channelAt t c .state ≤ 4 → oneIf (isEnded (stateAt t c)) ≡ oneIfEnded (channelAt t c)
 unfolding stateAt decodeState
-one-ended t c = go (channelAt t c .state)
-  where
-    go : (n : ℕ) → n ≤ 4
-        → oneIf (isEnded (decodeState n (take (channelAt t c .held) (drop (heldLimit * c) (t .heads))) (channelAt t c .next) (channelAt t c .left))) ≡ cond (eqb n 4) 1 0
-    go zero g = refl
-    go (suc zero) g = refl
-    go (suc (suc zero)) g = refl
-    go (suc (suc (suc zero))) g = refl
-    go (suc (suc (suc (suc zero)))) g = refl
-    go (suc (suc (suc (suc (suc n))))) g = absurd (omega arith)
+one-ended t c h =
+    let held : List ℕ = take (channelAt t c .held) (drop (heldLimit * c) (t .heads)) in
+    by-state (λ n. oneIf (isEnded (decodeState n held (channelAt t c .next) (channelAt t c .left))) ≡ cond (eqb n 4) 1 0) refl refl refl refl refl (channelAt t c .state) h
 
 -- ---- the number of ended channels, from w on
 

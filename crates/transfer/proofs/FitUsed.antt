@@ -16,16 +16,17 @@ use Rattle.transfer.specs.Fitting.{CountSays}
 abbrev pub oneIfUsed : Channel → ℕ
 oneIfUsed k = cond (eqb (k .state) 0) 0 1
 
+-- what holds of each number that a state has in the struct holds of all of them
+pub by-state : (P : ℕ → Type 0) → P 0 → P 1 → P 2 → P 3 → P 4 → (n : ℕ) → n ≤ 4 → P n
+by-state P a b c d e zero h = a
+by-state P a b c d e (suc zero) h = b
+by-state P a b c d e (suc (suc zero)) h = c
+by-state P a b c d e (suc (suc (suc zero))) h = d
+by-state P a b c d e (suc (suc (suc (suc zero)))) h = e
+by-state P a b c d e (suc (suc (suc (suc (suc n))))) h = absurd (omega arith)
+
 pub used-one : (k : Channel) → k .state ≤ 4 → oneIfEnded k + oneIfActive k ≡ oneIfUsed k
-used-one k h = go (k .state) h
-  where
-    go : (n : ℕ) → n ≤ 4 → cond (eqb n 4) 1 0 + cond (ltb 0 n && ltb n 4) 1 0 ≡ cond (eqb n 0) 0 1
-    go zero g = refl
-    go (suc zero) g = refl
-    go (suc (suc zero)) g = refl
-    go (suc (suc (suc zero))) g = refl
-    go (suc (suc (suc (suc zero)))) g = refl
-    go (suc (suc (suc (suc (suc n))))) g = absurd (omega arith)
+used-one k h = by-state (λ n. cond (eqb n 4) 1 0 + cond (ltb 0 n && ltb n 4) 1 0 ≡ cond (eqb n 0) 0 1) refl refl refl refl refl (k .state) h
 
 pub used-sum : (ks : List Channel) → ((c : ℕ) → c < length ks → getD ks c blank .state ≤ 4) → sum oneIfEnded ks + sum oneIfActive ks ≡ sum oneIfUsed ks
 unfolding sum
