@@ -1,7 +1,7 @@
 -- `Fitting` holds.
 use Prim.Native.Nat.{ℕ, suc, _<_}
 use mathlib.Core.Path.{_≡_, refl}
-use mathlib.Core.Logic.{_↔_}
+use mathlib.Core.Logic.{_↔_, _≢_}
 use mathlib.Core.Bool.{Bool, true, false, cond}
 use mathlib.Core.List.{List, [], _∷_}
 use native.Mathlib.Omega.{arith}
@@ -14,7 +14,7 @@ use Rattle.transfer.specs.Transfer.{usedOf, endedOf, sum, World, world}
 use Rattle.transfer.specs.Receive.{Outcome, continues, stops, notTaken, afterByte, refused, takeBytes, takeByte, refusalOf, receiveOf}
 use Rattle.transfer.specs.Calls.{Call, receive, callOf}
 use Rattle.transfer.specs.Fit.{fitsWithoutFile}
-use Rattle.transfer.specs.Fitting.{Fit, Fitting}
+use Rattle.transfer.specs.Fitting.{Fit, EndsBelowCount, Fitting}
 use Rattle.transfer.proofs.ReceivePieces.{bytes-none, bytes-goes, bytes-stops, bytes-leaves}
 use Rattle.transfer.proofs.Rows.{rows}
 use Rattle.transfer.proofs.FitByChannel.{Together, together-fit, fit-together}
@@ -49,6 +49,13 @@ call-keeps w (receive c piece) f = go (leb channelCount c) refl
         taken true = f
         taken false = piece-keeps c (leb-false channelCount c e) piece w 0 f
 
+call-ends : (w : World) (c b : ℕ) (bs : List ℕ) → Fit w → c < channelCount
+    → let v = takeBytes (λ u x. takeByte u c x) w bs 0 .1 in EndsBelowCount v (afterByte (takeByte v c b)) c
+call-ends w c b bs f h = byte-ends (takeBytes (λ u x. takeByte u c x) w bs 0 .1) c b (piece-keeps c h bs w 0 (fit-together w f)) h
+
+lt-ne : (a b : ℕ) → a < b → a ≢ b
+lt-ne a b h e = omega (arith, h, e)
+
 -- a file of as many zeros will do
 fits-without-file : (t : Transfer) (claimed : List ℕ) → (fitsWithoutFile t claimed ≡ true) ↔ ((file : List ℕ) → length file ≡ t .len → Fit (world t file claimed))
 fits-without-file t claimed =
@@ -67,5 +74,6 @@ fitting =
       byte-keeps = λ w c b f h. together-fit (afterByte (takeByte w c b)) (byte-keeps c h w b (fit-together w f));
       call-keeps = λ w k f. together-fit (callOf w k .1) (call-keeps w k (fit-together w f));
       byte-ends = λ w c b f h. byte-ends w c b (fit-together w f) h;
-      call-ends = λ w c b bs f h. byte-ends (takeBytes (λ u x. takeByte u c x) w bs 0 .1) c b (piece-keeps c h bs w 0 (fit-together w f)) h;
+      call-ends = call-ends;
+      never-too-many = λ w c b bs f h a e n. lt-ne _ _ (call-ends w c b bs f h a e n);
     }

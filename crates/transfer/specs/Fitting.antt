@@ -73,8 +73,12 @@ pub record Fitting : Type 0 where
   -- every byte on every channel keeps it, in any world that fits, and so does every call
   pub byte-keeps : (w : World) (c b : ℕ) → Fit w → c < 64 → Fit (afterByte (takeByte w c b))
   pub call-keeps : (w : World) (k : Call) → Fit w → Fit (callOf w k .1)
-  -- no call on a fitting transfer reaches a channel's end with n channels ended already (document 02, Item 8): no byte does in any world that fits,
-  -- and so no byte of a call does, bs being those before it
+  -- a byte that ends its channel finds fewer than n ended, in any world that fits, and so does every byte of a call, bs being those before it
   pub byte-ends : (w : World) (c b : ℕ) → Fit w → c < 64 → EndsBelowCount w (afterByte (takeByte w c b)) c
   pub call-ends : (w : World) (c b : ℕ) (bs : List ℕ) → Fit w → c < 64
       → let v = takeBytes (λ u x. takeByte u c x) w bs 0 .1 in EndsBelowCount v (afterByte (takeByte v c b)) c
+  -- no call on a fitting transfer reaches a channel's end with n channels ended already (document 02, Item 8)
+  pub never-too-many : (w : World) (c b : ℕ) (bs : List ℕ) → Fit w → c < 64
+      → let v = takeBytes (λ u x. takeByte u c x) w bs 0 .1 in
+      let n = afterByte (takeByte v c b) .t .count in
+      stateAt (v .t) c ≢ ended → stateAt (afterByte (takeByte v c b) .t) c ≡ ended → 0 < n → endedOf (v .t) ≢ n
