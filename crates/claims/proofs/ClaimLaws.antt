@@ -11,39 +11,13 @@ use Rattle.ledger.specs.Ledger.{obeys, pairsOf, capacity}
 use Rattle.claims.specs.Claim.{slotOf}
 use Rattle.claims.specs.ClaimLaws.{ClaimLaws}
 use Rattle.ledger.proofs.LedgerRule.{start-is, end-is}
-use Rattle.ledger.proofs.PairsJoinSlot.{startAt, endAt, countStartingBy-le, countStartingBy-on, countStartingBy-stops, below-on, below-stops}
+use Rattle.ledger.proofs.PairsJoinSlot.{startAt, endAt, countStartingBy-le, countStartingBy-on, countStartingBy-stops}
+use Rattle.ledger.proofs.PairsAtPlace.{below-ends, below-from}
 use Rattle.claims.proofs.JoinRoom.{even, ruled}
 use Rattle.claims.proofs.Judged.{numbers, slot-inside}
+use Rattle.claims.proofs.JudgedByPlace.{judged-is}
 
--- ---- the two counts, pair by pair
-
-below-ends : (s i : ℕ) (ps : Pairs) → i < countEndingBelow s ps → endAt i ps < s
-unfolding endAt
-below-ends s i none h = absurd (unfold countEndingBelow in omega arith)
-below-ends s i (pair a b ps) h = go i (decLt b s) (λ j. below-ends s j ps) h
-  where
-    go : (i : ℕ) → Dec (b < s) → ((j : ℕ) → j < countEndingBelow s ps → endAt j ps < s) → i < countEndingBelow s (pair a b ps) → endAt i (pair a b ps) < s
-    go i (no q) f k = absurd (omega (arith, below-stops s a b ps (omega arith)))
-    go zero (yes q) f k = q
-    go (suc i) (yes q) f k = f i (omega (arith, below-on s a b ps q))
-
--- the ends ascend
-ends-from : (s lo i : ℕ) (ps : Pairs) → ObeyFrom lo ps → s ≤ lo → i < size ps → s ≤ endAt i ps
-unfolding endAt size
-ends-from s lo i none c h k = absurd (omega arith)
-ends-from s lo zero (pair a b ps) c h k = omega (arith, c .0, c .1)
-ends-from s lo (suc i) (pair a b ps) c h k = ends-from s (suc b) i ps (c .2) (omega (arith, c .0, c .1)) (omega arith)
-
-below-from : (s lo i : ℕ) (ps : Pairs) → ObeyFrom lo ps → countEndingBelow s ps ≤ i → i < size ps → s ≤ endAt i ps
-unfolding endAt size
-below-from s lo i none c h k = absurd (omega arith)
-below-from s lo i (pair a b ps) c h k = go i (decLt b s) (λ j. below-from s (suc b) j ps (c .2)) h k
-  where
-    go : (i : ℕ) → Dec (b < s) → ((j : ℕ) → countEndingBelow s ps ≤ j → j < size ps → s ≤ endAt j ps) → countEndingBelow s (pair a b ps) ≤ i → i < suc (size ps) → s ≤ endAt i (pair a b ps)
-    go zero (yes q) f h k = absurd (omega (arith, below-on s a b ps q))
-    go (suc i) (yes q) f h k = f i (omega (arith, below-on s a b ps q)) (omega arith)
-    go zero (no q) f h k = omega arith
-    go (suc i) (no q) f h k = ends-from s (suc b) i ps (c .2) (omega arith) (omega arith)
+-- ---- the pairs that start by an end, pair by pair
 
 countStartingBy-starts : (e i : ℕ) (ps : Pairs) → i < countStartingBy e ps → startAt i ps ≤ e
 unfolding startAt
@@ -101,6 +75,7 @@ claim-laws =
       in-slot = in-slot;
       after-slot = after-slot;
       slot-inside = slot-inside;
+      neighbours = λ s e l o h. judged-is l o s e h;
       joined = λ s e l m o h j. j .by-rule o h refl;
       not-joined = λ s e l m j. j .unchanged refl;
     }

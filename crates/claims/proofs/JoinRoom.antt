@@ -7,7 +7,7 @@ use native.Mathlib.Omega.{arith}
 use native.Mathlib.Decide.{decLt}
 use borrow.Author.Tests.{lt-ltb, le-ltb}
 use lib.Dec.{ltb}
-use lib.ListN.{length, getD, drop}
+use lib.ListN.{length, getD}
 use Rattle.ledger.specs.Pairs.{pair, size, ObeyFrom, join, countEndingBelow, countStartingBy}
 use Rattle.ledger.specs.Ledger.{obeys, pairsOf, laidOut, capacity}
 use Rattle.claims.specs.Claim.{slotOf}
@@ -15,8 +15,8 @@ use Rattle.claims.specs.declared.claim.Slot.{Slot}
 use Rattle.ledger.proofs.LedgerLayout.{rule-ruled, laidOut-pairsOf, size-pairsOf}
 use Rattle.ledger.proofs.LedgerOdd.{obeys-even}
 use Rattle.ledger.proofs.LedgerRule.{end-is}
-use Rattle.ledger.proofs.PairsJoinSlot.{rest, endAt, begun, ended, join-is, countStartingBy-le, below-le, countStartingBy-rest, endAt-used, endAt-unused}
-use Rattle.ledger.proofs.PairsAsNumbers.{size-rest, size-splice, pairsOf-drop}
+use Rattle.ledger.proofs.PairsJoinSlot.{rest, endAt, begun, ended, join-is, countStartingBy-le, below-le, endAt-used, endAt-unused}
+use Rattle.ledger.proofs.PairsAsNumbers.{size-rest, size-splice}
 
 -- ---- a slot
 
@@ -28,10 +28,6 @@ module _ (s e : ℕ) (l : List ℕ) (slot : Slot) (q : slot ≡ slotOf s e (pair
   pub past-is : slot .past ≡ countStartingBy e (pairsOf l)
   unfolding slotOf
   past-is = ap (λ (z : Slot). z .past) q
-
--- the pairs up to an end may be counted from any pair that is among them
-pub countStartingBy-from : (e k : ℕ) (l : List ℕ) → k ≤ countStartingBy e (pairsOf l) → k + countStartingBy e (pairsOf (drop (2 * k) l)) ≡ countStartingBy e (pairsOf l)
-countStartingBy-from e k l h = rw (pairsOf-drop k l (omega (arith, countStartingBy-le e (pairsOf l)))) (countStartingBy-rest e k (pairsOf l) h)
 
 -- ---- a ledger by the rule
 
@@ -75,12 +71,9 @@ module _ (l : List ℕ) (o : obeys l ≡ true) where
       room-none z = lt-ltb (capacity l) (size (join s e (pairsOf l))) (omega (arith, size-joined))
 
       -- the last pair is used only where all are
-      pub room-last : (capacity l ≡ 0 → ⊥) → ltb 0 (getD l (2 * capacity l - 1) 0) ≡ ltb (capacity l) (size (join s e (pairsOf l)))
-      room-last z = rw last (go (decLt (size (pairsOf l)) (capacity l)))
+      pub room-last : (capacity l ≡ 0 → ⊥) → ltb 0 (getD l (2 * (capacity l - 1) + 1) 0) ≡ ltb (capacity l) (size (join s e (pairsOf l)))
+      room-last z = rw (end-is (capacity l) l even o (capacity l - 1)) (go (decLt (size (pairsOf l)) (capacity l)))
         where
-          last : getD l (2 * capacity l - 1) 0 ≡ endAt (capacity l - 1) (pairsOf l)
-          last = let i : 2 * capacity l - 1 ≡ 2 * (capacity l - 1) + 1 = omega arith in rw i (end-is (capacity l) l even o (capacity l - 1))
-
           go : Dec (size (pairsOf l) < capacity l) → ltb 0 (endAt (capacity l - 1) (pairsOf l)) ≡ ltb (capacity l) (size (join s e (pairsOf l)))
           go (yes y) =
               rw (endAt-unused (capacity l - 1) (pairsOf l) (omega arith))

@@ -1,8 +1,8 @@
 mod ShiftLoops
-mod Overlaps
 mod ShiftedPairs
 mod JoinRoom
-mod PairCounts
+mod Neighbours
 mod JoinInPlace
 mod Judged
+mod JudgedByPlace
 pub mod ClaimLaws

@@ -1,13 +1,14 @@
 -- What the judgement of a range and its slot mean, a field for each sentence.
-use Prim.Native.Nat.{ℕ, _+_, _*_, _≤_, _<_}
+use Prim.Native.Nat.{ℕ, _+_, _*_, _-_, _≤_, _<_}
 use mathlib.Core.Path.{_≡_}
 use mathlib.Core.Logic.{_↔_}
 use mathlib.Core.Bool.{true, false}
 use mathlib.Core.List.{List}
 use lib.ListN.{getD}
-use Rattle.ledger.specs.Pairs.{Pairs, size, join, overlaps}
+use Rattle.ledger.specs.Pairs.{Pairs, size, join, overlaps, countEndingBelow}
 use Rattle.ledger.specs.Ledger.{obeys, pairsOf, laidOut, capacity}
 use Rattle.claims.specs.Claim.{slotOf, judged, claimNumber, JoinResult}
+use Rattle.claims.specs.Neighbours.{pairAt, judgedBy}
 use Rattle.claims.specs.declared.claim.ClaimCheck.the-variants.{Free}
 
 pub record ClaimLaws : Type 0 where
@@ -28,6 +29,9 @@ pub record ClaimLaws : Type 0 where
   -- the slot lies inside the ledger
   pub slot-inside : (s e : ℕ) (l : List ℕ) → obeys l ≡ true → s < e
       → (slotOf s e (pairsOf l) .at ≤ slotOf s e (pairsOf l) .past) × (slotOf s e (pairsOf l) .past ≤ capacity l)
+  -- the pair at its place, the one after it and the ledger's last pair decide 17, 18 and which pairs it becomes one with
+  pub neighbours : (s e : ℕ) (l : List ℕ) → obeys l ≡ true → s < e
+      → judged (capacity l) s e (pairsOf l) ≡ judgedBy (capacity l) s e (countEndingBelow s (pairsOf l)) (pairAt l (countEndingBelow s (pairsOf l))) (pairAt l (countEndingBelow s (pairsOf l) + 1)) (pairAt l (capacity l - 1))
   -- a range joined to a ledger that obeys the rule leaves one ledger; one that was not joined leaves any ledger as it was
   pub joined : (s e : ℕ) (l m : List ℕ) → obeys l ≡ true → s < e → JoinResult s e l true m → m ≡ laidOut (capacity l) (join s e (pairsOf l))
   pub not-joined : (s e : ℕ) (l m : List ℕ) → JoinResult s e l false m → m ≡ l

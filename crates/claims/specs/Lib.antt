@@ -1,3 +1,4 @@
 pub mod Claim
+pub mod Neighbours
 pub mod ClaimLaws
 pub mod Shift

@@ -1,15 +1,16 @@
 // Claiming a range in a ledger, in place: first the judgement, which only reads, then the change, which cannot fail.
 use crate::shift;
+use ledger::place;
 use ledger::rule;
 use rangechecks::search;
 ghost use mathlib.Core.Path.{_≡_};
-ghost use mathlib.Core.Bool.{true, _&&_};
-ghost use lib.Dec.{ltb};
-ghost use Prim.Native.Nat.{ℕ, _+_, _*_, _-_, _≤_, _<_, min, max};
+ghost use mathlib.Core.Bool.{true};
+ghost use Prim.Native.Nat.{_+_, _*_, _-_, _≤_, _<_, min, max};
 ghost use lib.ListN.{getD, set};
-ghost use Rattle.ledger.specs.Pairs.{size, join, overlaps, countEndingBelow, countStartingBy};
+ghost use Rattle.ledger.specs.Pairs.{size, join, countEndingBelow, countStartingBy};
 ghost use Rattle.ledger.specs.Ledger.{obeys, pairsOf, laidOut, capacity};
 ghost use Rattle.claims.specs.Claim.{slotOf, JudgeResult, PutResult, JoinResult};
+ghost use Rattle.claims.specs.Neighbours.{pairAt, sharedBy, slotBy, lacksPair, judgedBy};
 ghost use Rattle.claims.specs.Shift.{inserted, closed};
 
 // Where a range goes: the pairs that it becomes one with are those from `at` up to `past`, counted in pairs.
@@ -25,80 +26,36 @@ pub enum ClaimCheck {
     Free(Slot),
 }
 
-// Whether the pair with the number i is used and ends below the place.
-fn ends_below(ledger: &[u64], i: usize, place: u64) -> bool
-    ensures { λ r. ⌜ r ≡ (ltb 0 (getD (now (ledger .entry)) (2 * i + 1) 0) && ltb (getD (now (ledger .entry)) (2 * i + 1) 0) place) ⌝ }
+// Whether the pair with the number i shares a byte with the range from start to end. A pair past the last shares none.
+fn shares(ledger: &[u64], i: usize, start: u64, end: u64) -> bool
+    ensures { λ r. ⌜ r ≡ sharedBy start end (pairAt (now (ledger .entry)) i) ⌝ }
 {
     if ledger.len() / 2 <= i {
         return false;
     }
-    let b = ledger[2 * i + 1];
-    if b == 0 {
+    if ledger[2 * i + 1] <= start {
         return false;
     }
-    b < place
+    ledger[2 * i] < end
 }
 
-// The index of the first pair that is unused or ends at start or later: in a ledger that obeys the rule, the number of pairs that end below start.
-fn first_pair_reaching(ledger: &[u64], start: u64) -> usize
-    ensures { λ r. ⌜ (r ≤ capacity (now (ledger .entry))) × (obeys (now (ledger .entry)) ≡ true → r ≡ countEndingBelow start (pairsOf (now (ledger .entry)))) ⌝ }
-{
-    let mut k = 0;
-    while ends_below(ledger, k, start) {
-        k += 1;
-    }
-    k
-}
-
-// The first pair that is unused or starts above end, looked for from `at` on: in a ledger that obeys the rule, the number of pairs that start by end.
-fn first_pair_after(ledger: &[u64], at: usize, end: u64) -> usize
+// Where a range to end goes that shares no byte: the pair at its place and the one after it may touch it.
+fn slot_at(ledger: &[u64], at: usize, end: u64) -> Slot
     requires { ⌜ at ≤ capacity (now ledger) ⌝ }
-    ensures { λ r. ⌜ (at ≤ r) × (r ≤ capacity (now (ledger .entry))) × (obeys (now (ledger .entry)) ≡ true → at ≤ countStartingBy end (pairsOf (now (ledger .entry))) → r ≡ countStartingBy end (pairsOf (now (ledger .entry)))) ⌝ }
+    ensures { λ r. ⌜ r ≡ slotBy end at (pairAt (now (ledger .entry)) at) (pairAt (now (ledger .entry)) (at + 1)) ⌝ }
 {
-    let mut k = at;
-    while search::pair_starts_by(ledger, k, end) {
-        k += 1;
+    if !search::pair_starts_by(ledger, at, end) {
+        return Slot { at, past: at };
     }
-    k
-}
-
-// Where the range from start to end goes.
-fn locate(ledger: &[u64], start: u64, end: u64) -> Slot
-    ensures { λ r. ⌜ (r .at ≤ r .past) × (r .past ≤ capacity (now (ledger .entry))) × (obeys (now (ledger .entry)) ≡ true → start < end → r ≡ slotOf start end (pairsOf (now (ledger .entry)))) ⌝ }
-{
-    let at = first_pair_reaching(ledger, start);
-    let past = first_pair_after(ledger, at, end);
-    Slot { at, past }
-}
-
-// Whether the pair (a, b) shares a byte with the range from start to end.
-fn overlaps_pair(a: u64, b: u64, start: u64, end: u64) -> bool
-    ensures { λ r. ⌜ r ≡ (ltb start b && ltb a end) ⌝ }
-{
-    if b <= start {
-        return false;
+    if !search::pair_starts_by(ledger, at + 1, end) {
+        return Slot { at, past: at + 1 };
     }
-    a < end
+    Slot { at, past: at + 2 }
 }
 
-// Whether one of the pairs from `at` up to `past` shares a byte with the range from start to end: where this is its slot, whether any does.
-fn overlaps(ledger: &[u64], at: usize, past: usize, start: u64, end: u64) -> bool
-    requires { ⌜ (at ≤ past) × (past ≤ capacity (now ledger)) ⌝ }
-    ensures { λ r. ⌜ (obeys (now (ledger .entry)) ≡ true → at ≡ countEndingBelow start (pairsOf (now (ledger .entry))) → past ≡ countStartingBy end (pairsOf (now (ledger .entry))) → r ≡ overlaps start end (pairsOf (now (ledger .entry)))) ⌝ }
-{
-    let mut k = at;
-    while k < past {
-        if overlaps_pair(ledger[2 * k], ledger[2 * k + 1], start, end) {
-            return true;
-        }
-        k += 1;
-    }
-    false
-}
-
-// Whether the ledger lacks a pair for the range that goes there. In a ledger that obeys the rule the last pair is used only where all are.
+// Whether the ledger lacks a pair for a range that goes there. In a ledger that obeys the rule the last pair is used only where all are.
 fn full(ledger: &[u64], slot: Slot) -> bool
-    ensures { λ r. ⌜ ((s e : ℕ) → obeys (now (ledger .entry)) ≡ true → s < e → slot ≡ slotOf s e (pairsOf (now (ledger .entry))) → r ≡ ltb (capacity (now (ledger .entry))) (size (join s e (pairsOf (now (ledger .entry)))))) ⌝ }
+    ensures { λ r. ⌜ r ≡ lacksPair (capacity (now (ledger .entry))) slot (pairAt (now (ledger .entry)) (capacity (now (ledger .entry)) - 1)) ⌝ }
 {
     if slot.at != slot.past {
         return false;
@@ -110,21 +67,64 @@ fn full(ledger: &[u64], slot: Slot) -> bool
     0 < ledger[2 * room - 1]
 }
 
+// Whether the range from start to end, with this place, can be claimed: it reads the pair there, the one after it and the ledger's last.
+fn judge_at(ledger: &[u64], at: usize, start: u64, end: u64) -> ClaimCheck
+    requires { ⌜ at ≤ capacity (now ledger) ⌝ }
+    ensures { λ r. ⌜ r ≡ judgedBy (capacity (now (ledger .entry))) start end at (pairAt (now (ledger .entry)) at) (pairAt (now (ledger .entry)) (at + 1)) (pairAt (now (ledger .entry)) (capacity (now (ledger .entry)) - 1)) ⌝ }
+{
+    if shares(ledger, at, start, end) {
+        return ClaimCheck::Overlaps;
+    }
+    if shares(ledger, at + 1, start, end) {
+        return ClaimCheck::Overlaps;
+    }
+    let slot = slot_at(ledger, at, end);
+    if full(ledger, slot) {
+        return ClaimCheck::Full;
+    }
+    ClaimCheck::Free(slot)
+}
+
 // Whether the range from start to end can be claimed. For a ledger that breaks the rule, or an empty range, the answer is left open, but
 // that a slot lies inside the ledger: document 01 has no such call.
 pub fn judge(ledger: &[u64], start: u64, end: u64) -> ClaimCheck
     ensures { λ r. ⌜ JudgeResult start end (now (ledger .entry)) r ⌝ }
 {
-    let slot = locate(ledger, start, end);
-    let at = slot.at;
-    let past = slot.past;
-    if overlaps(ledger, at, past, start, end) {
-        return ClaimCheck::Overlaps;
+    let found = place::find(ledger, start);
+    judge_at(ledger, found.at, start, end)
+}
+
+// The number of pairs that start by end: those that end below it, and the one at its place where that one starts by it.
+fn starting_by(ledger: &[u64], end: u64) -> usize
+    ensures { λ r. ⌜ (r ≤ capacity (now (ledger .entry))) × (obeys (now (ledger .entry)) ≡ true → r ≡ countStartingBy end (pairsOf (now (ledger .entry)))) ⌝ }
+{
+    let found = place::find(ledger, end);
+    if search::pair_starts_by(ledger, found.at, end) {
+        return found.at + 1;
     }
-    if full(ledger, slot) {
-        return ClaimCheck::Full;
+    found.at
+}
+
+// The first pair, from `at` on, that is unused or starts above end: in a ledger that obeys the rule, the number of pairs that start by end.
+fn first_pair_after(ledger: &[u64], at: usize, end: u64) -> usize
+    requires { ⌜ at ≤ capacity (now ledger) ⌝ }
+    ensures { λ r. ⌜ (at ≤ r) × (r ≤ capacity (now (ledger .entry))) × (obeys (now (ledger .entry)) ≡ true → at ≤ countStartingBy end (pairsOf (now (ledger .entry))) → r ≡ countStartingBy end (pairsOf (now (ledger .entry)))) ⌝ }
+{
+    let past = starting_by(ledger, end);
+    if past < at {
+        return at;
     }
-    ClaimCheck::Free(slot)
+    past
+}
+
+// Where the range from start to end goes, whatever it shares.
+fn locate(ledger: &[u64], start: u64, end: u64) -> Slot
+    ensures { λ r. ⌜ (r .at ≤ r .past) × (r .past ≤ capacity (now (ledger .entry))) × (obeys (now (ledger .entry)) ≡ true → start < end → r ≡ slotOf start end (pairsOf (now (ledger .entry)))) ⌝ }
+{
+    let found = place::find(ledger, start);
+    let at = found.at;
+    let past = first_pair_after(ledger, at, end);
+    Slot { at, past }
 }
 
 fn lesser(a: u64, b: u64) -> u64

@@ -14,3 +14,5 @@ pub mod Ledgers
 pub mod LedgerEntries
 pub mod PairsObey
 pub mod LedgerRefusal
+pub mod PairsAtPlace
+pub mod PlaceSearch

@@ -34,7 +34,7 @@ endAt k none = 0
 endAt zero (pair a b ps) = b
 endAt (suc k) (pair a b ps) = endAt k ps
 
-endAt-above : (lo k : ℕ) (ps : Pairs) → ObeyFrom (suc lo) ps → k < size ps → lo < endAt k ps
+pub endAt-above : (lo k : ℕ) (ps : Pairs) → ObeyFrom (suc lo) ps → k < size ps → lo < endAt k ps
 unfolding endAt size
 endAt-above lo k none c h = absurd (omega arith)
 endAt-above lo zero (pair a b ps) c h = omega (arith, c .0, c .1)

@@ -1,2 +1,2 @@
 pub mod Ranges
-pub mod BinarySearch
+pub mod RangeInside

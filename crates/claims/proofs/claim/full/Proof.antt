@@ -1,22 +1,21 @@
 -- `claim::full`.
-use mathlib.Core.Path.{sym, _∙_}
+use Prim.Native.Nat.{_+_, _*_, _-_}
+use mathlib.Core.Path.{_≡_}
+use native.Mathlib.Omega.{arith}
+use borrow.Author.Tests.{eq-eqb, ne-eqb}
+use Rattle.ledger.specs.Ledger.{capacity}
+use Rattle.claims.specs.Neighbours.{lacksPair}
 use borrow.Author.Needs.{needs}
-use Rattle.claims.proofs.JoinRoom.{at-is, past-is, room-wide, room-none, room-last}
 use Rattle.claims.proofs.claim.full.Statement.{statement}
 use Rattle.claims.proofs.claim.full.Tie as tie
 
 returns : tie.Need-returns
-returns c s e o h q =
-    let x = c .before .before .args in
-    let l = x .ledger .now in
-    sym (room-wide l o s e h (λ z. c .if1 .taken (at-is s e l (x .slot) q ∙ z ∙ sym (past-is s e l (x .slot) q))))
+unfolding lacksPair
+returns c = rw (ne-eqb _ _ (c .if1 .taken))
 
 returns-2 : tie.Need-returns-2
-returns-2 c s e o h q =
-    let f = c .before in
-    let x = f .before .before .args in
-    let l = x .ledger .now in
-    sym (room-none l o s e h (sym (at-is s e l (x .slot) q) ∙ f .if1 .left ∙ past-is s e l (x .slot) q) (c .if2 .taken))
+unfolding lacksPair
+returns-2 c = rw (eq-eqb _ _ (c .before .if1 .left), eq-eqb _ _ (c .if2 .taken))
 
 mul-result : tie.Need-mul-result
 mul-result c = search needs
@@ -31,12 +30,12 @@ shared-slice-read-result : tie.Need-shared-slice-read-result
 shared-slice-read-result c = search needs
 
 returns-3 : tie.Need-returns-3
-returns-3 c s e o h q =
+unfolding lacksPair
+returns-3 c =
     let n = c .before in
-    let f = n .before in
-    let x = f .before .before .args in
-    let l = x .ledger .now in
-    room-last l o s e h (sym (at-is s e l (x .slot) q) ∙ f .if1 .left ∙ past-is s e l (x .slot) q) (n .if2 .left)
+    let x = n .before .before .before .args in
+    let i : 2 * (capacity (x .ledger .now) - 1) + 1 ≡ 2 * capacity (x .ledger .now) - 1 = omega arith in
+    rw (eq-eqb _ _ (n .before .if1 .left), ne-eqb _ _ (n .if2 .left), i)
 
 pub full-spec : {M : Type 1} → statement M
 full-spec =

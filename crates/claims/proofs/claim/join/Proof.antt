@@ -9,6 +9,7 @@ use lib.Dec.{ltb}
 use Rattle.ledger.specs.Pairs.{size, join}
 use Rattle.ledger.specs.Ledger.{obeys, pairsOf, capacity}
 use Rattle.claims.proofs.JoinRoom.{at-is, past-is}
+use Rattle.claims.proofs.JudgedByPlace.{lacks-is}
 use Rattle.claims.proofs.claim.join.Statement.{statement}
 use Rattle.claims.proofs.claim.join.Tie as tie
 
@@ -18,7 +19,7 @@ lacks : (c : tie.After-full) → let x = c .before .before .before .before .befo
 lacks c o h =
     let f = c .before .before in
     let x = f .before .before .before .args in
-    c .full .ensures (x .start) (x .end) o h (f .locate .ensures .2 o h)
+    c .full .ensures ∙ lacks-is (x .ledger .now) o (x .start) (x .end) h (f .locate .result) (f .locate .ensures .2 o h)
 
 no-room : (c : tie.Then1) → let x = c .before .before .before .before .before .before .args in let l = x .ledger .now in
     obeys l ≡ true → x .start < x .end → capacity l < size (join (x .start) (x .end) (pairsOf l))

@@ -3,7 +3,9 @@ use Prim.Native.Nat.{_+_}
 use mathlib.Core.Path.{sym}
 use native.Mathlib.Omega.{arith}
 use borrow.Author.Needs.{needs}
-use Rattle.rangechecks.proofs.BinarySearch.{past-all}
+use Rattle.ledger.specs.Ledger.{largest, pairsOf}
+use Rattle.ledger.proofs.LedgerSizes.{ends-fit}
+use Rattle.rangechecks.proofs.RangeInside.{past-all}
 use Rattle.rangechecks.proofs.search.contains_range.Statement.{statement}
 use Rattle.rangechecks.proofs.search.contains_range.Tie as tie
 
@@ -14,7 +16,7 @@ returns : tie.Need-returns
 returns c =
     let k = c .before in
     let x = k .before .args in
-    λ h o. sym (past-all (x .start) (x .start + x .length) (x .ledger .now) o 18446744073709551615 (omega arith) (λ i. omega (arith, k .shared-slice-known .given i)) (omega arith))
+    λ h o. sym (past-all (x .start) (x .start + x .length) largest (pairsOf (x .ledger .now)) (ends-fit (x .ledger .now) (λ i. omega (arith, k .shared-slice-known .given i))) (omega arith))
 
 add-inside : tie.Need-add-inside
 add-inside c = search needs
