@@ -4,14 +4,14 @@ use mathlib.Core.Path.{_≡_, refl}
 use mathlib.Core.Bool.{true}
 use mathlib.Core.List.{List}
 use native.Mathlib.Omega.{arith}
-use native.Mathlib.Decide.{decLt, decLe}
+use native.Mathlib.Decide.{decLe}
 use lib.ListN.{getD}
-use Rattle.ledger.specs.Pairs.{Pairs, none, pair, size, ObeyFrom, countEndingBelow, countStartingBy}
+use Rattle.ledger.specs.Pairs.{Pairs, none, pair, size, ObeyFrom, countStartingBy}
 use Rattle.ledger.specs.Ledger.{obeys, pairsOf, capacity}
 use Rattle.claims.specs.Claim.{slotOf}
 use Rattle.claims.specs.ClaimLaws.{ClaimLaws}
 use Rattle.ledger.proofs.LedgerRule.{start-is, end-is}
-use Rattle.ledger.proofs.PairsJoinSlot.{startAt, endAt, countStartingBy-le, countStartingBy-on, countStartingBy-stops}
+use Rattle.ledger.proofs.PairsJoinSlot.{startAt, countStartingBy-le, countStartingBy-on, countStartingBy-stops}
 use Rattle.ledger.proofs.PairsAtPlace.{below-ends, below-from}
 use Rattle.claims.proofs.JoinRoom.{even, ruled}
 use Rattle.claims.proofs.Judged.{numbers, slot-inside}

@@ -8,13 +8,12 @@ use native.Mathlib.Numerals.{add-one}
 use native.Mathlib.Decide.{decLt, ℕ-discrete}
 use borrow.Author.Tests.{eq-eqb, ne-eqb, ltb-true}
 use lib.Dec.{leb, ltb, eqb}
-use lib.ListN.{length, getD, List·getD-eq-default}
+use lib.ListN.{getD, List·getD-eq-default}
 use Rattle.ledger.specs.Pairs.{size, join, overlaps, countEndingBelow, countStartingBy}
 use Rattle.ledger.specs.Ledger.{obeys, pairsOf, capacity}
 use Rattle.claims.specs.Claim.{slotOf, judged}
 use Rattle.claims.specs.Neighbours.{Pair, pairAt, sharedBy, startsBy, slotBy, lacksPair, judgedBy}
 use Rattle.claims.specs.declared.claim.Slot.{Slot}
-use Rattle.claims.specs.declared.claim.ClaimCheck.{ClaimCheck}
 use Rattle.claims.specs.declared.claim.ClaimCheck.the-variants.{Overlaps, Full, Free}
 use Rattle.ledger.proofs.LedgerRule.{start-is, end-is}
 use Rattle.ledger.proofs.PairsAtPlace.{starting-at}

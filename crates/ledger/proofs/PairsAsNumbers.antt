@@ -1,13 +1,11 @@
 -- Pairs as a plain run of numbers, and the ledger as such a run with zeros after it.
 use Prim.Native.Nat.{ℕ, zero, suc, _+_, _*_, _-_, _≤_}
 use mathlib.Core.Path.{_≡_, refl, ap}
-use mathlib.Core.Bool.{Bool, true, false, cond}
 use mathlib.Core.List.{List, [], _∷_, _++_}
 use native.Mathlib.Omega.{arith}
-use lib.Dec.{eqb}
 use lib.ListN.{length, getD, take, drop, replicate}
 use Rattle.ledger.specs.Pairs.{Pairs, none, pair, size}
-use Rattle.ledger.specs.Ledger.{pairsOf, laidOut}
+use Rattle.ledger.specs.Ledger.{laidOut}
 use Rattle.ledger.proofs.PairsJoinSlot.{rest, splice, startAt, endAt}
 
 unfoldable pub flat : Pairs → List ℕ
@@ -57,19 +55,6 @@ unfolding splice size
 size-splice zero ps qs h = omega arith
 size-splice (suc k) none qs h = absurd (omega arith)
 size-splice (suc k) (pair a b ps) qs h = omega (arith, size-splice k ps qs (omega arith))
-
--- the used pairs from a place on are the rest of the used pairs
-pub pairsOf-drop : (k : ℕ) (l : List ℕ) → k ≤ size (pairsOf l) → pairsOf (drop (2 * k) l) ≡ rest k (pairsOf l)
-unfolding pairsOf rest size
-pairsOf-drop zero l h = refl
-pairsOf-drop (suc k) [] h = absurd (omega arith)
-pairsOf-drop (suc k) (a ∷ []) h = absurd (omega arith)
-pairsOf-drop (suc k) (a ∷ b ∷ l) h = rw (double k) (go (eqb b 0) (pairsOf-drop k l) h)
-  where
-    go : (t : Bool) → (k ≤ size (pairsOf l) → pairsOf (drop (2 * k) l) ≡ rest k (pairsOf l)) → suc k ≤ size (cond t none (pair a b (pairsOf l)))
-        → pairsOf (drop (2 * k) l) ≡ rest (suc k) (cond t none (pair a b (pairsOf l)))
-    go true i g = absurd (omega arith)
-    go false i g = i (omega arith)
 
 -- the end of the pair with the number k, in the lent form
 pub laidOut-end : (r k : ℕ) (ps : Pairs) → size ps ≤ r → getD (laidOut r ps) (2 * k + 1) 0 ≡ endAt k ps

@@ -1,5 +1,5 @@
 -- A range joined to pairs, by the slot where it goes: the pairs below it stay, those from `at` up to `past` become one with it, and the rest follows.
-use Prim.Native.Nat.{ℕ, zero, suc, _+_, _-_, _≤_, _<_, min, max}
+use Prim.Native.Nat.{ℕ, zero, suc, _-_, _≤_, _<_, min, max}
 use mathlib.Core.Path.{_≡_, refl, sym, ap, _∙_}
 use mathlib.Core.Bool.{true, cond, and-eq-true-iff}
 use native.Mathlib.Omega.{arith}
@@ -164,17 +164,6 @@ join-is s e lo (pair a b ps) h c = go (stands s e a b) (join-is s e (suc b) ps h
           reached-step e a b (countStartingBy e ps) ps (c .2) (countStartingBy-le e ps),
           m,
         )
-
--- counting the pairs up to an end may begin at any pair that is among them
-pub countStartingBy-rest : (e k : ℕ) (ps : Pairs) → k ≤ countStartingBy e ps → k + countStartingBy e (rest k ps) ≡ countStartingBy e ps
-unfolding rest
-countStartingBy-rest e zero ps h = omega arith
-countStartingBy-rest e (suc k) none h = absurd (unfold countStartingBy in omega arith)
-countStartingBy-rest e (suc k) (pair a b ps) h = go (decLe a e) (countStartingBy-rest e k ps)
-  where
-    go : Dec (a ≤ e) → (k ≤ countStartingBy e ps → k + countStartingBy e (rest k ps) ≡ countStartingBy e ps) → suc k + countStartingBy e (rest k ps) ≡ countStartingBy e (pair a b ps)
-    go (yes q) i = omega (arith, countStartingBy-on e a b ps q, i (omega (arith, countStartingBy-on e a b ps q)))
-    go (no q) i = absurd (omega (arith, countStartingBy-stops e a b ps (omega arith)))
 
 -- ---- what a slot decides
 

@@ -6,7 +6,7 @@ use mathlib.Core.List.{List}
 use lib.Dec.{ltb}
 use Rattle.ledger.specs.Pairs.{Pairs, none, pair}
 use Rattle.ledger.specs.Ledger.{obeys, pairsOf, capacity}
-use Rattle.ledger.specs.Place.{stillOpen, looked, looksFor, FindResult}
+use Rattle.ledger.specs.Place.{stillOpen, begun, looked, looksFor, FindResult}
 use Rattle.ledger.specs.declared.place.Search.{Search}
 use Rattle.ledger.specs.declared.place.Place.{Place}
 
@@ -18,6 +18,10 @@ endingBelow s (pair a b ps) = cond (ltb b s) 1 0 + endingBelow s ps
 pub record LookUp : Type 0 where
   -- the place for a new range is the number of used pairs that end below its start
   pub place-is : (s : ℕ) (l : List ℕ) (p : Place) → obeys l ≡ true → FindResult s l p → p .at ≡ endingBelow s (pairsOf l)
+  -- no other answer is led to
+  pub one-answer : (s : ℕ) (l : List ℕ) (p q : Place) → FindResult s l p → FindResult s l q → p ≡ q
+  -- all pairs are open at first
+  pub all-open : (l : List ℕ) → stillOpen (begun l) ≡ capacity l
   -- each look at a pair leaves at most half the pairs open
   pub halves : (s : ℕ) (l : List ℕ) (x : Search) → stillOpen (looked s l x) ≤ stillOpen x / 2
   -- it is one look more

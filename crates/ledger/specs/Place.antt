@@ -1,5 +1,5 @@
 -- The place for a range in a ledger, and the search for it by halving (document 02, Item 2).
-use Prim.Native.Nat.{ℕ, zero, suc, _+_, _*_, _-_, _/_, _≤_}
+use Prim.Native.Nat.{ℕ, zero, suc, _+_, _*_, _-_, _/_, _≤_, _<_}
 use mathlib.Core.Path.{_≡_}
 use mathlib.Core.Bool.{Bool, true, false, _&&_}
 use mathlib.Core.List.{List}
@@ -18,6 +18,10 @@ endsBelow s ledger i = ltb 0 (getD ledger (2 * i + 1) 0) && ltb (getD ledger (2 
 unfoldable pub stillOpen : Search → ℕ
 stillOpen x = x .high - x .low
 
+-- all pairs are open at first, used or not
+unfoldable pub begun : List ℕ → Search
+begun ledger = record { low = 0; high = capacity ledger; looks = 0 }
+
 -- what a look leaves, as the pair it was at is before the place or not: that pair and those before it are open no longer, or that pair
 -- and those after it
 abbrev pub leaves : Bool → ℕ → Search → Search
@@ -32,6 +36,11 @@ middle x = x .low + (x .high - x .low) / 2
 unfoldable pub looked : ℕ → List ℕ → Search → Search
 looked s ledger x = leaves (endsBelow s ledger (middle x)) (middle x) x
 
+-- from x on, one look after the other leads to the place: as long as a pair is open, and no longer
+pub data Leads (s : ℕ) (ledger : List ℕ) : Search → Place → Type 0 where
+  none-open : (x : Search) → x .low ≡ x .high → Leads s ledger x (record { at = x .low; looks = x .looks })
+  one-look : (x : Search) (p : Place) → x .low < x .high → Leads s ledger (looked s ledger x) p → Leads s ledger x p
+
 -- how many looks do for m open pairs, where each leaves at most half of them, rounded down. No more than m looks are ever needed: `most`
 -- counts these down, so that the definition ends.
 unfoldable pub looksWithin : ℕ → ℕ → ℕ
@@ -45,6 +54,7 @@ looksFor m = looksWithin m m
 -- the place for a range that begins at s was sought in the ledger, and the answer is p
 pub record FindResult (s : ℕ) (ledger : List ℕ) (p : Place) : Type 0 where
   pub by-rule : obeys ledger ≡ true → p .at ≡ countEndingBelow s (pairsOf ledger)
-  -- in any list
-  pub inside : p .at ≤ capacity ledger
+  -- in any list: the looks that are counted are those that were made, and they are few
+  pub by-looks : Leads s ledger (begun ledger) p
   pub looks-bound : p .looks ≤ looksFor (capacity ledger)
+  pub inside : p .at ≤ capacity ledger

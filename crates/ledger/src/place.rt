@@ -37,19 +37,34 @@ fn look(ledger: &[u64], start: u64, state: Search) -> Search
     let looks = state.looks + 1;
     let middle = state.low + (state.high - state.low) / 2;
     if ends_below(ledger, middle, start) {
-        return Search { low: middle + 1, high: state.high, looks };
+        return Search {
+            low: middle + 1,
+            high: state.high,
+            looks,
+        };
     }
-    Search { low: state.low, high: middle, looks }
+    Search {
+        low: state.low,
+        high: middle,
+        looks,
+    }
 }
 
-// The place for a range that begins at start. In a list that breaks the ledger rule it is left open, but that it lies inside the list; the
-// bound of the looks holds for any list.
+// The place for a range that begins at start: in a ledger that obeys the rule, the number of used pairs that end below start. In any other
+// list it is where the looks lead, which no paper gives a meaning.
 pub fn find(ledger: &[u64], start: u64) -> Place
     ensures { λ r. ⌜ FindResult start (now (ledger .entry)) r ⌝ }
 {
-    let mut state = Search { low: 0, high: ledger.len() / 2, looks: 0 };
+    let mut state = Search {
+        low: 0,
+        high: ledger.len() / 2,
+        looks: 0,
+    };
     while state.low < state.high {
         state = look(ledger, start, state);
     }
-    Place { at: state.low, looks: state.looks }
+    Place {
+        at: state.low,
+        looks: state.looks,
+    }
 }

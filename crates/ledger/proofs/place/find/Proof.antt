@@ -1,7 +1,7 @@
 -- `place::find`: the place lies from low up to high, and the looks made and those that do for the open pairs are within the bound.
-use mathlib.Core.Path.{sym, ap}
+use mathlib.Core.Path.{ap}
 use native.Mathlib.Omega.{arith}
-use Rattle.ledger.specs.Place.{stillOpen}
+use Rattle.ledger.specs.Place.{stillOpen, none-open}
 use Rattle.ledger.proofs.PlaceSearch.{Sought, sought-first, sought-on, halves}
 use Rattle.ledger.proofs.place.find.Statement.{statement}
 use Rattle.ledger.proofs.place.find.Tie as tie
@@ -38,8 +38,9 @@ loop-again c =
 
 returns : tie.Need-returns Inv-loop μ-loop
 returns c =
-    let v = c .before .before .loop .inv in
-    record { by-rule = λ o. omega (arith, v .4 o); inside = omega arith; looks-bound = omega (arith, v .3) }
+    let l = c .before .before in
+    let v = l .loop .inv in
+    record { by-rule = λ o. omega (arith, v .4 o); by-looks = v .5 _ (none-open (l .loop .state) (omega arith)); looks-bound = omega (arith, v .3); inside = omega arith }
 
 pub find-spec : {M : Type 1} → statement M
 find-spec =
