@@ -105,7 +105,7 @@ fn starting_by(ledger: &[u64], end: u64) -> usize
     found.at
 }
 
-// The first pair, from `at` on, that is unused or starts above end: in a ledger that obeys the rule, the number of pairs that start by end.
+// The same, or `at` where that is more, as it can be in a list that breaks the rule.
 fn first_pair_after(ledger: &[u64], at: usize, end: u64) -> usize
     requires { ⌜ at ≤ capacity (now ledger) ⌝ }
     ensures { λ r. ⌜ (at ≤ r) × (r ≤ capacity (now (ledger .entry))) × (obeys (now (ledger .entry)) ≡ true → at ≤ countStartingBy end (pairsOf (now (ledger .entry))) → r ≡ countStartingBy end (pairsOf (now (ledger .entry)))) ⌝ }
