@@ -1,6 +1,6 @@
 -- The judgement of a range from its place: in a ledger by the rule it is the judgement, and in any list its slot lies inside.
 use Prim.Native.Nat.{ℕ, suc, _+_, _*_, _-_, _≤_, _<_}
-use mathlib.Core.Path.{_≡_, refl, sym, ap, _∙_}
+use mathlib.Core.Path.{_≡_, refl, sym, ap}
 use mathlib.Core.Bool.{Bool, true, false, cond, _&&_, _||_, and-eq-true-iff}
 use mathlib.Core.List.{List}
 use native.Mathlib.Omega.{arith}
@@ -23,6 +23,10 @@ use Rattle.claims.proofs.Neighbours.{numbered, two-share, two-touch}
 
 -- ---- in a ledger by the rule
 
+moved : (at : ℕ) (t : Bool) (n : ℕ) → cond t (at + n) at ≡ at + cond t n 0
+moved at true n = refl
+moved at false n = omega arith
+
 module _ (l : List ℕ) (o : obeys l ≡ true) (s e : ℕ) (h : s < e) where
   read-is : (i : ℕ) → pairAt l i ≡ numbered i (pairsOf l)
   read-is i = rw (start-is (capacity l) l (even l o) o i, end-is (capacity l) l (even l o) o i)
@@ -31,10 +35,6 @@ module _ (l : List ℕ) (o : obeys l ≡ true) (s e : ℕ) (h : s < e) where
   shared-is =
       let at = countEndingBelow s (pairsOf l) in
       rw (read-is at, read-is (at + 1), add-one at) (sym (two-share s e 0 (pairsOf l) (ruled l o)))
-
-  moved : (at : ℕ) (t : Bool) (n : ℕ) → cond t (at + n) at ≡ at + cond t n 0
-  moved at true n = refl
-  moved at false n = omega arith
 
   slot-is : overlaps s e (pairsOf l) ≡ false → let at = countEndingBelow s (pairsOf l) in slotBy e at (pairAt l at) (pairAt l (at + 1)) ≡ slotOf s e (pairsOf l)
   unfolding slotBy slotOf
@@ -70,7 +70,7 @@ module _ (l : List ℕ) (o : obeys l ≡ true) (s e : ℕ) (h : s < e) where
 -- ---- in any list
 
 -- a pair that starts by a place is used, so it is not past the last
-starts-inside : (e i : ℕ) (l : List ℕ) → startsBy e (pairAt l i) ≡ true → i < capacity l
+pub starts-inside : (e i : ℕ) (l : List ℕ) → startsBy e (pairAt l i) ≡ true → i < capacity l
 unfolding startsBy
 starts-inside e i l h = go (decLt i (capacity l)) (ltb-true 0 (getD l (2 * i + 1) 0) (and-eq-true-iff (ltb 0 (getD l (2 * i + 1) 0)) (leb (getD l (2 * i) 0) e) .0 h .0))
   where
@@ -100,12 +100,7 @@ free-slot r s e at here next last slot q = go (sharedBy s e here || sharedBy s e
 
 -- ---- the pairs that start by an end
 
--- a pair that is read as used and starting by the place for its end is one more of them
-pub one-more : (e at : ℕ) (l : List ℕ) → startsBy e (pairAt l at) ≡ true → (at + 1 ≤ capacity l) × (obeys l ≡ true → at ≡ countEndingBelow e (pairsOf l) → at + 1 ≡ countStartingBy e (pairsOf l))
+pub starting-is : (e at : ℕ) (l : List ℕ) → obeys l ≡ true → at ≡ countEndingBelow e (pairsOf l) → at + cond (startsBy e (pairAt l at)) 1 0 ≡ countStartingBy e (pairsOf l)
 unfolding startsBy
-one-more e at l h =
-    (unfold startsBy in omega (arith, starts-inside e at l h), λ o a. sym (starting-at e 0 (pairsOf l) (ruled l o) ∙ rw (← a, ← start-is (capacity l) l (even l o) o at, ← end-is (capacity l) l (even l o) o at, h)))
-
-pub none-more : (e at : ℕ) (l : List ℕ) → startsBy e (pairAt l at) ≡ false → obeys l ≡ true → at ≡ countEndingBelow e (pairsOf l) → at ≡ countStartingBy e (pairsOf l)
-unfolding startsBy
-none-more e at l h o a = sym (starting-at e 0 (pairsOf l) (ruled l o) ∙ rw (← a, ← start-is (capacity l) l (even l o) o at, ← end-is (capacity l) l (even l o) o at, h) (omega arith))
+starting-is e at l o a =
+    rw (start-is (capacity l) l (even l o) o at, end-is (capacity l) l (even l o) o at, a) (sym (starting-at e 0 (pairsOf l) (ruled l o)))

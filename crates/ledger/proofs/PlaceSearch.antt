@@ -25,14 +25,14 @@ module _ (s : ℕ) (l : List ℕ) where
   unfolding endsBelow obeys
   look-says i o = rw (end-is (capacity l) l (omega (arith, obeys-even l o)) o i) (below-test s 0 i (pairsOf l) (rule-ruled 0 l o))
 
-  pub place-inside : countEndingBelow s (pairsOf l) ≤ capacity l
+  place-inside : countEndingBelow s (pairsOf l) ≤ capacity l
   place-inside = omega (arith, below-size s (pairsOf l), size-pairsOf l)
 
   -- the place lies from low up to high
   abbrev pub Between : Search → Type 0
   Between x = obeys l ≡ true → (x .low ≤ countEndingBelow s (pairsOf l)) × (countEndingBelow s (pairsOf l) ≤ x .high)
 
-  pub stays : (x : Search) → Between x → Between (looked s l x)
+  stays : (x : Search) → Between x → Between (looked s l x)
   unfolding looked
   stays x v o = go (endsBelow s l (middle x)) (look-says (middle x) o)
     where
@@ -50,7 +50,7 @@ module _ (s : ℕ) (l : List ℕ) where
       go true = omega arith
       go false = omega arith
 
-  pub counts : (x : Search) → looked s l x .looks ≡ suc (x .looks)
+  counts : (x : Search) → looked s l x .looks ≡ suc (x .looks)
   unfolding looked
   counts x = go (endsBelow s l (middle x))
     where
@@ -73,7 +73,7 @@ looks-more : (i m : ℕ) → i ≤ m → looksFor i ≤ looksFor m
 unfolding looksFor
 looks-more i m h = looks-at-most i m i m h (omega arith)
 
-pub looks-half : (m : ℕ) → 0 < m → looksFor m ≡ suc (looksFor (m / 2))
+looks-half : (m : ℕ) → 0 < m → looksFor m ≡ suc (looksFor (m / 2))
 unfolding looksFor looksWithin
 looks-half zero h = absurd (omega arith)
 looks-half (suc m) h = ap suc (same (suc m / 2) (omega arith))

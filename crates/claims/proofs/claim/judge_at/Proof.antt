@@ -1,7 +1,11 @@
 -- `claim::judge_at`.
-use mathlib.Core.Path.{sym, _∙_}
+use Prim.Native.Nat.{_+_, _-_}
+use mathlib.Core.Path.{_≡_, sym, ap, _∙_}
+use mathlib.Core.Bool.{cond}
 use borrow.Author.Needs.{needs}
-use Rattle.claims.specs.Neighbours.{judgedBy}
+use Rattle.ledger.specs.Ledger.{capacity}
+use Rattle.claims.specs.Neighbours.{pairAt, judgedBy}
+use Rattle.claims.specs.declared.claim.ClaimCheck.the-variants.{Full, Free}
 use Rattle.claims.proofs.claim.judge_at.Statement.{statement}
 use Rattle.claims.proofs.claim.judge_at.Tie as tie
 
@@ -31,25 +35,25 @@ slot-at-requires c κs = search needs
 full-requires : tie.Need-full-requires
 full-requires c κs = search needs
 
-returns-3 : tie.Need-returns-3
+-- a range that shares none: its slot and the pairs that there are decide
+apart : (c : tie.After-full) → let a = c .before in
+    let k = a .before in
+    let x = k .before .before .before .before .before .args in
+    let l = x .ledger .now in
+    cond (c .full .result) Full (Free (a .slot-at .result)) ≡ judgedBy (capacity l) (x .start) (x .end) (x .at) (pairAt l (x .at)) (pairAt l (x .at + 1)) (pairAt l (capacity l - 1))
 unfolding judgedBy
-returns-3 c =
-    let u = c .before in
-    let a = u .before in
+apart c =
+    let a = c .before in
     let k = a .before in
     let f = k .before in
     let g = f .before in
-    rw (sym (g .before .shares .ensures) ∙ g .if1 .left, sym (f .shares2 .ensures) ∙ k .if2 .left, sym (a .slot-at .ensures), sym (u .full .ensures) ∙ c .if3 .taken)
+    rw (sym (g .before .shares .ensures) ∙ g .if1 .left, sym (f .shares2 .ensures) ∙ k .if2 .left, sym (a .slot-at .ensures), sym (c .full .ensures))
+
+returns-3 : tie.Need-returns-3
+returns-3 c = ap (λ b. cond b Full (Free (c .before .before .slot-at .result))) (sym (c .if3 .taken)) ∙ apart (c .before)
 
 returns-4 : tie.Need-returns-4
-unfolding judgedBy
-returns-4 c =
-    let u = c .before in
-    let a = u .before in
-    let k = a .before in
-    let f = k .before in
-    let g = f .before in
-    rw (sym (g .before .shares .ensures) ∙ g .if1 .left, sym (f .shares2 .ensures) ∙ k .if2 .left, sym (a .slot-at .ensures), sym (u .full .ensures) ∙ c .if3 .left)
+returns-4 c = ap (λ b. cond b Full (Free (c .before .before .slot-at .result))) (sym (c .if3 .left)) ∙ apart (c .before)
 
 pub judge-at-spec : {M : Type 1} → statement M
 judge-at-spec =

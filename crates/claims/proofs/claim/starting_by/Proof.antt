@@ -1,8 +1,9 @@
 -- `claim::starting_by`.
 use mathlib.Core.Path.{sym, _∙_}
+use native.Mathlib.Omega.{arith}
 use borrow.Author.Needs.{needs}
 use Rattle.claims.specs.Neighbours.{startsBy}
-use Rattle.claims.proofs.JudgedByPlace.{one-more, none-more}
+use Rattle.claims.proofs.JudgedByPlace.{starts-inside, starting-is}
 use Rattle.claims.proofs.claim.starting_by.Statement.{statement}
 use Rattle.claims.proofs.claim.starting_by.Tie as tie
 
@@ -23,8 +24,8 @@ returns c =
     let f = t .before in
     let x = f .before .before .args in
     let at = f .find .result .at in
-    let m = one-more (x .end) at (x .ledger .now) (sym (t .pair-starts-by .ensures) ∙ y .if1 .taken) in
-    (m .0, λ o. m .1 o (f .find .ensures .by-rule o))
+    let q = sym (t .pair-starts-by .ensures) ∙ y .if1 .taken in
+    (omega (arith, starts-inside (x .end) at (x .ledger .now) q), λ o. rw q at (starting-is (x .end) at (x .ledger .now) o (f .find .ensures .by-rule o)))
 
 returns-2 : tie.Need-returns-2
 unfolding startsBy
@@ -32,8 +33,8 @@ returns-2 c =
     let t = c .before in
     let f = t .before in
     let x = f .before .before .args in
-    let at = f .find .result .at in
-    (f .find .ensures .inside, λ o. none-more (x .end) at (x .ledger .now) (sym (t .pair-starts-by .ensures) ∙ c .if1 .left) o (f .find .ensures .by-rule o))
+    let q = sym (t .pair-starts-by .ensures) ∙ c .if1 .left in
+    (f .find .ensures .inside, λ o. omega (arith, rw q at (starting-is (x .end) (f .find .result .at) (x .ledger .now) o (f .find .ensures .by-rule o))))
 
 pub starting-by-spec : {M : Type 1} → statement M
 starting-by-spec =
