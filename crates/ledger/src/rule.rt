@@ -2,11 +2,11 @@
 use sums::sum;
 ghost use mathlib.Core.Path.{_≡_};
 ghost use mathlib.Core.Bool.{_&&_};
-ghost use Prim.Native.Nat.{_%_, min};
-ghost use lib.Dec.{eqb};
-ghost use lib.ListN.{length};
+ghost use Prim.Native.Nat.{suc, _+_, _%_, _≤_, min};
+ghost use lib.Dec.{leb, ltb, eqb};
+ghost use lib.ListN.{length, getD, drop};
 ghost use Rattle.ledger.specs.Pairs.{total, endsAtMost};
-ghost use Rattle.ledger.specs.Ledger.{lengthWrong, allZero, mayFollow, obeys, ledgerRefusal, pairsOf};
+ghost use Rattle.ledger.specs.Ledger.{lengthWrong, allZero, mayFollow, obeysFrom, obeys, ledgerRefusal, pairsOf};
 
 // The most entries that a ledger may have.
 pub const ENTRY_LIMIT: usize = 8192;
@@ -59,28 +59,52 @@ pub fn may_follow(end: u64, a: u64, b: u64) -> bool
     end < a
 }
 
+// Whether there is a used pair at the place i of the entries.
+fn pair_used(ledger: &[u64], i: usize) -> bool
+    requires { ⌜ i ≤ length (now ledger) ⌝ }
+    ensures { λ r. ⌜ r ≡ ltb 0 (getD (now (ledger .entry)) (i + 1) 0) ⌝ }
+{
+    if ledger.len() <= i + 1 {
+        return false;
+    }
+    0 < ledger[i + 1]
+}
+
+// Whether the pairs after the first obey the rule, where that one ends at `first`, and no end is above the limit. Ends that obey the rule
+// rise, so that the last one tells.
+fn obeys_after(ledger: &[u64], first: u64, limit: u64) -> bool
+    requires { ⌜ 2 ≤ length (now ledger) ⌝ }
+    ensures { λ r. ⌜ r ≡ (leb first limit && (obeysFrom (suc first) (drop 2 (now (ledger .entry))) && endsAtMost limit (pairsOf (drop 2 (now (ledger .entry)))))) ⌝ }
+{
+    let mut end = first;
+    let mut i = 2;
+    while pair_used(ledger, i) {
+        if ledger[i] <= end {
+            return false;
+        }
+        if ledger[i + 1] <= ledger[i] {
+            return false;
+        }
+        end = ledger[i + 1];
+        i += 2;
+    }
+    if limit < end {
+        return false;
+    }
+    zero_pairs(&ledger[i..])
+}
+
 // Whether the ledger obeys its rule with no end above the limit.
 pub fn obeys(ledger: &[u64], limit: u64) -> bool
     ensures { λ r. ⌜ r ≡ (obeys (now (ledger .entry)) && endsAtMost limit (pairsOf (now (ledger .entry)))) ⌝ }
 {
-    let mut end: u64 = 0;
-    let mut i = 0;
-    while i + 1 < ledger.len() {
-        let a = ledger[i];
-        let b = ledger[i + 1];
-        if b == 0 {
-            return zero_pairs(&ledger[i..]);
-        }
-        if !may_follow(end, a, b) {
-            return false;
-        }
-        if limit < b {
-            return false;
-        }
-        end = b;
-        i += 2;
+    if !pair_used(ledger, 0) {
+        return zero_pairs(ledger);
     }
-    i == ledger.len()
+    if ledger[1] <= ledger[0] {
+        return false;
+    }
+    obeys_after(ledger, ledger[1], limit)
 }
 
 // The number by which a ledger that is to be written is refused: 53 for its length, 1 for its rule, 0 where it is accepted.
