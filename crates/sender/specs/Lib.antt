@@ -1,0 +1,7 @@
+pub mod Blocks
+pub mod Sender
+pub mod Calls
+pub mod BlockRows
+pub mod SenderRows
+pub mod Sends
+pub mod SendingSide
