@@ -1,7 +1,6 @@
 -- The arithmetic of blocks: how many a file has, which go on a channel, and that no block is empty or past the file's end.
-use Prim.Native.Nat.{ℕ, zero, suc, _+_, _*_, _-_, _/_, _%_, _≤_, _<_, min}
-use mathlib.Core.Path.{_≡_, refl, sym, ap, _∙_}
-use mathlib.Core.Bool.{cond}
+use Prim.Native.Nat.{ℕ, zero, suc, _+_, _*_, _-_, _/_, _%_, _≤_, _<_}
+use mathlib.Core.Path.{_≡_, refl}
 use native.Mathlib.Omega.{arith}
 use native.Mathlib.Nat.{mod-lt, div-add-mod', le-mul-of-pos-right, mul-le-mul-right}
 use native.Mathlib.Decide.{decLt, ℕ-discrete}

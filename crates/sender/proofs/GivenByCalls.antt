@@ -11,15 +11,14 @@ use lib.ListN.{List·getD-eq-default, length, getD, set, replicate, length-set, 
 use lib.Seq.{ext-getD, getD-set-same, getD-set-other}
 use borrow.Author.Tests.{le-ltb}
 use Rattle.sender.specs.declared.state.Sender.{Sender}
-use Rattle.sender.specs.Blocks.{blockCount, blocksOn}
 use Rattle.sender.specs.Sender.{senderOf, givenOn, begun, beginRefusal, beginOf, mostOn, callsCanGive, NextCall, nextCall, nextBytes, nextRefusal, movedOn, senderAfter}
 use Rattle.sender.specs.Calls.{afterCalls, EachLends}
-use Rattle.sender.specs.Sends.{GivenByCalls, LeftByCalls, EndingsSent, CanEnd}
+use Rattle.sender.specs.Sends.{GivenByCalls, EndingsSent, CanEnd}
 use Rattle.sender.proofs.BeginRange.{begins}
 use Rattle.sender.proofs.AtMost.{most-below}
 use Rattle.sender.proofs.Judged.{not-refused}
 use Rattle.sender.proofs.Answered.{number-0, writes}
-use Rattle.sender.proofs.SenderSteps.{Handed, test-holds, handed, kept}
+use Rattle.sender.proofs.SenderSteps.{Handed, test-holds, handed}
 use Rattle.sender.proofs.SentCalls.{zeros, begin-is, handed-begin, handed-after, ours, answers-74}
 
 -- ---- lists one after the other

@@ -1,15 +1,14 @@
 -- What 71, 73 and 74 ask, as the rows of the table say it.
 use Prim.Native.Nat.{ℕ, _+_, _≤_, _<_}
-use mathlib.Core.Path.{_≡_, refl, sym, _∙_}
+use mathlib.Core.Path.{_≡_, refl}
 use mathlib.Core.Logic.{_≢_}
 use mathlib.Core.Bool.{Bool, true, false, _||_, not, or-true, true≢false}
 use native.Mathlib.Omega.{arith}
 use native.Mathlib.Decide.{decLt, decLe}
-use lib.Dec.{eqb}
 use lib.ListN.{length}
 use borrow.Author.Tests.{le-leb, lt-leb, eq-eqb, ne-eqb, eqb-true, not-false}
 use Rattle.sender.specs.declared.state.Sender.{Sender}
-use Rattle.sender.specs.Blocks.{blockCount, blocksOn, outOfRange}
+use Rattle.sender.specs.Blocks.{outOfRange}
 use Rattle.sender.specs.Sender.{givenOn, beginRefusal, mostOn, allAtMost, callsCanGive, NextCall, isNotOurs, endingSent, callRefusal}
 use Rattle.sender.specs.SenderRows.{InRange, Outside, IsOurs, blocksFor}
 use Rattle.sender.proofs.BeginRange.{out-of-range, within-range, in-range}

@@ -1,26 +1,26 @@
 -- One call on a sender that calls give: it leaves such a sender, and what it writes on a channel are the bytes of the channel's next block.
-use Prim.Native.Nat.{ℕ, zero, suc, _+_, _≤_, _<_}
-use mathlib.Core.Path.{_≡_, refl, sym, ap, _∙_}
+use Prim.Native.Nat.{ℕ, _+_, _≤_, _<_}
+use mathlib.Core.Path.{_≡_, refl, sym, _∙_}
 use mathlib.Core.Logic.{_⊎_, inl, inr}
 use mathlib.Core.Bool.{Bool, true, false, cond, not, and-eq-true-iff}
-use mathlib.Core.List.{List, [], _∷_, _++_, append-nil}
+use mathlib.Core.List.{List, [], _++_, append-nil}
 use native.Mathlib.Omega.{arith}
 use native.Mathlib.Decide.{decLt, ℕ-discrete}
 use native.Mathlib.Nat.{zero-add}
 use native.Mathlib.Numerals.{add-one}
 use lib.Dec.{eqb}
-use lib.ListN.{length, getD, take, drop, set, length-set}
+use lib.ListN.{length, take, drop, length-set}
 use lib.Seq.{getD-set-same, getD-set-other, take-append-seam}
 use borrow.Author.Tests.{eq-eqb, ne-eqb, not-true}
-use Rattle.answers.specs.Written.{writtenBytes, writtenNumber}
-use Rattle.answers.proofs.WrittenBy.{first-zero, room-zero}
+use Rattle.answers.specs.Written.{writtenBytes}
+use Rattle.answers.proofs.WrittenBy.{first-zero}
 use Rattle.sender.specs.declared.state.Sender.{Sender}
 use Rattle.sender.specs.Blocks.{outOfRange, blockOn}
-use Rattle.sender.specs.Sender.{givenOn, mostOn, allAtMost, callsCanGive, NextCall, bytesOf, nextBytes, callRefusal, nextRefusal, nextOf, nextAfter, movedOn, senderAfter}
+use Rattle.sender.specs.Sender.{givenOn, mostOn, allAtMost, callsCanGive, NextCall, bytesOf, nextBytes, callRefusal, nextRefusal, nextAfter, movedOn, senderAfter}
 use Rattle.sender.specs.SenderRows.{InRange, IsOurs, blocksFor}
 use Rattle.sender.specs.Calls.{wroteOn}
 use Rattle.sender.proofs.BeginRange.{within-range}
-use Rattle.sender.proofs.AtMost.{most-below, each-at-most, all-at-most}
+use Rattle.sender.proofs.AtMost.{each-at-most, all-at-most}
 use Rattle.sender.proofs.Judged.{range-of, most-for, accepted}
 use Rattle.sender.proofs.ChannelRun.{bytesOn, bytes-next}
 use Rattle.sender.proofs.Answered.{refuses, writes}

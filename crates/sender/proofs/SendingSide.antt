@@ -1,5 +1,4 @@
 -- Document 02, Item 1, whole.
-use native.Mathlib.Omega.{arith}
 use Rattle.sender.specs.SendingSide.{SendingSide}
 use Rattle.sender.proofs.BeginRange.{in-range}
 use Rattle.sender.proofs.BlockRows.{blocks-are, endings-are}

@@ -1,11 +1,9 @@
 -- Lists of calls: what all of them wrote on a channel are the bytes of as many of its blocks as it has been given.
 use Prim.Native.Nat.{ℕ, zero, suc, _+_, _≤_, _<_}
 use mathlib.Core.Path.{_≡_, refl, sym, ap, _∙_}
-use mathlib.Core.Bool.{cond}
 use mathlib.Core.List.{List, [], _∷_, _++_, append-assoc, append-nil}
 use native.Mathlib.Omega.{arith}
 use native.Mathlib.Decide.{decLt, decLe}
-use lib.Dec.{ltb}
 use lib.ListN.{length, getD, replicate, length-replicate}
 use borrow.Author.Tests.{lt-ltb, le-ltb}
 use Rattle.answers.specs.Written.{writtenNumber}
@@ -13,15 +11,13 @@ use Rattle.transfer.specs.Block.{blockBytes}
 use Rattle.transfer.specs.Sending.{sentOn}
 use Rattle.sender.specs.declared.state.Sender.{Sender}
 use Rattle.sender.specs.Blocks.{blockCount, channelBlocks, sending, blocksOn}
-use Rattle.sender.specs.Sender.{givenOn, begun, beginRefusal, beginOf, mostOn, NextCall, nextCall, nextRefusal, callRefusal, nextOf, senderAfter}
+use Rattle.sender.specs.Sender.{givenOn, begun, beginRefusal, beginOf, NextCall, nextCall, nextOf, senderAfter}
 use Rattle.sender.specs.SenderRows.{IsOurs, nextBlock}
 use Rattle.sender.specs.Calls.{afterCalls, writtenOn, EachLends}
 use Rattle.sender.specs.Sends.{numberFor, SendsOn, EndingsSent, Sends}
 use Rattle.sender.proofs.BeginRange.{in-range, within-range}
 use Rattle.sender.proofs.AtMost.{most-below}
 use Rattle.sender.proofs.ChannelRun.{firstOn, bytesOn, run-is, firstOn-front, firstOn-longer}
-use Rattle.sender.proofs.Judged.{not-refused, refused-74}
-use Rattle.sender.proofs.Answered.{number-call, number-55, number-0}
 use Rattle.sender.proofs.SenderRows.{rows}
 use Rattle.sender.proofs.SenderSteps.{Handed, test-holds, kept, not-above, sent-next}
 use Rattle.sender.proofs.SentFile.{on-channel}

@@ -6,7 +6,7 @@ ghost use Prim.Native.Nat.{ℕ, _+_, _/_, _%_, _^_, _≤_, _<_};
 ghost use lib.Dec.{ltb, eqb};
 ghost use lib.ListN.{length, take, drop};
 ghost use Rattle.eblock.specs.Header.{headerBytes, refusalOf, secondField};
-ghost use Rattle.sender.specs.Blocks.{blockCount, blockStart, blockLength, ending, blocksOn, blockOn};
+ghost use Rattle.sender.specs.Blocks.{blockCount, blockStart, blockLength, blockOn};
 ghost use Rattle.sender.specs.Sender.{mostOn, allAtMost};
 
 // A block's header, and with it where its bytes are: as many as `length` says, from the place `third` on.

@@ -1,8 +1,7 @@
 -- `next::is_not_ours`.
-use mathlib.Core.Path.{_≡_, refl, sym, ap, _∙_}
+use mathlib.Core.Path.{sym, ap, _∙_}
 use mathlib.Core.Bool.{not}
 use native.Mathlib.Omega.{arith}
-use Rattle.sender.specs.Blocks.{outOfRange}
 use Rattle.sender.specs.Sender.{nextCall}
 use Rattle.sender.proofs.Judged.{wrong-when, wrong-count, wrong-size, wrong-file, by-given, range-of}
 use borrow.Author.Needs.{needs}
