@@ -1,7 +1,6 @@
 -- The sending of a file is well-formed, given at most 4,096 blocks with bytes and as many pairs.
 use Prim.Native.Nat.{ℕ, zero, suc, _+_, _*_, _^_, _≤_, _<_}
 use mathlib.Core.Path.{_≡_, refl, sym, ap, _∙_}
-use mathlib.Core.Logic.{_⊎_, inl, inr}
 use mathlib.Core.Bool.{Bool, true, false, cond}
 use mathlib.Core.List.{List, [], _∷_, _++_}
 use native.Mathlib.Omega.{arith}
@@ -17,8 +16,10 @@ use Rattle.eblock.proofs.HeaderFields.{length-bytesOf, third-reads-back}
 use Rattle.transfer.specs.Transfer.{sum}
 use Rattle.transfer.specs.Header.{isEodc, endsChannel}
 use Rattle.transfer.specs.Block.{Block, block, sizeOf, countsIn}
-use Rattle.transfer.specs.Sending.{SentChannel, WellFormedBlock, WellFormedBlocks, EndsAtLast, WellFormedChannel, WellFormedChannels, sentBlocks, timesSentOn, payloadsHolding, nonEmptyPayloads, WellFormed}
-use Rattle.transfer.proofs.BlockCounts.{sum-counts, at-most-one}
+use Rattle.transfer.specs.Sending.{SentChannel, WellFormedBlock, WellFormedBlocks, WellFormedChannel, WellFormedChannels, sentBlocks, timesSentOn, payloadsHolding, nonEmptyPayloads, WellFormed}
+use Rattle.transfer.proofs.BlockCounts.{sum-counts, exactly-one}
+use Rattle.transfer.proofs.ArrivalWhole.{sent-append}
+use Rattle.transfer.proofs.CompleteSending.{ends-last}
 use Rattle.transfer.proofs.BlockCut.{Done, done-append}
 use Rattle.sender.specs.Blocks.{blockCount, blockLength, dataBlock, ending, dataBlocksOn, channelBlocks, channelsBelow, sending}
 use Rattle.sender.proofs.BlockNumbers.{starts-inside, block-there}
@@ -62,28 +63,17 @@ ending-well F count c =
 
 -- ---- one channel
 
--- of two lists joined
-blocks-append : (F : ℕ) (a b : List Block) → WellFormedBlocks F a → WellFormedBlocks F b → WellFormedBlocks F (a ++ b)
-blocks-append F [] b h k = k
-blocks-append F (x ∷ a) b h k = (h .0, blocks-append F a b (h .1) k)
-
--- blocks that don't end the channel, then one that does
-ends-behind : (xs : List Block) (y : Block) → Done xs → endsChannel (y .head) ≡ true → EndsAtLast (xs ++ (y ∷ []))
-ends-behind [] y d e = e
-ends-behind (x ∷ []) y d e = (d .2, e)
-ends-behind (x ∷ x₁ ∷ xs) y d e = (d .2, ends-behind (x₁ ∷ xs) y (d .3) e)
-
 -- on channel c
 channel-well : (file : List ℕ) (count size c : ℕ) → 0 < size → length file < 2 ^ 64 → c < 64 → WellFormedChannel (length file) (record { number = c; blocks = channelBlocks file count size c })
 channel-well file count size c z l h =
     record {
       channel = h;
       each =
-          each-channel (WellFormedBlocks (length file)) tt (blocks-append (length file)) file count size (λ k m. (data-well file size k z l m, tt))
+          each-channel (WellFormedBlocks (length file)) tt (sent-append (length file)) file count size (λ k m. (data-well file size k z l m, tt))
           (λ d. (ending-well (length file) count d, tt)) c;
       ends =
           unfold channelBlocks in
-          ends-behind (dataBlocksOn file count size c (blockCount (length file) size)) (ending count c)
+          ends-last (dataBlocksOn file count size c (blockCount (length file) size)) (ending count c)
           (each-on Done tt done-append file count size c (blockCount (length file) size) (λ k m. data-done file size k z l m))
           (ending-is (λ h. endsChannel h ≡ true) count c (unfold headerBytes has in refl) (unfold headerBytes has in refl));
     }
@@ -144,14 +134,7 @@ counts-added g file count size h m =
 
 -- one count in all, that of the channels
 one-count : (file : List ℕ) (count size : ℕ) → 0 < count → count ≤ 64 → countsIn (sentBlocks (sending file count size)) ≡ count ∷ []
-one-count file count size h m = go (at-most-one count counts (λ g. omega (arith, counts-added g file count size h m)))
-  where
-    counts : List ℕ
-    counts = countsIn (sentBlocks (sending file count size))
-
-    go : (counts ≡ []) ⊎ (counts ≡ count ∷ []) → counts ≡ count ∷ []
-    go (inl e) = let nothing : sum {A = ℕ} (λ k. 1) [] ≡ 0 = unfold sum in refl in absurd (omega (arith, counts-added (λ k. 1) file count size h m, ap (sum (λ k. 1)) e, nothing))
-    go (inr e) = e
+one-count file count size h m = exactly-one count (countsIn (sentBlocks (sending file count size))) (λ g. counts-added g file count size h m)
 
 -- ---- the sending
 

@@ -1,31 +1,13 @@
 // The beginning of a sending.
-use crate::state::CHANNELS;
-use crate::state::SIZE_LIMIT;
+use crate::range::out_of_range;
 use crate::state::Sender;
 ghost use mathlib.Core.Path.{_≡_};
-ghost use Rattle.sender.specs.Blocks.{outOfRange};
 ghost use Rattle.sender.specs.Sender.{begun, beginRefusal, beginOf};
 
 // The sender that a beginning gives, and the number by which it was refused, 0 where it was not.
 pub struct Begun {
     pub sender: Sender,
     pub refused: u8,
-}
-
-// Whether the channel count is outside 1 to 64, or the block size outside 1 to 65,536.
-pub fn out_of_range(count: u64, size: u64) -> bool
-    ensures { λ r. ⌜ r ≡ outOfRange count size ⌝ }
-{
-    if count == 0 {
-        return true;
-    }
-    if (CHANNELS as u64) < count {
-        return true;
-    }
-    if size == 0 {
-        return true;
-    }
-    SIZE_LIMIT < size
 }
 
 // Nothing given on any channel.

@@ -2,4 +2,5 @@
 pub mod begin;
 pub mod next;
 mod plan;
+mod range;
 pub mod state;

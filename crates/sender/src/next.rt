@@ -1,7 +1,7 @@
 // The next block of a channel.
-use crate::begin::out_of_range;
 use crate::plan;
 use crate::plan::Outline;
+use crate::range::out_of_range;
 use crate::state::Sender;
 use answers::written::Written;
 use copies::copy;

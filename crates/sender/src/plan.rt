@@ -3,7 +3,7 @@ ghost use mathlib.Core.Path.{_≡_};
 ghost use mathlib.Core.Bool.{cond};
 ghost use mathlib.Core.List.{List};
 ghost use Prim.Native.Nat.{ℕ, _+_, _/_, _%_, _^_, _≤_, _<_};
-ghost use lib.Dec.{ltb, eqb};
+ghost use lib.Dec.{ltb};
 ghost use lib.ListN.{length, take, drop};
 ghost use Rattle.eblock.specs.Header.{headerBytes, refusalOf, secondField};
 ghost use Rattle.sender.specs.Blocks.{blockCount, blockStart, blockLength, blockOn};
@@ -90,10 +90,15 @@ fn data_outline(len: u64, size: u64, k: u64) -> Outline
     }
 }
 
-// The ending of channel c.
-fn ending_outline(count: u64, c: u64) -> Outline
-    ensures { λ r. ⌜ (r .descriptor ≡ cond (eqb c 0) 72 8) × (r .length ≡ 0) × (r .third ≡ cond (eqb c 0) count 0) ⌝ }
+// The block that channel c is given after i others, at most as many as it has.
+pub fn next_outline(len: u64, count: u64, size: u64, c: u64, i: u64) -> Outline
+    requires { ⌜ (c < count) × (count ≤ 64) × (0 < size) × (len < 2 ^ 63) × (i < mostOn len count size c) ⌝ }
+    ensures { λ r. ⌜ (refusalOf (r .descriptor) (r .third) ≡ 0) × (0 < r .length → r .third + r .length ≤ len) × ((file : List ℕ) → length file ≡ len → (headerBytes (r .descriptor) (secondField (r .descriptor) (r .length)) (r .third) ≡ blockOn file count size c i .head) × (take (r .length) (drop (r .third) file) ≡ blockOn file count size c i .body)) ⌝ }
 {
+    let most = most_on(len, count, size, c);
+    if i + 1 < most {
+        return data_outline(len, size, i * count + c);
+    }
     if c == 0 {
         return Outline {
             descriptor: 72,
@@ -106,16 +111,4 @@ fn ending_outline(count: u64, c: u64) -> Outline
         length: 0,
         third: 0,
     }
-}
-
-// The block that channel c is given after i others, at most as many as it has.
-pub fn next_outline(len: u64, count: u64, size: u64, c: u64, i: u64) -> Outline
-    requires { ⌜ (c < count) × (count ≤ 64) × (0 < size) × (len < 2 ^ 63) × (i < mostOn len count size c) ⌝ }
-    ensures { λ r. ⌜ (refusalOf (r .descriptor) (r .third) ≡ 0) × (0 < r .length → r .third + r .length ≤ len) × ((file : List ℕ) → length file ≡ len → (headerBytes (r .descriptor) (secondField (r .descriptor) (r .length)) (r .third) ≡ blockOn file count size c i .head) × (take (r .length) (drop (r .third) file) ≡ blockOn file count size c i .body)) ⌝ }
-{
-    let most = most_on(len, count, size, c);
-    if i + 1 < most {
-        return data_outline(len, size, i * count + c);
-    }
-    ending_outline(count, c)
 }

@@ -30,7 +30,7 @@ use Rattle.transfer.proofs.SendingPieces.{offered-append, some-offered,
 
 -- ---- what is sent
 
-sent-append : (F : ℕ) (a b : List Block) → WellFormedBlocks F a → WellFormedBlocks F b → WellFormedBlocks F (a ++ b)
+pub sent-append : (F : ℕ) (a b : List Block) → WellFormedBlocks F a → WellFormedBlocks F b → WellFormedBlocks F (a ++ b)
 sent-append F [] b h k = k
 sent-append F (x ∷ a) b h k = (h .0, sent-append F a b (h .1) k)
 

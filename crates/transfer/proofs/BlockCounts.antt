@@ -64,3 +64,11 @@ at-most-one n (k ∷ []) h = inr (same (ℕ-discrete k n))
     same (yes e) = rw e
     same (no e) = let z : _≤_ 1 0 = rw (ne-eqb k n e, eq-eqb n n refl) at (h (λ m. cond (eqb m n) 0 1)) in absurd (omega arith)
 at-most-one n (k ∷ m ∷ cs) h = absurd (omega (arith, h (λ x. 1)))
+
+pub exactly-one : (n : ℕ) (cs : List ℕ) → ((f : ℕ → ℕ) → sum f cs ≡ f n) → cs ≡ n ∷ []
+unfolding sum
+exactly-one n cs h = go (at-most-one n cs (λ f. omega (arith, h f)))
+  where
+    go : (cs ≡ []) ⊎ (cs ≡ n ∷ []) → cs ≡ n ∷ []
+    go (inl e) = absurd (omega (arith, rw e at (h (λ x. 1))))
+    go (inr e) = e

@@ -78,7 +78,7 @@ sent-blocks F (x ∷ xs) w z b = (
   sent-blocks F xs (w .2) (omega (arith, z)) (λ q h. b q (omega (arith, h))),
 )
 
-ends-last : (done : List Block) (x : Block) → Done done → endsChannel (x .head) ≡ true → EndsAtLast (done ++ (x ∷ []))
+pub ends-last : (done : List Block) (x : Block) → Done done → endsChannel (x .head) ≡ true → EndsAtLast (done ++ (x ∷ []))
 ends-last [] x d z = z
 ends-last (y ∷ []) x d z = (d .2, z)
 ends-last (y ∷ v ∷ done) x d z = (d .2, ends-last (v ∷ done) x (d .3) z)

@@ -17,7 +17,7 @@ use Rattle.transfer.specs.Block.{Block, sizeOf, cutBy, hasEnded, withPay
 use Rattle.transfer.specs.Tally.{Stream, intact, taken, accepted, blocksOf, countsOf, oneIf, usedIn, endedIn}
 use Rattle.transfer.specs.Sending.{SentChannel, WellFormedBlocks, WellFormedChannels, sentBlocks, nonEmptyPayloads, WellFormed}
 use Rattle.transfer.proofs.BlockClaims.{sum-append, hitBy, cover}
-use Rattle.transfer.proofs.BlockCounts.{sum-counts, at-most-one}
+use Rattle.transfer.proofs.BlockCounts.{sum-counts, exactly-one}
 use Rattle.transfer.proofs.BlockPayloads.{withPayloads-append, Bodies, bodies-append, bodies-left, withPayloads-moved}
 use Rattle.transfer.proofs.TallyStreams.{streamIn, Split, split}
 use Rattle.transfer.proofs.TallyInvariant.{AllSound}
@@ -46,7 +46,7 @@ sendable F R before s w =
       each = each-all F s (w .each);
       used-most = omega (arith, sum-all F (λ (s : Stream). oneIf (isNonEmpty (taken s))) refl s (w .each) (w .once), used-sentChannels s);
       ended-are = sum-all F (λ (s : Stream). oneIf (hasEnded (accepted s))) (unfold accepted cutBy hasEnded in refl) s (w .each) (w .once) ∙ ended-sentChannels F s (w .each);
-      counts-are = one-count (at-most-one (length s) (countsOf (streamsOf s)) (λ f. omega (arith, added f)));
+      counts-are = exactly-one (length s) (countsOf (streamsOf s)) added;
       apart = λ q. omega (arith, w .apart q, sum-sent F (hitBy q) s (w .each) (w .once));
       room = omega (arith, w .room, sum-sent F (λ (x : Block). cond (eqb (sizeOf x) 0) 0 1) s (w .each) (w .once));
     }
@@ -56,10 +56,6 @@ sendable F R before s w =
         let only : sum f (length s ∷ []) ≡ f (length s) = unfold sum in omega arith in
         sum-counts f (blocksOf (streamsOf s)) ∙ sum-sent F (λ (x : Block). cond (isEodc (x .head)) (f (thirdOf (x .head))) 0) s (w .each) (w .once) ∙ sym (sum-counts f (sentBlocks s))
         ∙ ap (sum f) (w .one-count) ∙ only
-
-    one-count : (countsOf (streamsOf s) ≡ []) ⊎ (countsOf (streamsOf s) ≡ length s ∷ []) → countsOf (streamsOf s) ≡ length s ∷ []
-    one-count (inl e) = let none : sum {A = ℕ} (λ k. 1) [] ≡ 0 = unfold sum in refl in absurd (omega (arith, added (λ k. 1), ap (sum (λ k. 1)) e, none))
-    one-count (inr e) = e
 
 -- ---- the file
 

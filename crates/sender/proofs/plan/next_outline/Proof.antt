@@ -7,7 +7,7 @@ use Rattle.sender.specs.Sender.{mostOn}
 use Rattle.sender.proofs.BlockNumbers.{count-most}
 use Rattle.sender.proofs.ChannelShares.{share-below}
 use Rattle.sender.proofs.AtMost.{most-below}
-use Rattle.sender.proofs.Outlines.{data-is, data-accepted, ending-is, ending-accepted}
+use Rattle.sender.proofs.Outlines.{data-is, data-accepted, first-ending, other-ending, count-accepted, eight-accepted}
 use borrow.Author.Needs.{needs}
 use Rattle.sender.proofs.plan.next_outline.Statement.{statement}
 use Rattle.sender.proofs.plan.next_outline.Tie as tie
@@ -18,6 +18,10 @@ most-on-requires c κs = search needs
 -- the block has its number in the file where the channel has not been given all
 there : (len count size c i m : ℕ) → c < count → m ≡ mostOn len count size c → i + 1 < m → i * count + c < blockCount len size
 there len count size c i m h e k = share-below (blockCount len size) count c i h (omega (arith, most-below len count size c h, e, k))
+
+-- all of the channel's blocks are given
+given : (len count size c i m : ℕ) → c < count → m ≡ mostOn len count size c → m ≤ i + 1 → blocksOn (blockCount len size) count c ≤ i
+given len count size c i m h e k = omega (arith, most-below len count size c h, e, k)
 
 add-if1 : tie.Need-add-if1
 add-if1 c = omega (arith, c .most-on .ensures)
@@ -48,16 +52,17 @@ returns c =
     let few : x .i < blocksOn (blockCount (x .len) (x .size)) (x .count) (x .c) = omega (arith, c .before .if1 .taken, m .most-on .ensures, most-below (x .len) (x .count) (x .size) (x .c) (omega arith)) in
     (data-accepted _ _ (o .0), (λ h. o .3), (λ file e. data-is file (x .count) (x .size) (x .c) (x .i) _ _ _ (rw e few) (o .0) (rw e (o .1)) (o .2)))
 
-ending-outline-requires : tie.Need-ending-outline-requires
-ending-outline-requires c κs = search needs
-
 returns-2 : tie.Need-returns-2
 returns-2 c =
     let m = c .before .before in
     let x = m .before .args in
-    let o = c .ending-outline .ensures in
-    let all : blocksOn (blockCount (x .len) (x .size)) (x .count) (x .c) ≤ x .i = omega (arith, c .before .if1 .left, m .most-on .ensures, most-below (x .len) (x .count) (x .size) (x .c) (omega arith)) in
-    (ending-accepted (x .count) (x .c) _ _ (omega arith) (omega arith) (o .0) (o .2), (λ h. absurd (omega (arith, h, o .1))), (λ file e. ending-is file (x .count) (x .size) (x .c) (x .i) _ _ _ (rw e all) (o .0) (o .1) (o .2)))
+    (count-accepted (x .count) (omega arith) (omega arith), (λ h. absurd (omega (arith, h))), (λ file e. first-ending file (x .count) (x .size) (x .c) (x .i) (rw e (given (x .len) (x .count) (x .size) (x .c) (x .i) (m .most-on .result) (omega arith) (m .most-on .ensures) (c .before .if1 .left))) (c .if2 .taken)))
+
+returns-3 : tie.Need-returns-3
+returns-3 c =
+    let m = c .before .before in
+    let x = m .before .args in
+    (eight-accepted, (λ h. absurd (omega (arith, h))), (λ file e. other-ending file (x .count) (x .size) (x .c) (x .i) (rw e (given (x .len) (x .count) (x .size) (x .c) (x .i) (m .most-on .result) (omega arith) (m .most-on .ensures) (c .before .if1 .left))) (c .if2 .left)))
 
 pub next-outline-spec : {M : Type 1} → statement M
 next-outline-spec =
@@ -69,5 +74,5 @@ next-outline-spec =
     add-data-outline
     data-outline-requires
     returns
-    ending-outline-requires
-    returns-2)
+    returns-2
+    returns-3)

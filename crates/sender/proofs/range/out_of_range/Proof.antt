@@ -1,8 +1,8 @@
--- `begin::out_of_range`.
+-- `range::out_of_range`.
 use borrow.Author.Tests.{lt-ltb, le-ltb, eq-eqb, ne-eqb}
 use Rattle.sender.specs.Blocks.{outOfRange}
-use Rattle.sender.proofs.begin.out_of_range.Statement.{statement}
-use Rattle.sender.proofs.begin.out_of_range.Tie as tie
+use Rattle.sender.proofs.range.out_of_range.Statement.{statement}
+use Rattle.sender.proofs.range.out_of_range.Tie as tie
 
 returns : tie.Need-returns
 unfolding outOfRange
