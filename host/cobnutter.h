@@ -1,6 +1,6 @@
 /*
- * The receiving side of GridFTP's extended block mode (MODE E), over functions that are proved to answer as defined.
- * Link libhost.a, which `rt staticlib host` writes; it needs nothing but the C library.
+ * Both sides of GridFTP's extended block mode (MODE E), receiving and sending, over functions that are proved to answer
+ * as defined. Link libhost.a, which `rt staticlib host` writes; it needs nothing but the C library.
  *
  * Memory. The host owns everything. A run of bytes or numbers is a pointer and how many there are. A pointer is never
  * null, not even with the length 0, and numbers are aligned as uint64_t is. What is lent to one call may not overlap,
@@ -24,6 +24,13 @@
  * ends, less than the piece may be taken: the rest belongs to the next transfer on that cached connection. A cached
  * connection that the sender closes (descriptor 4) is not fed into the next transfer.
  *
+ * A sender goes in by value too, and the answer holds the next one. It is begun with the file's length, a count of
+ * channels, 1 to COB_CHANNELS, and a block size, 1 to COB_BLOCK_LIMIT. Each call for the next block is handed the same
+ * count and size and lent the same file, unchanged until all is sent. It writes a header and the bytes of its block;
+ * COB_HEADER_LENGTH + size bytes are always enough. After its last block each channel gets its ending, and after that
+ * its calls are refused with 74. The blocks of one channel go out on one connection in their order; between channels
+ * any order is good.
+ *
  * Numbers. `refused` is 0 where a call is not refused. In every answer a field that means nothing in a case is 0.
  *
  *      1  transfer, file and ledger do not fit, or a ledger that is to be written breaks its rule
@@ -41,6 +48,8 @@
  *     55  too few bytes lent for the whole output
  *     61  saved ledger cut short, wrong length     62  another kind of record
  *     63  pairs not whole, or against the rule     64  more pairs than the ledger has
+ *     71  count or size out of range or not the sender's, another file length, or a sender that no calls give
+ *     73  channel at or above the count            74  the channel's ending is written already
  *
  * A peer's fault is no refusal: the call is answered, the verdict is COB_BROKEN, and the transfer has the number and the
  * channel. The header reader and writer refuse with 11, 12, 13 and 15 too.
@@ -51,7 +60,7 @@
  *     16  payload past the file's end              17  payload shares a byte with another
  *     18  no pair left in the ledger               19  a channel more than was counted
  *
- * By 1 to 5, 21 to 36, 43, 53 to 64, and the header writer's 11, 12, 13 and 15 nothing that was lent changes. By 41 and 42
+ * By 1 to 5, 21 to 36, 43, 53 to 74, and the header writer's 11, 12, 13 and 15 nothing that was lent changes. By 41 and 42
  * the whole list becomes 0, by 51 and 52 the whole ledger.
  */
 #ifndef COBNUTTER_H
@@ -67,6 +76,8 @@ extern "C" {
 #define COB_CHANNELS 64
 #define COB_LEDGER_LIMIT 8192
 #define COB_HEADER_LENGTH 17
+/* The most bytes of the file in one block that is sent. */
+#define COB_BLOCK_LIMIT 65536
 /* The fewest entries of a list for host-ports, and the most host-ports of a text. */
 #define COB_HOST_LIMIT 64
 /* More bytes than any screen line has. */
@@ -128,6 +139,33 @@ uint64_t cob_stored(cob_transfer transfer, const uint64_t *ledger, size_t ledger
 /* Ends with LF, and has no 0 after it. */
 cob_written cob_screen_line(cob_transfer transfer, const uint64_t *ledger, size_t ledger_len, uint8_t *out,
                             size_t out_len);
+
+/* ---- sending a file */
+
+typedef struct cob_sender {
+    uint64_t len;                 /* the file's length */
+    uint64_t count;               /* of channels */
+    uint64_t size;                /* of a block */
+    uint64_t given[COB_CHANNELS]; /* blocks that each channel was given, its ending counted as one */
+} cob_sender;
+
+typedef struct cob_begun {
+    cob_sender sender; /* all 0 where it is refused */
+    uint8_t refused;
+} cob_begun;
+
+typedef struct cob_sent {
+    cob_sender sender; /* as it was handed in where it is refused */
+    size_t length;     /* bytes written; those after them are unchanged */
+    uint8_t refused;
+} cob_sent;
+
+/* Refuses with 71 alone. */
+cob_begun cob_sender_begin(uint64_t len, uint64_t count, uint64_t size);
+
+/* Block k of the file goes on channel k mod count. Refuses with 71, 73, 74 and 55, in this order. */
+cob_sent cob_sender_next(cob_sender sender, uint64_t channel, uint64_t count, uint64_t size, const uint8_t *file,
+                         size_t file_len, uint8_t *out, size_t out_len);
 
 /* ---- block headers */
 

@@ -1,4 +1,4 @@
-/* The layout of every struct, and every function called from C, document 01's screen lines printed. */
+/* The layout of every struct, and every function called from C: the screen lines of document 01, and of a file sent. */
 #include "../cobnutter.h"
 
 #include <stdio.h>
@@ -36,6 +36,21 @@ SIZE(cob_written, 16);
 AT(cob_written, length, 0);
 AT(cob_written, refused, 8);
 
+SIZE(cob_sender, 536);
+AT(cob_sender, len, 0);
+AT(cob_sender, count, 8);
+AT(cob_sender, size, 16);
+AT(cob_sender, given, 24);
+
+SIZE(cob_begun, 544);
+AT(cob_begun, sender, 0);
+AT(cob_begun, refused, 536);
+
+SIZE(cob_sent, 552);
+AT(cob_sent, sender, 0);
+AT(cob_sent, length, 536);
+AT(cob_sent, refused, 544);
+
 SIZE(cob_fields, 24);
 AT(cob_fields, length, 0);
 AT(cob_fields, third, 8);
@@ -66,23 +81,55 @@ static cob_transfer transfer;
 static uint8_t file[8];
 static uint64_t ledger[2];
 
-/* A block on a channel, then the screen line. */
-static int block(uint64_t channel, uint8_t descriptor, uint64_t third, const char *payload)
+/* A piece on a channel, then the screen line. */
+static int piece(uint64_t channel, const uint8_t *bytes, size_t length)
 {
-    uint8_t piece[COB_HEADER_LENGTH + sizeof file];
     uint8_t line[COB_SCREEN_LINE];
-    size_t length = strlen(payload);
-    cob_written header = cob_header_write(descriptor, length, third, piece, sizeof piece);
-    memcpy(piece + header.length, payload, length);
-    cob_received received = cob_receive(transfer, channel, piece, header.length + length, file, sizeof file, ledger, 2);
+    cob_received received = cob_receive(transfer, channel, bytes, length, file, sizeof file, ledger, 2);
     transfer = received.transfer;
     cob_written screen = cob_screen_line(transfer, ledger, 2, line, sizeof line);
     fwrite(line, 1, screen.length, stdout);
-    return header.refused == 0 && received.refused == 0 && received.taken == header.length + length &&
-           received.verdict == cob_verdict(transfer);
+    return received.refused == 0 && received.taken == length && received.verdict == cob_verdict(transfer);
+}
+
+static int block(uint64_t channel, uint8_t descriptor, uint64_t third, const char *payload)
+{
+    uint8_t bytes[COB_HEADER_LENGTH + sizeof file];
+    size_t length = strlen(payload);
+    cob_written header = cob_header_write(descriptor, length, third, bytes, sizeof bytes);
+    memcpy(bytes + header.length, payload, length);
+    return header.refused == 0 && piece(channel, bytes, header.length + length);
 }
 
 #define TEXT(s) (const uint8_t *)(s), sizeof(s) - 1
+#define SENT "321dialp"
+
+static cob_sender sender;
+
+/* All blocks of a channel, into the transfer. */
+static int send_channel(uint64_t channel)
+{
+    uint8_t out[COB_HEADER_LENGTH + 3];
+    cob_sent sent = cob_sender_next(sender, channel, 2, 3, TEXT(SENT), out, sizeof out);
+    while (sent.refused == 0 && piece(channel, out, sent.length))
+        sent = cob_sender_next(sent.sender, channel, 2, 3, TEXT(SENT), out, sizeof out);
+    sender = sent.sender;
+    return sent.refused == 74;
+}
+
+static int sending(void)
+{
+    uint8_t out[COB_HEADER_LENGTH];
+    cob_started started = cob_start(sizeof file, ledger, 2);
+    cob_begun begun = cob_sender_begin(sizeof file, 2, 3);
+    transfer = started.transfer;
+    sender = begun.sender;
+    return begun.refused == 0 && cob_sender_begin(sizeof file, 65, 3).refused == 71 &&
+           cob_sender_next(sender, 0, 2, 4, TEXT(SENT), out, sizeof out).refused == 71 &&
+           cob_sender_next(sender, 2, 2, 3, TEXT(SENT), out, sizeof out).refused == 73 &&
+           cob_sender_next(sender, 0, 2, 3, TEXT(SENT), out, sizeof out).refused == 55 && send_channel(1) &&
+           send_channel(0) && sender.given[0] == 3 && sender.given[1] == 2 && memcmp(file, SENT, sizeof file) == 0;
+}
 
 static int control(void)
 {
@@ -118,5 +165,5 @@ int main(void)
     transfer = started.transfer;
     int good = started.refused == 0 && block(0, 0, 0, "plai") && block(1, 8, 4, "d123") && block(0, 72, 2, "") &&
                memcmp(file, "plaid123", sizeof file) == 0 && cob_stored(transfer, ledger, 2) == sizeof file;
-    return good && control() && forms() ? 0 : 1;
+    return good && sending() && control() && forms() ? 0 : 1;
 }

@@ -1,6 +1,7 @@
 pub mod Received
 pub mod Header
 pub mod Written
+pub mod Sending
 pub mod Line
 pub mod Hosts
 pub mod Numbers

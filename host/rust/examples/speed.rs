@@ -1,5 +1,5 @@
-//! Bytes per second of receive, beside a plain copy of the same payload bytes to their places and beside the second
-//! receiver of the tests: `cargo run --release --example speed`.
+//! Bytes per second of receiving and of sending, beside a plain copy of the same payload bytes to their places and beside
+//! the second reading of the tests: `cargo run --release --example speed`.
 
 #[path = "../tests/compare/random.rs"]
 #[allow(dead_code)]
@@ -8,9 +8,10 @@ mod random;
 #[allow(dead_code)]
 mod second;
 
-use cobnutter::Transfer;
+use cobnutter::{Sender, Transfer};
 use random::Random;
 use second::block::{Header, LENGTH};
+use std::hint::black_box;
 use std::ops::Range;
 use std::time::{Duration, Instant};
 
@@ -146,37 +147,88 @@ fn second_receiver(arrival: &Arrival, file: &mut [u8], ledger: &mut [u64]) {
 }
 
 /// Brings the pieces into the file, with a ledger.
-type Work = fn(&Arrival, &mut [u8], &mut [u64]);
+type Receiving = fn(&Arrival, &mut [u8], &mut [u64]);
 
-/// The best time of each, the three taking turns so that a busy machine disturbs them alike.
-fn measure(arrival: &Arrival, pairs: usize) -> [Duration; 3] {
-    let works: [Work; 3] = [copy, library, second_receiver];
+fn receiving(arrival: &Arrival, pairs: usize) -> [Duration; 3] {
+    let works: [Receiving; 3] = [copy, library, second_receiver];
     let mut file = vec![0; arrival.file.len()];
     let mut ledger = vec![0; 2 * pairs];
+    best_times(|work, run| {
+        file.fill(0);
+        let start = Instant::now();
+        works[work](arrival, &mut file, &mut ledger);
+        let time = start.elapsed();
+        assert!(run > 0 || file == arrival.file);
+        time
+    })
+}
+
+fn copy_blocks(file: &[u8], size: usize, out: &mut [u8]) {
+    for block in file.chunks(size) {
+        out[LENGTH..][..block.len()].copy_from_slice(block);
+        black_box(&mut *out);
+    }
+}
+
+fn library_sender(file: &[u8], size: usize, out: &mut [u8]) {
+    let (count, size) = (CHANNELS as u64, size as u64);
+    let mut sender = Sender::begin(file.len() as u64, count, size).unwrap();
+    for k in 0..file.len() as u64 / size {
+        sender.next(k % count, file, out).unwrap();
+    }
+}
+
+fn second_sender(file: &[u8], size: usize, out: &mut [u8]) {
+    let (count, size) = (CHANNELS as u64, size as u64);
+    let (mut sender, _) = second::sender::Sender::begin(file.len() as u64, count, size);
+    for k in 0..file.len() as u64 / size {
+        sender.next(k % count, count, size, file, out).unwrap();
+    }
+}
+
+/// Writes the blocks of a file that have bytes into one buffer, each over the last.
+type Sending = fn(&[u8], usize, &mut [u8]);
+
+fn sending(file: &[u8], size: usize) -> [Duration; 3] {
+    let works: [Sending; 3] = [copy_blocks, library_sender, second_sender];
+    let mut out = vec![0; LENGTH + size];
+    best_times(|work, _| {
+        out.fill(0);
+        let start = Instant::now();
+        works[work](file, size, &mut out);
+        let time = start.elapsed();
+        assert!(out[LENGTH..] == file[file.len() - size..]);
+        time
+    })
+}
+
+/// The best time of each of three works, which take turns so that a busy machine disturbs them alike. A work is told
+/// which run it is, from 0 on.
+fn best_times(mut time_of: impl FnMut(usize, usize) -> Duration) -> [Duration; 3] {
     let mut best = [Duration::MAX; 3];
     let begin = Instant::now();
-    let mut runs = 0;
-    while runs < LEAST_RUNS || begin.elapsed() < BUDGET {
-        for (work, best) in works.iter().zip(&mut best) {
-            file.fill(0);
-            let start = Instant::now();
-            work(arrival, &mut file, &mut ledger);
-            *best = start.elapsed().min(*best);
-            assert!(runs > 0 || file == arrival.file);
+    let mut run = 0;
+    while run < LEAST_RUNS || begin.elapsed() < BUDGET {
+        for (work, best) in best.iter_mut().enumerate() {
+            *best = time_of(work, run).min(*best);
         }
-        runs += 1;
+        run += 1;
     }
     best
 }
 
-fn row(name: &str, arrival: &Arrival, pairs: usize) {
-    let [copy, library, second] = measure(arrival, pairs)
-        .map(|time| arrival.payload_bytes() as f64 / 1e6 / time.as_secs_f64());
+fn row(name: &str, pairs: &str, bytes: usize, times: [Duration; 3]) {
+    let [copy, library, second] = times.map(|time| bytes as f64 / 1e6 / time.as_secs_f64());
     println!(
-        "{name:28} {pairs:5} {copy:9.0} {library:9.0} {second:9.0} {:9.3} {:9.3}",
+        "{name:28} {pairs:>5} {copy:9.0} {library:9.0} {second:9.0} {:9.3} {:9.3}",
         library / copy,
         library / second
     );
+}
+
+fn receiving_row(name: &str, arrival: &Arrival, pairs: usize) {
+    let times = receiving(arrival, pairs);
+    row(name, &pairs.to_string(), arrival.payload_bytes(), times);
 }
 
 fn main() {
@@ -189,11 +241,16 @@ fn main() {
     for size in [64 << 10, 16 << 10, 4 << 10, 512] {
         let arrival = Arrival::new(len, &blocks, size);
         for pairs in [64, 4_096] {
-            row(&format!("64 MiB, pieces of {size}"), &arrival, pairs);
+            receiving_row(&format!("64 MiB, pieces of {size}"), &arrival, pairs);
         }
     }
     let mut scattered: Vec<Payload> = (0..4_000).map(|at| 1_024 * at..1_024 * at + 512).collect();
     Random::new(1).shuffle(&mut scattered);
     let arrival = Arrival::new(4_000 * 1_024, &scattered, LENGTH + 512);
-    row("4,000 ranges of 512", &arrival, 4_096);
+    receiving_row("4,000 ranges of 512", &arrival, 4_096);
+    let file = Random::new(1).bytes(len);
+    for size in [64 << 10, 4 << 10, 512] {
+        let name = format!("64 MiB sent, blocks of {size}");
+        row(&name, "-", len, sending(&file, size));
+    }
 }

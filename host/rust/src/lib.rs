@@ -1,4 +1,5 @@
-//! The receiving side of GridFTP's extended block mode (MODE E), over functions that are proved to answer as defined.
+//! Both sides of GridFTP's extended block mode (MODE E), receiving and sending, over functions that are proved to
+//! answer as defined.
 //!
 //! A host opens the sockets and owns all memory: the file, a *ledger* of ranges, and the pieces of bytes as they arrive.
 //! [`Transfer`] says where each byte of a piece goes, puts it there, and shows one of three words ([`Verdict`]).
@@ -20,7 +21,27 @@
 //! # Ok::<(), cobnutter::Refusal>(())
 //! ```
 //!
-//! What a host has to know:
+//! [`Sender`] cuts a file into blocks and says which bytes go out next on a channel:
+//!
+//! ```
+//! use cobnutter::Sender;
+//! use std::io::Write;
+//!
+//! fn send(file: &[u8], connections: &mut [impl Write]) -> Result<(), Box<dyn std::error::Error>> {
+//!     let mut sender = Sender::begin(file.len() as u64, connections.len() as u64, 4096)?;
+//!     for (channel, connection) in (0..).zip(connections) {
+//!         while let Some(block) = sender.block(channel, file)? {
+//!             connection.write_all(&block)?;
+//!         }
+//!     }
+//!     Ok(())
+//! }
+//! # let mut connections = [Vec::new(), Vec::new()];
+//! # send(&[7; 5000], &mut connections).unwrap();
+//! # assert_eq!(connections.map(|sent| sent.len()), [17 + 4096 + 17, 17 + 904 + 17]);
+//! ```
+//!
+//! What a host that receives has to know:
 //!
 //! - A channel is a number below 64 that the host gives to a data connection. The pieces of one channel come in order.
 //! - Where a channel ends, `taken` may be less than the piece: the rest belongs to the next transfer on that connection.
@@ -31,6 +52,15 @@
 //! - A cached connection that the sender closes (a first byte of 4) is not fed into the next transfer.
 //! - [`Verdict::Result`] says that all the sender counted is here. Whether that fills the file, the host sees by
 //!   [`Transfer::stored`].
+//!
+//! What a host that sends has to know:
+//!
+//! - The file is the same at each call, and does not change until all is sent.
+//! - Block k of the file goes on channel k mod the count. The blocks of one channel go out on one connection in their
+//!   order; between channels any order is good.
+//! - After its last block each channel gets its ending. The receiver is done when it has them all, and not before.
+//! - What a channel is given depends on no other channel, so each connection can have a thread and a clone of the
+//!   sender.
 //!
 //! The other modules read and write what the control channel carries and what a host saves. [`raw`] has the linked
 //! functions themselves.
@@ -44,16 +74,21 @@ pub mod recording;
 mod refusal;
 pub mod reply;
 pub mod saved;
+mod sender;
 mod transfer;
 mod verdict;
 mod written;
 
 pub use refusal::{meaning, Refusal};
+pub use sender::Sender;
 pub use transfer::{Received, Transfer};
 pub use verdict::Verdict;
 
 /// A channel's number is below this.
 pub const CHANNELS: u64 = 64;
+
+/// The most bytes of the file in a block that is sent.
+pub const BLOCK_LIMIT: u64 = 65_536;
 
 /// The most entries of a ledger.
 pub const LEDGER_LIMIT: usize = 8192;

@@ -64,6 +64,37 @@ pub struct Written {
     pub refused: u8,
 }
 
+/// What a sender remembers between calls.
+#[repr(C)]
+#[derive(Clone, Copy, Debug, PartialEq, Eq)]
+pub struct Sender {
+    /// The file's length.
+    pub len: u64,
+    /// The number of channels.
+    pub count: u64,
+    /// The most bytes of the file in a block.
+    pub size: u64,
+    /// How many blocks each channel was given, its ending counted as one.
+    pub given: [u64; 64],
+}
+
+#[repr(C)]
+#[derive(Clone, Copy, Debug, PartialEq, Eq)]
+pub struct Begun {
+    /// All 0 where the beginning is refused.
+    pub sender: Sender,
+    pub refused: u8,
+}
+
+#[repr(C)]
+#[derive(Clone, Copy, Debug, PartialEq, Eq)]
+pub struct Sent {
+    pub sender: Sender,
+    /// The bytes written at the front of those lent.
+    pub length: usize,
+    pub refused: u8,
+}
+
 #[repr(C)]
 #[derive(Clone, Copy, Debug, PartialEq, Eq)]
 pub struct Fields {
@@ -140,6 +171,20 @@ extern "C" {
         out: *mut u8,
         out_len: usize,
     ) -> Written;
+
+    /// A sender for a file of `len` bytes.
+    pub fn cob_sender_begin(len: u64, count: u64, size: u64) -> Begun;
+    /// Writes the next block of a channel. `count` and `size` are those that the sender was begun with.
+    pub fn cob_sender_next(
+        sender: Sender,
+        channel: u64,
+        count: u64,
+        size: u64,
+        file: *const u8,
+        file_len: usize,
+        out: *mut u8,
+        out_len: usize,
+    ) -> Sent;
 
     pub fn cob_header_read(bytes: *const u8, bytes_len: usize) -> Fields;
     /// `third` is the offset, or the number of end markers with EODC.

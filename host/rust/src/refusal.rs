@@ -62,6 +62,9 @@ pub fn meaning(number: u64) -> &'static str {
         62 => "a saved record of another kind",
         63 => "a saved ledger whose pairs are not whole or break the ledger's rule",
         64 => "a saved ledger of more pairs than the ledger has",
+        71 => "a count or size out of range or not the sender's, another file length, or a sender that no calls give",
+        73 => "the channel is not below the sender's channel count",
+        74 => "the channel's ending is written already",
         _ => "unknown",
     }
 }

@@ -9,6 +9,8 @@ mod both;
 mod buffers;
 #[path = "compare/crafted.rs"]
 mod crafted;
+#[path = "compare/deliveries.rs"]
+mod deliveries;
 #[path = "compare/examples.rs"]
 mod examples;
 #[path = "compare/forms.rs"]
@@ -21,6 +23,8 @@ mod library;
 mod random;
 #[path = "compare/seen.rs"]
 mod seen;
+#[path = "compare/senders.rs"]
+mod senders;
 #[path = "compare/sending.rs"]
 mod sending;
 #[path = "compare/sessions.rs"]
@@ -38,7 +42,7 @@ const ROUNDS: u64 = 400;
 type Kind = fn(&Random, &mut Seen);
 
 /// Each with how often a round does it.
-const KINDS: [(Kind, usize); 12] = [
+const KINDS: [(Kind, usize); 14] = [
     (sessions::one, 2),
     (sessions::cached, 1),
     (crafted::few_calls, 150),
@@ -51,6 +55,8 @@ const KINDS: [(Kind, usize); 12] = [
     (forms::range_writing, 10),
     (forms::saving, 10),
     (forms::saved_records, 20),
+    (senders::calls, 10),
+    (deliveries::one, 2),
 ];
 
 /// Says on failure how to run the round again.

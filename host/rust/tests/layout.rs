@@ -17,10 +17,14 @@ fn sizes_and_offsets() {
     layout!(Started, 2608, transfer 0, refused 2600);
     layout!(Received, 2616, transfer 0, taken 2600, verdict 2608, refused 2609);
     layout!(Written, 16, length 0, refused 8);
+    layout!(Sender, 536, len 0, count 8, size 16, given 24);
+    layout!(Begun, 544, sender 0, refused 536);
+    layout!(Sent, 552, sender 0, length 536, refused 544);
     layout!(Fields, 24, length 0, third 8, descriptor 16, is_eodc 17, refused 18);
     layout!(Command, 24, from 0, to 8, verb 16, refused 17);
     layout!(Reply, 2, digit 0, refused 1);
     layout!(List, 16, count 0, refused 8);
     layout!(Found, 24, value 0, next 8, found 16);
     assert_eq!(align_of::<Transfer>(), 8);
+    assert_eq!(align_of::<Sender>(), 8);
 }

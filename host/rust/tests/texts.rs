@@ -4,7 +4,8 @@ use cobnutter::header::{self, Header};
 use cobnutter::line::{self, Verb};
 use cobnutter::reply::{self, Class};
 use cobnutter::{hosts, ranges, saved};
-use cobnutter::{meaning, Refusal, Transfer, Verdict, CHANNELS, LEDGER_LIMIT};
+use cobnutter::{meaning, Refusal, Sender, Transfer, Verdict};
+use cobnutter::{BLOCK_LIMIT, CHANNELS, LEDGER_LIMIT};
 use std::net::{Ipv4Addr, SocketAddrV4};
 
 fn number<T>(answer: Result<T, Refusal>) -> u8 {
@@ -184,8 +185,69 @@ fn a_fault_and_refusals() {
 }
 
 #[test]
+fn senders() {
+    let file = b"plaid123";
+    let mut sender = Sender::begin(8, 2, 3).unwrap();
+    let before = sender.clone();
+    assert_eq!(number(sender.next(0, file, &mut [0; 19])), 55);
+    assert_eq!(number(sender.next(2, file, &mut [0; 20])), 73);
+    assert_eq!(number(sender.next(0, &file[1..], &mut [0; 20])), 71);
+    assert_eq!(number(sender.next_with(0, 2, 4, file, &mut [0; 20])), 71);
+    assert_eq!(number(sender.block(2, file)), 73);
+    assert_eq!(sender, before);
+
+    let blocks: [(u64, &[u8]); 5] = [
+        (0, b"\0\0\0\0\0\0\0\0\x03\0\0\0\0\0\0\0\0pla"),
+        (1, b"\0\0\0\0\0\0\0\0\x03\0\0\0\0\0\0\0\x03id1"),
+        (0, b"\0\0\0\0\0\0\0\0\x02\0\0\0\0\0\0\0\x0623"),
+        (0, b"\x48\0\0\0\0\0\0\0\0\0\0\0\0\0\0\0\x02"),
+        (1, b"\x08\0\0\0\0\0\0\0\0\0\0\0\0\0\0\0\0"),
+    ];
+    for (channel, bytes) in blocks {
+        assert_eq!(sender.block(channel, file), Ok(Some(bytes.to_vec())));
+    }
+    for channel in [0, 1] {
+        assert_eq!(sender.block(channel, file), Ok(None));
+        assert_eq!(number(sender.next(channel, file, &mut [])), 74);
+    }
+    assert_eq!(sender.raw().given[..3], [3, 2, 0]);
+}
+
+/// The numbers that a sender can be begun with, and senders that a host makes up.
+#[test]
+fn sender_limits() {
+    for (count, size, refused) in [
+        (1, 1, 0),
+        (CHANNELS, BLOCK_LIMIT, 0),
+        (0, 1, 71),
+        (CHANNELS + 1, 1, 71),
+        (1, 0, 71),
+        (1, BLOCK_LIMIT + 1, 71),
+    ] {
+        assert_eq!(number(Sender::begin(u64::MAX, count, size)), refused);
+    }
+    let begun = Sender::begin(1, 1, 1).unwrap();
+    for (size, given) in [(u64::MAX, 0), (0, 0), (1, 3), (1, u64::MAX)] {
+        let mut raw = *begun.raw();
+        raw.size = size;
+        raw.given[0] = given;
+        assert_eq!(number(Sender::from_raw(raw).block(0, b"a")), 71);
+    }
+}
+
+#[test]
 fn every_number_has_words() {
-    let known = [1..=5, 11..=19, 21..=21, 31..=36, 41..=43, 51..=55, 61..=64];
+    let known = [
+        1..=5,
+        11..=19,
+        21..=21,
+        31..=36,
+        41..=43,
+        51..=55,
+        61..=64,
+        71..=71,
+        73..=74,
+    ];
     for number in 0..256 {
         let listed = known.iter().any(|numbers| numbers.contains(&number));
         assert_eq!(meaning(number) != "unknown", listed, "{number}");

@@ -11,8 +11,8 @@ const FILL: u8 = 0xee;
 pub fn write(
     needed: usize,
     random: &Random,
-    mine: impl Fn(&mut [u8]) -> Answer<usize>,
-    theirs: impl Fn(&mut [u8]) -> Answer<usize>,
+    mine: impl FnOnce(&mut [u8]) -> Answer<usize>,
+    theirs: impl FnOnce(&mut [u8]) -> Answer<usize>,
 ) -> Answer<usize> {
     let less = [needed.saturating_sub(1), random.size(needed)];
     let size = *random.pick(&[needed + 4, needed + 1, needed, *random.pick(&less)]);
@@ -23,8 +23,8 @@ pub fn write(
 pub fn read<T: Debug + PartialEq>(
     entries: usize,
     random: &Random,
-    mine: impl Fn(&mut [u64]) -> Answer<T>,
-    theirs: impl Fn(&mut [u64]) -> Answer<T>,
+    mine: impl FnOnce(&mut [u64]) -> Answer<T>,
+    theirs: impl FnOnce(&mut [u64]) -> Answer<T>,
 ) -> Answer<T> {
     let lent = (0..entries).map(|_| random.next()).collect();
     same(lent, mine, theirs)
@@ -32,8 +32,8 @@ pub fn read<T: Debug + PartialEq>(
 
 fn same<E: Clone + Debug + PartialEq, T: Debug + PartialEq>(
     mut one: Vec<E>,
-    mine: impl Fn(&mut [E]) -> Answer<T>,
-    theirs: impl Fn(&mut [E]) -> Answer<T>,
+    mine: impl FnOnce(&mut [E]) -> Answer<T>,
+    theirs: impl FnOnce(&mut [E]) -> Answer<T>,
 ) -> Answer<T> {
     let mut two = one.clone();
     let answer = mine(&mut one);

@@ -2,6 +2,7 @@
 
 use super::second::block::Header;
 use super::second::receiver::{Channel, Transfer, Verdict};
+use super::second::sender::Sender;
 use super::second::Answer;
 use cobnutter::raw;
 
@@ -103,6 +104,51 @@ pub fn screen_line(transfer: &raw::Transfer, ledger: &[u64], out: &mut [u8]) -> 
             out.len(),
         )
     })
+}
+
+pub fn sender_to_raw(sender: &Sender) -> raw::Sender {
+    let Sender {
+        len,
+        count,
+        size,
+        given,
+    } = *sender;
+    raw::Sender {
+        len,
+        count,
+        size,
+        given,
+    }
+}
+
+/// The sender is all 0 where the beginning is refused.
+pub fn sender_begin(len: u64, count: u64, size: u64) -> (Answer<()>, raw::Sender) {
+    let begun = unsafe { raw::cob_sender_begin(len, count, size) };
+    (unless(begun.refused, ()), begun.sender)
+}
+
+pub fn sender_next(
+    sender: &mut raw::Sender,
+    channel: u64,
+    count: u64,
+    size: u64,
+    file: &[u8],
+    out: &mut [u8],
+) -> Answer<usize> {
+    let sent = unsafe {
+        raw::cob_sender_next(
+            *sender,
+            channel,
+            count,
+            size,
+            file.as_ptr(),
+            file.len(),
+            out.as_mut_ptr(),
+            out.len(),
+        )
+    };
+    *sender = sent.sender;
+    unless(sent.refused, sent.length)
 }
 
 pub fn header_read(bytes: &[u8]) -> Answer<Header> {

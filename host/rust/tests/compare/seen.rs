@@ -1,10 +1,10 @@
-//! How often each entry gave each number of document 01's table.
+//! How often each entry gave each number of the papers' tables.
 
 use super::second::Answer;
 use std::collections::BTreeMap;
 
-/// 0 is an answer without refusal.
-const ENTRIES: [(&str, &[u64]); 13] = [
+/// 0 is an answer without refusal. A fault's number, and a sent block's descriptor, are counted in the same way.
+const ENTRIES: [(&str, &[u64]); 16] = [
     ("start", &[0, 5]),
     ("receive", &[0, 1, 2, 3, 4]),
     ("fault", &[11, 12, 13, 14, 15, 16, 17, 18, 19]),
@@ -18,6 +18,9 @@ const ENTRIES: [(&str, &[u64]); 13] = [
     ("ranges write", &[0, 1, 53, 54, 55]),
     ("saved read", &[0, 53, 61, 62, 63, 64]),
     ("saved write", &[0, 1, 53, 55]),
+    ("sender begin", &[0, 71]),
+    ("sender next", &[0, 55, 71, 73, 74]),
+    ("sent block", &[0, 8, 72]),
 ];
 
 #[derive(Default)]

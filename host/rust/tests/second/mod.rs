@@ -9,6 +9,7 @@ pub mod ranges;
 pub mod receiver;
 pub mod saved;
 pub mod screen;
+pub mod sender;
 
 pub type Answer<T> = Result<T, u64>;
 
