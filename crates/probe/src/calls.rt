@@ -40,11 +40,7 @@ pub fn start(s: Session, length: u64, count: u64, file: &mut [u8], ledger: &mut 
     let entries = part::of_entries(count, ledger);
     fill::bytes(file, 0);
     let receiver = start_lent(length, &mut ledger[..entries]);
-    session::go_on(Session {
-        receiver: receiver,
-        bytes: bytes,
-        entries: entries,
-    })
+    session::go_on(session::receiving(s, receiver, bytes, entries))
 }
 
 // ---- receive
@@ -100,9 +96,5 @@ pub fn receive(s: Session, body: &[u8], file: &mut [u8], ledger: &mut [u64]) -> 
         &mut file[..bytes],
         &mut ledger[..entries],
     );
-    session::go_on(Session {
-        receiver: after,
-        bytes: bytes,
-        entries: entries,
-    })
+    session::go_on(session::receiving(s, after, bytes, entries))
 }

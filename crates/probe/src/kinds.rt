@@ -5,6 +5,7 @@ use crate::headers;
 use crate::ledgers;
 use crate::ledgers::Form;
 use crate::lent;
+use crate::sending;
 use crate::session;
 use crate::session::Session;
 use crate::session::Turn;
@@ -52,12 +53,23 @@ fn two_numbers(s: Session, kind: u16, body: &[u8], file: &mut [u8], ledger: &mut
     by_numbers(s, kind, a, b, file, ledger)
 }
 
-pub fn serve(s: Session, kind: u16, body: &[u8], file: &mut [u8], ledger: &mut [u64]) -> Turn {
+pub fn serve(
+    s: Session,
+    kind: u16,
+    body: &[u8],
+    file: &mut [u8],
+    ledger: &mut [u64],
+    source: &mut [u8],
+) -> Turn {
     match kind {
         16 | 19 | 20 | 21 => two_numbers(s, kind, body, file, ledger),
         17 => calls::receive(s, body, file, ledger),
         18 => lent::fill_file(s, body, file),
         22 => lent::show_ledger(s, body, ledger),
+        48 => sending::begin(s, body, source),
+        49 => sending::next(s, body, source),
+        50 => sending::lend(s, body, source),
+        51 => sending::harm(s, body),
         _ => Turn {
             session: s,
             goes_on: read_or_write(kind, body),

@@ -46,22 +46,13 @@ fn clear_rest(bytes: usize, count: usize, file: &mut [u8], ledger: &mut [u64]) {
     entries::clear(&mut ledger[ledger_end..]);
 }
 
-fn lend_cleared(
-    receiver: Receiver,
-    length: u64,
-    count: u64,
-    file: &[u8],
-    ledger: &[u64],
-) -> Session {
+fn lend_cleared(s: Session, length: u64, count: u64, file: &[u8], ledger: &[u64]) -> Session {
+    let receiver = s.receiver;
     let bytes = part::of_bytes(length, file);
     let entries = part::of_entries(count, ledger);
     print::word(b"LENT ");
     screen_line::show(receiver, &ledger[..entries]);
-    Session {
-        receiver: receiver,
-        bytes: bytes,
-        entries: entries,
-    }
+    session::receiving(s, receiver, bytes, entries)
 }
 
 pub fn lend(s: Session, length: u64, count: u64, file: &mut [u8], ledger: &mut [u64]) -> Turn {
@@ -71,9 +62,8 @@ pub fn lend(s: Session, length: u64, count: u64, file: &mut [u8], ledger: &mut [
     if (ledger.len() as u64) < count {
         return session::stop(s);
     }
-    let receiver = s.receiver;
     clear_rest(s.bytes, s.entries, file, ledger);
-    session::go_on(lend_cleared(receiver, length, count, file, ledger))
+    session::go_on(lend_cleared(s, length, count, file, ledger))
 }
 
 fn show_part(from: u64, length: u64, file: &[u8]) -> bool {

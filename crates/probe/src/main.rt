@@ -11,6 +11,7 @@ mod lent;
 mod part;
 mod print;
 mod screen_line;
+mod sending;
 mod session;
 
 use frame::Frame;
@@ -30,7 +31,13 @@ fn print_stop(got: Frame, number: u64) {
     }
 }
 
-fn serve(s: Session, request: &[u8], file: &mut [u8], ledger: &mut [u64]) -> Turn {
+fn serve(
+    s: Session,
+    request: &[u8],
+    file: &mut [u8],
+    ledger: &mut [u64],
+    source: &mut [u8],
+) -> Turn {
     if request.len() < 2 {
         return session::stop(s);
     }
@@ -40,18 +47,32 @@ fn serve(s: Session, request: &[u8], file: &mut [u8], ledger: &mut [u64]) -> Tur
         &request[2..],
         file,
         ledger,
+        source,
     )
 }
 
-fn answer(s: Session, number: u64, request: &[u8], file: &mut [u8], ledger: &mut [u64]) -> Turn {
-    let turn = serve(s, request, file, ledger);
+fn answer(
+    s: Session,
+    number: u64,
+    request: &[u8],
+    file: &mut [u8],
+    ledger: &mut [u64],
+    source: &mut [u8],
+) -> Turn {
+    let turn = serve(s, request, file, ledger, source);
     if !turn.goes_on {
         print::record(number);
     }
     turn
 }
 
-fn one_request(s: Session, number: u64, file: &mut [u8], ledger: &mut [u64]) -> Turn {
+fn one_request(
+    s: Session,
+    number: u64,
+    file: &mut [u8],
+    ledger: &mut [u64],
+    source: &mut [u8],
+) -> Turn {
     let mut space = frame::space();
     let got = frame::read(&mut space);
     let Frame::Whole(n) = got else {
@@ -59,14 +80,14 @@ fn one_request(s: Session, number: u64, file: &mut [u8], ledger: &mut [u64]) -> 
         return session::stop(s);
     };
     let length = part::of_bytes(n as u64, &space);
-    answer(s, number, &space[..length], file, ledger)
+    answer(s, number, &space[..length], file, ledger, source)
 }
 
-fn run(file: &mut [u8], ledger: &mut [u64]) {
+fn run(file: &mut [u8], ledger: &mut [u64], source: &mut [u8]) {
     let mut s = session::first(ledger);
     let mut number: u64 = 0;
     while number < REQUESTS {
-        let t = one_request(s, number, file, ledger);
+        let t = one_request(s, number, file, ledger, source);
         if !t.goes_on {
             return;
         }
@@ -87,8 +108,16 @@ fn ledger_space() -> [u64; 8200]
     [0; 8200]
 }
 
+// As much as the longest body.
+fn source_space() -> [u8; 70000]
+    ensures { λ r. ⌜ 70000 ≡ length r ⌝ }
+{
+    [0; 70000]
+}
+
 fn main() {
     let mut file = file_space();
     let mut ledger = ledger_space();
-    run(&mut file, &mut ledger);
+    let mut source = source_space();
+    run(&mut file, &mut ledger, &mut source);
 }

@@ -1,12 +1,16 @@
-// What is kept from one request to the next, beside the file and the ledger.
+// What is kept from one request to the next, beside the file, the ledger and the file that the sender is lent.
 use receiver::receive::Receiver;
 use receiver::start;
+use sender::begin;
+use sender::state::Sender;
 
-// The receiver, and how much of the file and of the ledger a call is lent at present.
+// The receiver, and how much of the file and of the ledger a call is lent at present; the sender, and how much of its file.
 pub struct Session {
     pub receiver: Receiver,
     pub bytes: usize,
     pub entries: usize,
+    pub sender: Sender,
+    pub source: usize,
 }
 
 // The session that a request left, and whether more requests may come: none after a malformed one.
@@ -29,13 +33,41 @@ pub fn stop(s: Session) -> Turn {
     }
 }
 
-// What a start with no bytes and no entries leaves.
+// The session with another receiver, and so much lent to it.
+pub fn receiving(s: Session, receiver: Receiver, bytes: usize, entries: usize) -> Session {
+    let sender = s.sender;
+    Session {
+        receiver: receiver,
+        bytes: bytes,
+        entries: entries,
+        sender: sender,
+        source: s.source,
+    }
+}
+
+// The session with another sender, and so much lent to it.
+pub fn sending(s: Session, sender: Sender, source: usize) -> Session {
+    let receiver = s.receiver;
+    Session {
+        receiver: receiver,
+        bytes: s.bytes,
+        entries: s.entries,
+        sender: sender,
+        source: source,
+    }
+}
+
+// What a start with no bytes and no entries leaves, and a beginning that is refused.
 pub fn first(ledger: &mut [u64]) -> Session {
     let started = start::start(0, &mut ledger[..0]);
     let receiver = started.receiver;
+    let begun = begin::begin(0, 0, 0);
+    let sender = begun.sender;
     Session {
         receiver: receiver,
         bytes: 0,
         entries: 0,
+        sender: sender,
+        source: 0,
     }
 }

@@ -8,10 +8,10 @@ use Rattle.probe.proofs.run.Statement.{statement}
 use Rattle.probe.proofs.run.Tie as tie
 
 abbrev Inv-loop : tie.InvT-loop
-Inv-loop file₀ ledger₀ s₀ number₀ file ledger s number = (length file ≡ length file₀) × (length ledger ≡ length ledger₀)
+Inv-loop file₀ ledger₀ source₀ s₀ number₀ file ledger source s number = (length file ≡ length file₀) × (length ledger ≡ length ledger₀) × (length source ≡ length source₀)
 
 abbrev μ-loop : tie.MeasureT-loop
-μ-loop file₀ ledger₀ s₀ number₀ file ledger s number = 1099511627776 - number
+μ-loop file₀ ledger₀ source₀ s₀ number₀ file ledger source s number = 1099511627776 - number
 
 first-requires : tie.Need-first-requires Inv-loop μ-loop
 first-requires c κs = search needs
@@ -28,6 +28,9 @@ same-length c = search needs
 same-length-2 : tie.Need-same-length-2 Inv-loop μ-loop
 same-length-2 c = search needs
 
+same-length-3 : tie.Need-same-length-3 Inv-loop μ-loop
+same-length-3 c = search needs
+
 returns : tie.Need-returns Inv-loop μ-loop
 returns c = search needs
 
@@ -40,11 +43,14 @@ loop-less c = omega arith
 loop-again : tie.Need-loop-again Inv-loop μ-loop
 loop-again c = search needs
 
-same-length-3 : tie.Need-same-length-3 Inv-loop μ-loop
-same-length-3 c = search needs
-
 same-length-4 : tie.Need-same-length-4 Inv-loop μ-loop
 same-length-4 c = search needs
+
+same-length-5 : tie.Need-same-length-5 Inv-loop μ-loop
+same-length-5 c = search needs
+
+same-length-6 : tie.Need-same-length-6 Inv-loop μ-loop
+same-length-6 c = search needs
 
 returns-2 : tie.Need-returns-2 Inv-loop μ-loop
 returns-2 c = search needs
@@ -60,10 +66,12 @@ run-spec =
     one-request-requires
     same-length
     same-length-2
+    same-length-3
     returns
     add-number
     loop-less
     loop-again
-    same-length-3
     same-length-4
+    same-length-5
+    same-length-6
     returns-2)
