@@ -1,2 +1,2 @@
-// Bytes copied to their place. Internal to the receiver: a host calls `receiver`.
+// Bytes copied to their place, for the receiver and the sender; no host calls it.
 pub mod copy;

@@ -45,4 +45,4 @@ list (Count n) = refl
 list (NoList k) = refl
 
 pub numbers : Numbers
-numbers = record { header = header; line = line; verb-is = verb-is; written = written; list = list }
+numbers = record { header = header; line = line; verb-is = verb-is; written = written; sent = λ x s. (written x .0, written x .1, refl); list = list }

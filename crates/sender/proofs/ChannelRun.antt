@@ -11,9 +11,8 @@ use lib.Dec.{ltb, eqb}
 use lib.ListN.{length, getD, length-append, List·getD-append}
 use lib.Seq.{getD-append-seam}
 use borrow.Author.Tests.{lt-ltb, le-ltb, eq-eqb, ne-eqb}
-use Rattle.eblock.specs.Header.{headerBytes}
 use Rattle.eblock.proofs.HeaderFields.{length-bytesOf}
-use Rattle.transfer.specs.Block.{Block, block, blockBytes}
+use Rattle.transfer.specs.Block.{Block, blockBytes}
 use Rattle.transfer.proofs.BlockCut.{blockBytes-append}
 use Rattle.sender.specs.Blocks.{blockCount, dataBlock, ending, dataBlocksOn, channelBlocks, blocksOn, blockOn}
 use Rattle.sender.specs.Sends.{Front}
@@ -93,12 +92,15 @@ module _ (file : List ℕ) (count size c : ℕ) where
   -- each header has 17 bytes
   pub length-head : (i : ℕ) → length (blockOn file count size c i .head) ≡ 17
   unfolding blockOn dataBlock ending
-  length-head i = by (ltb i (blocksOn (blockCount (length file) size) count c)) (eqb c 0)
+  length-head i = by (ltb i (blocksOn (blockCount (length file) size) count c)) (either (eqb c 0) _ _ (length-bytesOf _ _ _) (length-bytesOf _ _ _))
     where
-      by : (t u : Bool) → length (cond t (dataBlock file size (i * count + c)) (block (cond u (headerBytes 72 0 count) (headerBytes 8 0 0)) []) .head) ≡ 17
-      by true u = length-bytesOf 0 _ _
-      by false true = length-bytesOf 72 0 count
-      by false false = length-bytesOf 8 0 0
+      either : (t : Bool) (h g : List ℕ) → length h ≡ 17 → length g ≡ 17 → length (cond t h g) ≡ 17
+      either true h g a b = a
+      either false h g a b = b
+
+      by : (t : Bool) → length (ending count c .head) ≡ 17 → length (cond t (dataBlock file size (i * count + c)) (ending count c) .head) ≡ 17
+      by true e = length-bytesOf _ _ _
+      by false e = e
 
   -- one block more is its bytes more
   pub bytes-next : (n : ℕ) → bytesOn file count size c (suc n) ≡ bytesOn file count size c n ++ (blockOn file count size c n .head ++ blockOn file count size c n .body)
