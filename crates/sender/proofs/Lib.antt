@@ -18,4 +18,5 @@ pub mod SenderSteps
 pub mod SentCalls
 pub mod GivenByCalls
 pub mod EqualFile
+pub mod Example
 pub mod SendingSide

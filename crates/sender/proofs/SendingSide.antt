@@ -8,6 +8,7 @@ use Rattle.sender.proofs.GivenByCalls.{given-by-calls, can-end}
 use Rattle.sender.proofs.SentPlaces.{exactly-once}
 use Rattle.sender.proofs.WellFormedSending.{well-formed}
 use Rattle.sender.proofs.EqualFile.{equal-file}
+use Rattle.sender.proofs.Example.{example}
 
 pub sending-side : SendingSide
 sending-side =
@@ -22,4 +23,5 @@ sending-side =
       well-formed = record { is = λ file count size e. let r = in-range count size e in well-formed file count size (r .0 .0) (r .0 .1) (r .1 .0) (r .1 .1) };
       exactly-once = λ file count size e. let r = in-range count size e in exactly-once file count size (r .0 .0) (r .1 .0);
       equal-file = equal-file;
+      example = example;
     }

@@ -4,4 +4,5 @@ pub mod Calls
 pub mod BlockRows
 pub mod SenderRows
 pub mod Sends
+pub mod Example
 pub mod SendingSide

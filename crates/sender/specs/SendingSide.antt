@@ -6,6 +6,7 @@ use lib.ListN.{length}
 use Rattle.sender.specs.Sender.{beginRefusal}
 use Rattle.sender.specs.BlockRows.{BlocksAre, EndingsAre}
 use Rattle.sender.specs.SenderRows.{RefusedBeginning, Rows}
+use Rattle.sender.specs.Example.{Example}
 use Rattle.sender.specs.Sends.{GivenByCalls, Sends, CanEnd, WellFormedSending, ExactlyOnce, EqualFile}
 
 pub record SendingSide : Type 1 where
@@ -19,3 +20,5 @@ pub record SendingSide : Type 1 where
   pub well-formed : WellFormedSending
   pub exactly-once : (file : List ℕ) (count size : ℕ) → beginRefusal count size ≡ 0 → length file < 2 ^ 64 → ExactlyOnce file count size
   pub equal-file : EqualFile
+  -- an instance
+  pub example : Example
