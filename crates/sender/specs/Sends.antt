@@ -29,7 +29,7 @@ pub record GivenByCalls : Type 0 where
   pub test-is : (s : Sender) → length (s .given) ≡ 64 → (callsCanGive s ≡ true) ↔ LeftByCalls s
   -- each list leaves 64 numbers, and the length, count and size that were begun with
   pub numbers : (len count size : ℕ) → beginRefusal count size ≡ 0 → (ks : List NextCall) → let s = afterCalls (beginOf len count size) ks in (length (s .given) ≡ 64) × (s .len ≡ len) × (s .count ≡ count) × (s .size ≡ size)
-  -- for each file of that length one that lends no other does
+  -- for each file of that length, some list that lends it unchanged does
   pub by-one-file : (s : Sender) → length (s .given) ≡ 64 → callsCanGive s ≡ true → (file : List ℕ) → length file ≡ s .len
       → (ks : List NextCall) × EachLends file ks × (afterCalls (beginOf (s .len) (s .count) (s .size)) ks ≡ s)
 
@@ -51,19 +51,19 @@ pub record SendsOn (file : List ℕ) (count size : ℕ) (ks : List NextCall) (c 
   pub all-gives-74 : writtenOn c (beginOf (length file) count size) ks ≡ blockBytes (channelBlocks file count size c)
       → (out : List ℕ) → numberFor (afterCalls (beginOf (length file) count size) ks) file c out ≡ 74
 
--- every channel's ending is sent: 74 is its next answer, whatever is lent
+-- every channel's ending is sent: some call for its next block is answered 74, and so is every one, whatever bytes are lent to be written
 abbrev pub EndingsSent : Sender → List ℕ → Type 0
 EndingsSent s file = (c : ℕ) → c < s .count → (out : List ℕ) × (numberFor s file c out ≡ 74)
 
 pub record Sends : Type 0 where
   pub below-count : (file : List ℕ) (count size : ℕ) → beginRefusal count size ≡ 0 → (ks : List NextCall) → EachLends file ks → (c : ℕ) → c < count → SendsOn file count size ks c
-  -- on no other channel anything is written
+  -- on any other channel nothing is written
   pub no-other : (len count size : ℕ) → beginRefusal count size ≡ 0 → (ks : List NextCall) → (c : ℕ) → count ≤ c → writtenOn c (beginOf len count size) ks ≡ []
-  -- up to the endings all channels send is the sending
+  -- what all channels send up to their endings is the sending
   pub all-sent : (file : List ℕ) (count size : ℕ) → beginRefusal count size ≡ 0 → (ks : List NextCall) → EachLends file ks → EndingsSent (afterCalls (beginOf (length file) count size) ks) file
       → (c : ℕ) → writtenOn c (beginOf (length file) count size) ks ≡ sentOn c (sending file count size)
 
--- from every sender that calls give some list sends all endings, whatever file of its length is lent
+-- from every sender that calls give some list sends all endings, for each file of its length
 pub record CanEnd : Type 0 where
   pub ends : (s : Sender) → length (s .given) ≡ 64 → callsCanGive s ≡ true → (file : List ℕ) → length file ≡ s .len → (ks : List NextCall) × EachLends file ks × EndingsSent (afterCalls s ks) file
 

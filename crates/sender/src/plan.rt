@@ -9,7 +9,7 @@ ghost use Rattle.eblock.specs.Header.{headerBytes, refusalOf, secondField};
 ghost use Rattle.sender.specs.Blocks.{blockCount, blockStart, blockLength, blockOn};
 ghost use Rattle.sender.specs.Sender.{mostOn, allAtMost};
 
-// A block's header, and with it where its bytes are: as many as `length` says, from the place `third` on.
+// A block's header: its descriptor, its length, and the offset or, with 72, the count. Its bytes are those of the file from the offset on.
 pub struct Outline {
     pub descriptor: u8,
     pub length: u64,
@@ -28,7 +28,7 @@ fn block_count(len: u64, size: u64) -> u64
     whole + 1
 }
 
-// The most blocks of channel c with its ending, where each channel has so many blocks and those below `more` have one more.
+// The most that channel c can be given, its ending counted, where each channel has so many blocks and those below `more` one besides.
 fn most(each: u64, more: u64, count: u64, c: u64) -> u64
     requires { ⌜ each < 2 ^ 63 ⌝ }
     ensures { λ r. ⌜ r ≡ cond (ltb c count) (each + cond (ltb c more) 1 0 + 1) 0 ⌝ }
@@ -90,7 +90,7 @@ fn data_outline(len: u64, size: u64, k: u64) -> Outline
     }
 }
 
-// The block that channel c is given after i others, at most as many as it has.
+// The block that channel c is given after i others, which are not yet all.
 pub fn next_outline(len: u64, count: u64, size: u64, c: u64, i: u64) -> Outline
     requires { ⌜ (c < count) × (count ≤ 64) × (0 < size) × (len < 2 ^ 63) × (i < mostOn len count size c) ⌝ }
     ensures { λ r. ⌜ (refusalOf (r .descriptor) (r .third) ≡ 0) × (0 < r .length → r .third + r .length ≤ len) × ((file : List ℕ) → length file ≡ len → (headerBytes (r .descriptor) (secondField (r .descriptor) (r .length)) (r .third) ≡ blockOn file count size c i .head) × (take (r .length) (drop (r .third) file) ≡ blockOn file count size c i .body)) ⌝ }
