@@ -33,8 +33,8 @@ unfolding dataBlock headerBytes
 blocks-are file count size e =
     let r = in-range count size e in
     record {
-      holds = λ k h. record { head-is = refl; body-is = refl };
-      whole = λ k h. data-length file size k;
+      holds = λ k. record { head-is = refl; body-is = refl };
+      whole = data-length file size;
       never-empty = λ k h. omega (arith, data-length file size k, starts-inside (length file) size k (omega (arith, r)) h, r);
       as-many = λ k. (starts-inside (length file) size k (omega (arith, r)), block-there (length file) size k (omega (arith, r)));
       goes-on = λ k d h. (mod-lt k (omega (arith, r)), in-share file count size k (omega (arith, r)) h, goes-on file count size k (omega (arith, r)) h d);

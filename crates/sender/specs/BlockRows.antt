@@ -15,10 +15,10 @@ pub record Holds (x : Block) (d second third : ℕ) (bytes : List ℕ) : Type 0 
 
 -- "Block k, descriptor 0, never empty, holds bytes k × size up to the smaller of (k + 1) × size and the file's end, and goes on channel k mod the count."
 pub record BlocksAre (file : List ℕ) (count size : ℕ) : Type 0 where
-  pub holds : (k : ℕ) → k < blockCount (length file) size
+  pub holds : (k : ℕ)
       → Holds (dataBlock file size k) 0 (min ((k + 1) * size) (length file) - k * size) (k * size) (take (min ((k + 1) * size) (length file) - k * size) (drop (k * size) file))
   -- as many bytes as its header says
-  pub whole : (k : ℕ) → k < blockCount (length file) size → length (dataBlock file size k .body) ≡ min ((k + 1) * size) (length file) - k * size
+  pub whole : (k : ℕ) → length (dataBlock file size k .body) ≡ min ((k + 1) * size) (length file) - k * size
   pub never-empty : (k : ℕ) → k < blockCount (length file) size → 0 < length (dataBlock file size k .body)
   -- there is a block k exactly where the file has a byte at k × size
   pub as-many : (k : ℕ) → (k < blockCount (length file) size) ↔ (k * size < length file)
