@@ -53,19 +53,15 @@ returns c =
     let e = b .refusal .ensures (x .file .now) (x .out .now) refl in
     refuses (x .t1) k (b .refusal .result) (number-call (x .t1) k (omega (arith, e, c .if1 .taken)) ∙ sym e) (c .if1 .taken)
 
-mul-next-outline : tie.Need-mul-next-outline
-mul-next-outline c =
-    let b = c .before in
-    let x = b .before .before .before .args in
-    let a = accepts (x .t1) (nextCall (x .channel) (x .count) (x .size) (x .file .now) (x .out .now)) (omega (arith, b .refusal .ensures (x .file .now) (x .out .now) refl, c .if1 .left)) in
-    omega (arith, a .channel, a .count)
-
 element-copy-out-next-outline : tie.Need-element-copy-out-next-outline
 element-copy-out-next-outline c =
     let b = c .before in
     let x = b .before .before .before .args in
     let a = accepts (x .t1) (nextCall (x .channel) (x .count) (x .size) (x .file .now) (x .out .now)) (omega (arith, b .refusal .ensures (x .file .now) (x .out .now) refl, c .if1 .left)) in
     omega (arith, a .channel, a .count)
+
+mul-next-outline : tie.Need-mul-next-outline
+mul-next-outline c = omega (arith, element-copy-out-next-outline c)
 
 next-outline-requires : tie.Need-next-outline-requires
 next-outline-requires c κs =

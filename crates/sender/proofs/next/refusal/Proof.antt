@@ -50,19 +50,15 @@ most-on-requires c κs =
     let r = ranges (x .t1) (x .channel) (x .count) (x .size) (x .len) (b .is-not-ours .result) (b .is-not-ours .ensures) (c .before .if1 .left) in
     omega (arith, r)
 
-mul-if3 : tie.Need-mul-if3
-mul-if3 c =
-    let b = c .before .before .before in
-    let x = b .before .args in
-    let r = ranges (x .t1) (x .channel) (x .count) (x .size) (x .len) (b .is-not-ours .result) (b .is-not-ours .ensures) (c .before .before .if1 .left) in
-    omega (arith, r)
-
 element-copy-out-if3 : tie.Need-element-copy-out-if3
 element-copy-out-if3 c =
     let b = c .before .before .before in
     let x = b .before .args in
     let r = ranges (x .t1) (x .channel) (x .count) (x .size) (x .len) (b .is-not-ours .result) (b .is-not-ours .ensures) (c .before .before .if1 .left) in
     omega (arith, r)
+
+mul-if3 : tie.Need-mul-if3
+mul-if3 c = omega (arith, element-copy-out-if3 c)
 
 returns-3 : tie.Need-returns-3
 returns-3 c =

@@ -5,15 +5,13 @@ use borrow.Author.Needs.{needs}
 use Rattle.sender.proofs.plan.data_outline.Statement.{statement}
 use Rattle.sender.proofs.plan.data_outline.Tie as tie
 
-mul-from : tie.Need-mul-from
-mul-from c =
-    let x = c .args in
-    omega (arith, starts-inside (x .len) (x .size) (x .k) (omega arith) (omega arith))
-
 sub-rest : tie.Need-sub-rest
 sub-rest c =
     let x = c .args in
     omega (arith, starts-inside (x .len) (x .size) (x .k) (omega arith) (omega arith))
+
+mul-from : tie.Need-mul-from
+mul-from c = omega (arith, sub-rest c)
 
 returns : tie.Need-returns
 returns c =

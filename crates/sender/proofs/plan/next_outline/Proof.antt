@@ -26,17 +26,14 @@ given len count size c i m h e k = omega (arith, most-below len count size c h, 
 add-if1 : tie.Need-add-if1
 add-if1 c = omega (arith, c .most-on .ensures)
 
-mul-data-outline : tie.Need-mul-data-outline
-mul-data-outline c =
-    let m = c .before in
-    let x = m .before .args in
-    omega (arith, there (x .len) (x .count) (x .size) (x .c) (x .i) (m .most-on .result) (omega arith) (m .most-on .ensures) (c .if1 .taken), count-most (x .len) (x .size) (omega arith))
-
 add-data-outline : tie.Need-add-data-outline
 add-data-outline c =
     let m = c .before in
     let x = m .before .args in
     omega (arith, there (x .len) (x .count) (x .size) (x .c) (x .i) (m .most-on .result) (omega arith) (m .most-on .ensures) (c .if1 .taken), count-most (x .len) (x .size) (omega arith))
+
+mul-data-outline : tie.Need-mul-data-outline
+mul-data-outline c = omega (arith, add-data-outline c)
 
 data-outline-requires : tie.Need-data-outline-requires
 data-outline-requires c κs =
