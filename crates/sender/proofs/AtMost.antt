@@ -1,16 +1,17 @@
 -- The numbers of a sender against the most that each channel can have, one after the other.
 use Prim.Native.Nat.{ℕ, zero, suc, _+_, _/_, _%_, _≤_, _<_}
 use mathlib.Core.Path.{_≡_, refl}
-use mathlib.Core.Bool.{true, false, cond, and-eq-true-iff}
+use mathlib.Core.Bool.{true, false, cond, not, and-eq-true-iff}
 use mathlib.Core.List.{List, [], _∷_}
 use native.Mathlib.Omega.{arith}
-use native.Mathlib.Nat.{add-zero, add-suc, suc-add}
+use native.Mathlib.Nat.{zero-add, add-zero, add-suc, suc-add}
 use lib.Dec.{leb, ltb}
 use lib.ListN.{length, getD, drop, drop-of-length-le}
 use lib.Seq.{drop-cons}
-use borrow.Author.Tests.{lt-ltb, le-leb, lt-leb, leb-true}
-use Rattle.sender.specs.Blocks.{blockCount, blocksOn}
-use Rattle.sender.specs.Sender.{mostOn, allAtMost}
+use borrow.Author.Tests.{lt-ltb, le-leb, lt-leb, leb-true, not-true}
+use Rattle.sender.specs.declared.state.Sender.{Sender}
+use Rattle.sender.specs.Blocks.{outOfRange, blockCount, blocksOn}
+use Rattle.sender.specs.Sender.{givenOn, mostOn, allAtMost, callsCanGive}
 
 -- the most that a channel can have, with the number of blocks given
 pub most-is : (len count size c b r : ℕ) → b ≡ blockCount len size → r ≡ cond (ltb c count) (b / count + cond (ltb c (b % count)) 1 0 + 1) 0 → r ≡ mostOn len count size c
@@ -46,3 +47,10 @@ pub all-at-most : (most : ℕ → ℕ) (n : ℕ) (l : List ℕ) → ((c : ℕ) �
 unfolding allAtMost
 all-at-most most n [] h = refl
 all-at-most most n (x ∷ l) h = rw (le-leb x (most n) (rw (add-zero n) at (h 0))) (all-at-most most (suc n) l (λ c. rw (suc-add n c) (rw (add-suc n c) at (h (suc c)))))
+
+-- what the test of a sender says
+pub tested : (s : Sender) → callsCanGive s ≡ true → (outOfRange (s .count) (s .size) ≡ false) × ((c : ℕ) → givenOn s c ≤ mostOn (s .len) (s .count) (s .size) c)
+unfolding callsCanGive
+tested s e =
+    let a = and-eq-true-iff (not (outOfRange (s .count) (s .size))) (allAtMost (mostOn (s .len) (s .count) (s .size)) 0 (s .given)) .0 e in
+    (not-true _ (a .0), λ c. rw (zero-add c) at (each-at-most (mostOn (s .len) (s .count) (s .size)) 0 (s .given) (a .1) c))

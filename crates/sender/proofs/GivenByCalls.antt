@@ -19,7 +19,7 @@ use Rattle.sender.proofs.AtMost.{most-below}
 use Rattle.sender.proofs.Judged.{not-refused}
 use Rattle.sender.proofs.Answered.{number-0, writes}
 use Rattle.sender.proofs.SenderSteps.{Handed, test-holds, handed}
-use Rattle.sender.proofs.SentCalls.{zeros, begin-is, handed-begin, handed-after, ours, answers-74}
+use Rattle.sender.proofs.SentCalls.{zeros, begin-is, handed-begin, handed-after, matches, answers-74}
 
 -- ---- lists one after the other
 
@@ -66,7 +66,7 @@ module _ (file : List ℕ) (count size : ℕ) where
       accepted : nextRefusal (with g) k ≡ 0
       accepted =
           number-0 (with g) k
-          (not-refused (with g) k (ours file count size (with g) h c l (k .out)) l (omega (arith, m, most-below (length file) count size c l)))
+          (not-refused (with g) k (matches file count size (with g) h c l (k .out)) l (omega (arith, m, most-below (length file) count size c l)))
           (omega arith)
 
   -- the numbers with another on one channel

@@ -2,7 +2,7 @@
 use Prim.Native.Nat.{ℕ, _+_, _≤_, _<_}
 use mathlib.Core.Path.{_≡_, refl, sym, _∙_}
 use mathlib.Core.Logic.{_⊎_, inl, inr}
-use mathlib.Core.Bool.{Bool, true, false, cond, not, and-eq-true-iff}
+use mathlib.Core.Bool.{Bool, true, false, cond}
 use mathlib.Core.List.{List, [], _++_, append-nil}
 use native.Mathlib.Omega.{arith}
 use native.Mathlib.Decide.{decLt, ℕ-discrete}
@@ -11,16 +11,16 @@ use native.Mathlib.Numerals.{add-one}
 use lib.Dec.{eqb}
 use lib.ListN.{length, take, drop, length-set}
 use lib.Seq.{getD-set-same, getD-set-other, take-append-seam}
-use borrow.Author.Tests.{eq-eqb, ne-eqb, not-true}
+use borrow.Author.Tests.{eq-eqb, ne-eqb}
 use Rattle.answers.specs.Written.{writtenBytes}
 use Rattle.answers.proofs.WrittenBy.{first-zero}
 use Rattle.sender.specs.declared.state.Sender.{Sender}
-use Rattle.sender.specs.Blocks.{outOfRange, blockOn}
-use Rattle.sender.specs.Sender.{givenOn, mostOn, allAtMost, callsCanGive, NextCall, bytesOf, nextBytes, callRefusal, nextRefusal, nextAfter, movedOn, senderAfter}
-use Rattle.sender.specs.SenderRows.{InRange, IsOurs, blocksFor}
+use Rattle.sender.specs.Blocks.{blockOn}
+use Rattle.sender.specs.Sender.{givenOn, mostOn, callsCanGive, NextCall, bytesOf, nextBytes, callRefusal, nextRefusal, nextAfter, movedOn, senderAfter}
+use Rattle.sender.specs.SenderRows.{InRange, Matches, blocksFor}
 use Rattle.sender.specs.Calls.{wroteOn}
 use Rattle.sender.proofs.BeginRange.{within-range}
-use Rattle.sender.proofs.AtMost.{each-at-most, all-at-most}
+use Rattle.sender.proofs.AtMost.{all-at-most, tested}
 use Rattle.sender.proofs.Judged.{range-of, most-for, accepted}
 use Rattle.sender.proofs.ChannelRun.{bytesOn, bytes-next}
 use Rattle.sender.proofs.Answered.{refuses, writes}
@@ -42,23 +42,22 @@ test-holds len count size s h =
     rw (h .len-is, h .count-is, h .size-is, within-range count size (h .range)) (all-at-most (mostOn len count size) 0 (s .given) (λ c. rw (zero-add c) (h .at-most c)))
 
 pub handed : (s : Sender) → length (s .given) ≡ 64 → callsCanGive s ≡ true → Handed (s .len) (s .count) (s .size) s
-unfolding callsCanGive
 handed s n e =
-    let a = and-eq-true-iff (not (outOfRange (s .count) (s .size))) (allAtMost (mostOn (s .len) (s .count) (s .size)) 0 (s .given)) .0 e in
+    let t = tested s e in
     record {
       len-is = refl;
       count-is = refl;
       size-is = refl;
       numbers = n;
-      range = range-of (s .count) (s .size) (not-true _ (a .0));
-      at-most = λ c. rw (zero-add c) at (each-at-most (mostOn (s .len) (s .count) (s .size)) 0 (s .given) (a .1) c);
+      range = range-of (s .count) (s .size) (t .0);
+      at-most = t .1;
     }
 
 -- ---- one call
 
 -- it is refused, or it writes the next block
 abbrev pub Goes : Sender → NextCall → Type 0
-Goes s k = (0 < nextRefusal s k) ⊎ ((nextRefusal s k ≡ 0) × IsOurs s k × (k .channel < k .count) × (givenOn s (k .channel) ≤ blocksFor k))
+Goes s k = (0 < nextRefusal s k) ⊎ ((nextRefusal s k ≡ 0) × Matches s k × (k .channel < k .count) × (givenOn s (k .channel) ≤ blocksFor k))
 
 pub goes : (s : Sender) (k : NextCall) → Goes s k
 unfolding nextRefusal
@@ -82,7 +81,7 @@ given-other s d c n = getD-set-other (s .given) d c (givenOn s d + 1) 0 n
 
 module _ (len count size : ℕ) (s : Sender) (k : NextCall) (h : Handed len count size s) where
   -- it leaves a sender that calls give
-  moved : IsOurs s k → k .channel < k .count → givenOn s (k .channel) ≤ blocksFor k → Handed len count size (movedOn s (k .channel))
+  moved : Matches s k → k .channel < k .count → givenOn s (k .channel) ≤ blocksFor k → Handed len count size (movedOn s (k .channel))
   unfolding movedOn
   moved o l g =
       record {

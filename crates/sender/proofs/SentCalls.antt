@@ -1,6 +1,7 @@
 -- Lists of calls: what all of them wrote on a channel are the bytes of as many of its blocks as it has been given.
 use Prim.Native.Nat.{ℕ, zero, suc, _+_, _≤_, _<_}
 use mathlib.Core.Path.{_≡_, refl, sym, ap, _∙_}
+use mathlib.Core.Logic.{_⊎_, inl, inr, _≢_}
 use mathlib.Core.List.{List, [], _∷_, _++_, append-assoc, append-nil}
 use native.Mathlib.Omega.{arith}
 use native.Mathlib.Decide.{decLt, decLe}
@@ -12,7 +13,7 @@ use Rattle.transfer.specs.Sending.{sentOn}
 use Rattle.sender.specs.declared.state.Sender.{Sender}
 use Rattle.sender.specs.Blocks.{blockCount, channelBlocks, sending, blocksOn}
 use Rattle.sender.specs.Sender.{givenOn, begun, beginRefusal, beginOf, NextCall, nextCall, nextOf, senderAfter}
-use Rattle.sender.specs.SenderRows.{IsOurs, nextBlock}
+use Rattle.sender.specs.SenderRows.{Matches, nextBlock}
 use Rattle.sender.specs.Calls.{afterCalls, writtenOn, EachLends}
 use Rattle.sender.specs.Sends.{numberFor, SendsOn, EndingsSent, Sends}
 use Rattle.sender.proofs.BeginRange.{in-range, within-range}
@@ -81,15 +82,15 @@ module _ (file : List ℕ) (count size : ℕ) (s : Sender) (h : Handed (length f
   pub given-most : givenOn s c ≤ share + 1
   given-most = omega (arith, h .at-most c, most-below (length file) count size c l)
 
-  pub ours : (out : List ℕ) → IsOurs s (nextCall c count size file out)
-  ours out = record { range = h .range; count = sym (h .count-is); size = sym (h .size-is); file = sym (h .len-is); given = test-holds (length file) count size s h }
+  pub matches : (out : List ℕ) → Matches s (nextCall c count size file out)
+  matches out = record { range = h .range; count = sym (h .count-is); size = sym (h .size-is); file = sym (h .len-is); given = test-holds (length file) count size s h }
 
   as-begun : (out : List ℕ) → numberFor s file c out ≡ writtenNumber (nextOf s (nextCall c count size file out))
   as-begun out = ap (λ n. writtenNumber (nextOf s (nextCall c n (s .size) file out))) (h .count-is) ∙ ap (λ n. writtenNumber (nextOf s (nextCall c count n file out))) (h .size-is)
 
   -- 74 exactly where the channel has been given its blocks and its ending
   pub answers-74 : givenOn s c ≡ share + 1 → (out : List ℕ) → numberFor s file c out ≡ 74
-  answers-74 e out = as-begun out ∙ (rows .row-74 s (nextCall c count size file out) (ours out) l e .answer .number)
+  answers-74 e out = as-begun out ∙ (rows .row-74 s (nextCall c count size file out) (matches out) l e .answer .number)
 
   pub given-all : (out : List ℕ) → numberFor s file c out ≡ 74 → givenOn s c ≡ share + 1
   given-all out e = by (decLe (givenOn s c) share) (decLt (length out) (17 + length (nextBlock s k .body)))
@@ -102,8 +103,8 @@ module _ (file : List ℕ) (count size : ℕ) (s : Sender) (h : Handed (length f
 
       by : Dec (givenOn s c ≤ share) → Dec (length out < 17 + length (nextBlock s k .body)) → givenOn s c ≡ share + 1
       by (no n) d = omega (arith, n, given-most)
-      by (yes m) (yes short) = absurd (omega (arith, answer, rows .row-55 s k (ours out) l m short .answer .number))
-      by (yes m) (no n) = absurd (omega (arith, answer, rows .row-written s k (ours out) l m (omega (arith, n)) .0 .number))
+      by (yes m) (yes short) = absurd (omega (arith, answer, rows .row-55 s k (matches out) l m short .answer .number))
+      by (yes m) (no n) = absurd (omega (arith, answer, rows .row-written s k (matches out) l m (omega (arith, n)) .0 .number))
 
 -- ---- what a list sends from an accepted beginning
 
@@ -148,9 +149,14 @@ module _ (file : List ℕ) (count size : ℕ) (e : beginRefusal count size ≡ 0
           rw (on-channel file count size c, le-ltb c count (omega (arith, n)))
           (none-above (length file) count size _ (handed-begin (length file) count size e) ks c (omega (arith, n)))
 
+any-call : (file : List ℕ) (k : NextCall) (ks : List NextCall) → (k .file ≡ file) ⊎ (length (k .file) ≢ length file) → EachLends file ks → EachLends file (k ∷ ks)
+any-call file k ks (inl e) h = ((λ l. e), h)
+any-call file k ks (inr n) h = ((λ l. absurd (n l)), h)
+
 pub sends : Sends
 sends =
     record {
+      any-call = any-call;
       below-count = λ file count size e ks lends c l. sends-on file count size e ks lends c l;
       no-other = λ len count size e ks c l. none-above len count size _ (handed-begin len count size e) ks c l;
       all-sent = λ file count size e ks lends ends c. all-sent file count size e ks lends ends c;

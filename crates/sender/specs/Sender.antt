@@ -66,8 +66,8 @@ unfoldable pub nextBytes : Sender → NextCall → List ℕ
 nextBytes s k = bytesOf (blockOn (k .file) (k .count) (k .size) (k .channel) (givenOn s (k .channel)))
 
 -- a count or size out of range, one or a file length other than the sender was begun with, or a sender no calls can give
-unfoldable pub isNotOurs : Sender → NextCall → Bool
-isNotOurs s k =
+unfoldable pub isMismatched : Sender → NextCall → Bool
+isMismatched s k =
     outOfRange (k .count) (k .size)
     || (not (eqb (k .count) (s .count)) || (not (eqb (k .size) (s .size)) || (not (eqb (length (k .file)) (s .len)) || not (callsCanGive s))))
 
@@ -77,7 +77,7 @@ endingSent s c = leb (mostOn (s .len) (s .count) (s .size) c) (givenOn s c)
 
 -- 71, 73, 74 in this order, or 0
 unfoldable pub callRefusal : Sender → NextCall → ℕ
-callRefusal s k = cond (isNotOurs s k) 71 (cond (leb (k .count) (k .channel)) 73 (cond (endingSent s (k .channel)) 74 0))
+callRefusal s k = cond (isMismatched s k) 71 (cond (leb (k .count) (k .channel)) 73 (cond (endingSent s (k .channel)) 74 0))
 
 -- then 55 where the lent bytes are too few for the whole block
 unfoldable pub nextRefusal : Sender → NextCall → ℕ

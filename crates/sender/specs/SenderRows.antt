@@ -28,13 +28,15 @@ pub record NotWritten (s : Sender) (k : NextCall) (number : ℕ) : Type 0 where
 pub record RefusedBeginning : Type 0 where
   pub refused : (len count size : ℕ) → Outside count size → (beginRefusal count size ≡ 71) × (beginOf len count size ≡ senderOf 0 0 0 (replicate 64 0))
   pub accepted : (len count size : ℕ) → InRange count size → (beginRefusal count size ≡ 0) × (beginOf len count size ≡ senderOf len count size (replicate 64 0))
+  -- there is no third case
+  pub either : (count size : ℕ) → Outside count size ⊎ InRange count size
   -- every later call on it is refused
   pub stays-refused : (len count size : ℕ) → Outside count size → (k : NextCall) → NotWritten (beginOf len count size) k 71
 
 -- ---- the next block
 
--- nothing of 71 holds
-pub record IsOurs (s : Sender) (k : NextCall) : Type 0 where
+-- the call matches the sender: nothing of 71 holds
+pub record Matches (s : Sender) (k : NextCall) : Type 0 where
   pub range : InRange (k .count) (k .size)
   pub count : k .count ≡ s .count
   pub size : k .size ≡ s .size
@@ -55,13 +57,16 @@ pub record Rows : Type 0 where
   pub row-71-size : (s : Sender) (k : NextCall) → k .size ≢ s .size → NotWritten s k 71
   pub row-71-file : (s : Sender) (k : NextCall) → length (k .file) ≢ s .len → NotWritten s k 71
   pub row-71-given : (s : Sender) (k : NextCall) → callsCanGive s ≡ false → NotWritten s k 71
+  -- no other call is 71
+  pub or-matches : (s : Sender) (k : NextCall) → NotWritten s k 71 ⊎ Matches s k
   -- 73: a channel at or above the count
-  pub row-73 : (s : Sender) (k : NextCall) → IsOurs s k → k .count ≤ k .channel → NotWritten s k 73
-  -- 74: its ending is sent
-  pub row-74 : (s : Sender) (k : NextCall) → IsOurs s k → k .channel < k .count → givenOn s (k .channel) ≡ blocksFor k + 1 → NotWritten s k 74
+  pub row-73 : (s : Sender) (k : NextCall) → Matches s k → k .count ≤ k .channel → NotWritten s k 73
+  -- 74: its ending is sent; no channel has been given more
+  pub row-74 : (s : Sender) (k : NextCall) → Matches s k → k .channel < k .count → givenOn s (k .channel) ≡ blocksFor k + 1 → NotWritten s k 74
+  pub no-more : (s : Sender) (k : NextCall) → Matches s k → k .channel < k .count → givenOn s (k .channel) ≤ blocksFor k + 1
   -- 55: fewer bytes are lent than the whole next block has, the header's 17 and its own
-  pub row-55 : (s : Sender) (k : NextCall) → IsOurs s k → k .channel < k .count → givenOn s (k .channel) ≤ blocksFor k → length (k .out) < 17 + length (nextBlock s k .body) → NotWritten s k 55
+  pub row-55 : (s : Sender) (k : NextCall) → Matches s k → k .channel < k .count → givenOn s (k .channel) ≤ blocksFor k → length (k .out) < 17 + length (nextBlock s k .body) → NotWritten s k 55
   -- otherwise the block is written, the lent bytes after it are unchanged, and the channel has been given one block more
-  pub row-written : (s : Sender) (k : NextCall) → IsOurs s k → k .channel < k .count → givenOn s (k .channel) ≤ blocksFor k → 17 + length (nextBlock s k .body) ≤ length (k .out)
+  pub row-written : (s : Sender) (k : NextCall) → Matches s k → k .channel < k .count → givenOn s (k .channel) ≤ blocksFor k → 17 + length (nextBlock s k .body) ≤ length (k .out)
       → Writes (nextOf s k) (nextAfter s k) (k .out) (nextBlock s k .head ++ nextBlock s k .body) (17 + length (nextBlock s k .body))
       × (senderAfter s k ≡ senderOf (s .len) (s .count) (s .size) (set (s .given) (k .channel) (givenOn s (k .channel) + 1)))

@@ -1,9 +1,9 @@
 -- What every list of calls on a sender sends, from an accepted beginning, the sender handed on and the file unchanged (document 02, Item 1).
 use Prim.Native.Nat.{ℕ, _≤_, _<_}
 use mathlib.Core.Path.{_≡_}
-use mathlib.Core.Logic.{_↔_}
+use mathlib.Core.Logic.{_↔_, _⊎_, _≢_}
 use mathlib.Core.Bool.{true}
-use mathlib.Core.List.{List, [], _++_}
+use mathlib.Core.List.{List, [], _∷_, _++_}
 use lib.ListN.{length, getD}
 use Rattle.ledger.specs.Pairs.{none}
 use Rattle.answers.specs.Written.{writtenNumber}
@@ -56,6 +56,8 @@ abbrev pub EndingsSent : Sender → List ℕ → Type 0
 EndingsSent s file = (c : ℕ) → c < s .count → (out : List ℕ) × (numberFor s file c out ≡ 74)
 
 pub record Sends : Type 0 where
+  -- a call that lends the file may be in the list, and one that lends a file of another length, whatever else they are handed
+  pub any-call : (file : List ℕ) (k : NextCall) (ks : List NextCall) → (k .file ≡ file) ⊎ (length (k .file) ≢ length file) → EachLends file ks → EachLends file (k ∷ ks)
   pub below-count : (file : List ℕ) (count size : ℕ) → beginRefusal count size ≡ 0 → (ks : List NextCall) → EachLends file ks → (c : ℕ) → c < count → SendsOn file count size ks c
   -- on any other channel nothing is written
   pub no-other : (len count size : ℕ) → beginRefusal count size ≡ 0 → (ks : List NextCall) → (c : ℕ) → count ≤ c → writtenOn c (beginOf len count size) ks ≡ []

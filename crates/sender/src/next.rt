@@ -12,7 +12,7 @@ ghost use mathlib.Core.List.{List, _++_};
 ghost use Prim.Native.Nat.{ℕ, _+_, _^_, _≤_, _<_};
 ghost use lib.ListN.{length, getD, take, drop};
 ghost use Rattle.eblock.specs.Header.{headerBytes, refusalOf, secondField};
-ghost use Rattle.sender.specs.Sender.{nextCall, isNotOurs, callRefusal, nextOf, nextAfter, movedOn, senderAfter};
+ghost use Rattle.sender.specs.Sender.{nextCall, isMismatched, callRefusal, nextOf, nextAfter, movedOn, senderAfter};
 
 // The sender as a call left it, and how many bytes were written or the number by which it was refused.
 pub struct Sent {
@@ -22,9 +22,9 @@ pub struct Sent {
 
 // Whether a call with this count, size and file length is not one on this sender, or no calls can give the sender. The lengths are compared before
 // blocks are counted, so that no number wraps.
-fn is_not_ours(s: Sender, count: u64, size: u64, len: u64) -> bool
+fn is_mismatched(s: Sender, count: u64, size: u64, len: u64) -> bool
     requires { ⌜ len < 2 ^ 63 ⌝ }
-    ensures { λ r. ⌜ ((c : ℕ) (file out : List ℕ) → length file ≡ len → r ≡ isNotOurs s (nextCall c count size file out)) ⌝ }
+    ensures { λ r. ⌜ ((c : ℕ) (file out : List ℕ) → length file ≡ len → r ≡ isMismatched s (nextCall c count size file out)) ⌝ }
 {
     if out_of_range(count, size) {
         return true;
@@ -46,7 +46,7 @@ fn refusal(s: Sender, channel: u64, count: u64, size: u64, len: u64) -> u8
     requires { ⌜ len < 2 ^ 63 ⌝ }
     ensures { λ r. ⌜ ((file out : List ℕ) → length file ≡ len → r ≡ callRefusal s (nextCall channel count size file out)) ⌝ }
 {
-    if is_not_ours(s, count, size, len) {
+    if is_mismatched(s, count, size, len) {
         return 71;
     }
     if count <= channel {

@@ -1,12 +1,12 @@
--- `next::is_not_ours`.
+-- `next::is_mismatched`.
 use mathlib.Core.Path.{sym, ap, _∙_}
 use mathlib.Core.Bool.{not}
 use native.Mathlib.Omega.{arith}
 use Rattle.sender.specs.Sender.{nextCall}
 use Rattle.sender.proofs.Judged.{wrong-when, wrong-count, wrong-size, wrong-file, by-given, range-of}
 use borrow.Author.Needs.{needs}
-use Rattle.sender.proofs.next.is_not_ours.Statement.{statement}
-use Rattle.sender.proofs.next.is_not_ours.Tie as tie
+use Rattle.sender.proofs.next.is_mismatched.Statement.{statement}
+use Rattle.sender.proofs.next.is_mismatched.Tie as tie
 
 out-of-range-requires : tie.Need-out-of-range-requires
 out-of-range-requires c κs = search needs
@@ -47,8 +47,8 @@ returns-5 c =
     sym (rw e at (by-given (x .t1) (nextCall n (x .count) (x .size) file out) (sym (b .out-of-range .ensures) ∙ i .before .before .before .before .if1 .left) (i .before .before .before .if2 .left) (i .before .before .if3 .left) (e ∙ i .before .if4 .left))
     ∙ ap not (sym (c .all-at-most .ensures)))
 
-pub is-not-ours-spec : {M : Type 1} → statement M
-is-not-ours-spec =
+pub is-mismatched-spec : {M : Type 1} → statement M
+is-mismatched-spec =
     tie.close
     (tie.spec
     out-of-range-requires
