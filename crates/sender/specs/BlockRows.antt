@@ -1,4 +1,4 @@
--- What the blocks and the endings are, in document 02's words (Item 1).
+-- What the blocks and the endings are, a field for each thing that document 02's Item 1 asks of them.
 use Prim.Native.Nat.{ℕ, _+_, _*_, _-_, _/_, _%_, _≤_, _<_, min}
 use mathlib.Core.Path.{_≡_}
 use mathlib.Core.Logic.{_↔_, _≢_}
@@ -13,7 +13,7 @@ pub record Holds (x : Block) (d second third : ℕ) (bytes : List ℕ) : Type 0 
   pub head-is : x .head ≡ d ∷ (toBigEndian 256 8 second ++ toBigEndian 256 8 third)
   pub body-is : x .body ≡ bytes
 
--- "Block k, descriptor 0, never empty, holds bytes k × size up to the smaller of (k + 1) × size and the file's end, and goes on channel k mod the count."
+-- the blocks with bytes
 pub record BlocksAre (file : List ℕ) (count size : ℕ) : Type 0 where
   pub holds : (k : ℕ)
       → Holds (dataBlock file size k) 0 (min ((k + 1) * size) (length file) - k * size) (k * size) (take (min ((k + 1) * size) (length file) - k * size) (drop (k * size) file))
@@ -30,7 +30,7 @@ pub record BlocksAre (file : List ℕ) (count size : ℕ) : Type 0 where
   -- what a call gives a channel after i others is the channel's block i
   pub in-order : (c i : ℕ) (d : Block) → c < count → i ≤ blocksOn (blockCount (length file) size) count c → blockOn file count size c i ≡ getD (channelBlocks file count size c) i d
 
--- "After its last block each channel gets a zero-length ending: descriptor 72 with the count on channel 0, descriptor 8 and offset 0 on the others."
+-- the endings, one behind the blocks of each channel
 pub record EndingsAre (file : List ℕ) (count size : ℕ) : Type 0 where
   pub after-last : (c : ℕ) (d : Block) → c < count
       → (length (channelBlocks file count size c) ≡ blocksOn (blockCount (length file) size) count c + 1)

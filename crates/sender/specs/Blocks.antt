@@ -24,7 +24,7 @@ outOfRange count size = (eqb count 0 || ltb channelLimit count) || (eqb size 0 |
 unfoldable pub blockCount : ℕ → ℕ → ℕ
 blockCount len size = len / size + cond (eqb (len % size) 0) 0 1
 
--- block k holds bytes k × size up to the smaller of (k + 1) × size and the file's end
+-- the place of block k's first byte, and the place behind its last: the file's end cuts the last block
 abbrev pub blockStart : ℕ → ℕ → ℕ
 blockStart size k = k * size
 
@@ -41,18 +41,18 @@ dataBlock file size k =
 
 -- ---- the endings
 
--- zero-length: descriptor 72 with the count on channel 0, descriptor 8 and offset 0 on the others
+-- a header alone: 72 announces the count on channel 0, any other channel has 8
 unfoldable pub ending : ℕ → ℕ → Block
 ending count c = block (cond (eqb c 0) (headerBytes 72 0 count) (headerBytes 8 0 0)) []
 
 -- ---- the channels
 
--- of the blocks below n, those that go on channel c: block k goes on channel k mod the count
+-- of the blocks below n, those of channel c: the blocks are dealt out to the channels in turn
 unfoldable pub dataBlocksOn : List ℕ → ℕ → ℕ → ℕ → ℕ → List Block
 dataBlocksOn file count size c zero = []
 dataBlocksOn file count size c (suc k) = dataBlocksOn file count size c k ++ cond (eqb (k % count) c) (dataBlock file size k ∷ []) []
 
--- all that a channel is given: after its last block its ending
+-- all that a channel is given, its ending last
 unfoldable pub channelBlocks : List ℕ → ℕ → ℕ → ℕ → List Block
 channelBlocks file count size c = dataBlocksOn file count size c (blockCount (length file) size) ++ (ending count c ∷ [])
 

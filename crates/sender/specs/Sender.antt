@@ -27,7 +27,7 @@ begun len count size = senderOf len count size (replicate channelLimit 0)
 unfoldable pub beginRefusal : ℕ → ℕ → ℕ
 beginRefusal count size = cond (outOfRange count size) 71 0
 
--- a refused beginning gives a sender that is all 0
+-- where it is refused the sender is all 0
 unfoldable pub beginOf : ℕ → ℕ → ℕ → Sender
 beginOf len count size = cond (outOfRange count size) (begun 0 0 0) (begun len count size)
 
@@ -65,7 +65,7 @@ bytesOf x = x .head ++ x .body
 unfoldable pub nextBytes : Sender → NextCall → List ℕ
 nextBytes s k = bytesOf (blockOn (k .file) (k .count) (k .size) (k .channel) (givenOn s (k .channel)))
 
--- a count or size out of range, one or a file length other than the sender was begun with, or a sender no calls can give
+-- what 71 asks: numbers out of range, numbers or a file length that are not the sender's, or a sender that the test above refuses
 unfoldable pub isMismatched : Sender → NextCall → Bool
 isMismatched s k =
     outOfRange (k .count) (k .size)

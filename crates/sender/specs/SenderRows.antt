@@ -24,7 +24,7 @@ pub record NotWritten (s : Sender) (k : NextCall) (number : ℕ) : Type 0 where
   pub answer : Refuses (nextOf s k) (nextAfter s k) (k .out) number
   pub sender : senderAfter s k ≡ s
 
--- "a refused beginning gives count 0"
+-- accepted or refused, and what it gives
 pub record RefusedBeginning : Type 0 where
   pub refused : (len count size : ℕ) → Outside count size → (beginRefusal count size ≡ 71) × (beginOf len count size ≡ senderOf 0 0 0 (replicate 64 0))
   pub accepted : (len count size : ℕ) → InRange count size → (beginRefusal count size ≡ 0) × (beginOf len count size ≡ senderOf len count size (replicate 64 0))
@@ -51,7 +51,7 @@ abbrev pub nextBlock : Sender → NextCall → Block
 nextBlock s k = blockOn (k .file) (k .count) (k .size) (k .channel) (givenOn s (k .channel))
 
 pub record Rows : Type 0 where
-  -- 71: a count or size out of range; one other than the sender was begun with; a file of another length; a sender no calls can give
+  -- 71, by any one of its five causes
   pub row-71-range : (s : Sender) (k : NextCall) → Outside (k .count) (k .size) → NotWritten s k 71
   pub row-71-count : (s : Sender) (k : NextCall) → k .count ≢ s .count → NotWritten s k 71
   pub row-71-size : (s : Sender) (k : NextCall) → k .size ≢ s .size → NotWritten s k 71
@@ -59,7 +59,7 @@ pub record Rows : Type 0 where
   pub row-71-given : (s : Sender) (k : NextCall) → callsCanGive s ≡ false → NotWritten s k 71
   -- no other call is 71
   pub or-matches : (s : Sender) (k : NextCall) → NotWritten s k 71 ⊎ Matches s k
-  -- 73: a channel at or above the count
+  -- 73: there is no such channel
   pub row-73 : (s : Sender) (k : NextCall) → Matches s k → k .count ≤ k .channel → NotWritten s k 73
   -- 74: its ending is sent; no channel has been given more
   pub row-74 : (s : Sender) (k : NextCall) → Matches s k → k .channel < k .count → givenOn s (k .channel) ≡ blocksFor k + 1 → NotWritten s k 74

@@ -18,6 +18,7 @@ pub record SendingSide : Type 1 where
   pub sends : Sends
   pub can-end : CanEnd
   pub well-formed : WellFormedSending
+  -- a header has eight bytes for a place, so the file is shorter than 2^64
   pub exactly-once : (file : List ℕ) (count size : ℕ) → beginRefusal count size ≡ 0 → length file < 2 ^ 64 → ExactlyOnce file count size
   pub equal-file : EqualFile
   -- an instance

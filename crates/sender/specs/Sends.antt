@@ -1,4 +1,4 @@
--- What every list of calls on a sender sends, from an accepted beginning, the sender handed on and the file unchanged (document 02, Item 1).
+-- What every list of calls on a sender sends, from an accepted beginning on (document 02, Item 1).
 use Prim.Native.Nat.{ℕ, _≤_, _<_}
 use mathlib.Core.Path.{_≡_}
 use mathlib.Core.Logic.{_↔_, _⊎_, _≢_}
@@ -18,7 +18,7 @@ use Rattle.sender.specs.Blocks.{blockCount, channelBlocks, sending}
 use Rattle.sender.specs.Sender.{beginRefusal, beginOf, callsCanGive, NextCall, nextCall, nextOf}
 use Rattle.sender.specs.Calls.{afterCalls, writtenOn, EachLends}
 
--- ---- "a sender no calls can give"
+-- ---- the senders that calls give
 
 -- some list of calls from an accepted beginning with that file length leaves the sender
 abbrev pub LeftByCalls : Sender → Type 0
@@ -71,11 +71,11 @@ pub record CanEnd : Type 0 where
 
 -- ---- what the sending is
 
--- "given at most 4,096 blocks with bytes, and at the receiver F equal to the file's length and R no smaller than their number"
+-- well-formed, for a receiver whose file has that length and whose ledger has a pair for each block
 pub record WellFormedSending : Type 0 where
   pub is : (file : List ℕ) (count size : ℕ) → beginRefusal count size ≡ 0 → blockCount (length file) size ≤ 4096 → (R : ℕ) → blockCount (length file) size ≤ R → WellFormed (length file) R none (sending file count size)
 
--- "every file byte goes out exactly once". A length is below 2^64, since a header says it in eight bytes.
+-- each byte of the file is sent, and once
 pub record ExactlyOnce (file : List ℕ) (count size : ℕ) : Type 0 where
   -- each place of the file is in one block
   pub once : (p : ℕ) → p < length file → payloadsHolding p (sentBlocks (sending file count size)) ≡ 1
@@ -87,7 +87,7 @@ pub record ExactlyOnce (file : List ℕ) (count size : ℕ) : Type 0 where
   pub no-other : (p : ℕ) → length file ≤ p → payloadsHolding p (sentBlocks (sending file count size)) ≡ 0
   pub only-its-byte : (p v : ℕ) → HasByte p v (sentBlocks (sending file count size)) → (p < length file) × (v ≡ getD file p 0)
 
--- "our receiver ends with an equal file"
+-- these receive calls end with RESULT and the sender's bytes
 pub record EndsEqual (file : List ℕ) (count size : ℕ) (w : World) (start : List ℕ) (rs : List Call) : Type 0 where
   pub result-is : verdictOf (after w rs) ≡ result
   pub file-is : after w rs .lent .file ≡ file
