@@ -3,6 +3,7 @@ pub mod PairsPlaces
 pub mod PairsJoin
 pub mod PairsUnique
 pub mod PairsOverlap
+pub mod PairsNested
 pub mod LedgerLayout
 pub mod LedgerSizes
 pub mod LedgerPairAt

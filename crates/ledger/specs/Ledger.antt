@@ -53,6 +53,10 @@ pairsOf (a ∷ b ∷ rest) =
     let following = pairsOf rest in
     cond (eqb b 0) none (pair a b following)
 
+-- there is a used one: the end of the first is not 0
+unfoldable pub hasPair : List ℕ → Bool
+hasPair ledger = ltb 0 (getD ledger 1 0)
+
 -- a ledger of r pairs with these used ones, and zeros after them
 unfoldable pub laidOut : ℕ → Pairs → List ℕ
 laidOut zero ps = []

@@ -5,8 +5,8 @@ use mathlib.Core.Logic.{_↔_, _≢_}
 use mathlib.Core.Bool.{true, false}
 use mathlib.Core.List.{List}
 use lib.ListN.{length, getD}
-use Rattle.ledger.specs.Pairs.{Pairs, size, total, inRange, contains, ObeyFrom, join, overlaps, inside, endsAtMost}
-use Rattle.ledger.specs.Ledger.{lengthWrong, obeys, pairsOf, Contains}
+use Rattle.ledger.specs.Pairs.{Pairs, size, total, inRange, contains, ObeyFrom, join, overlaps, inside, allInside, endsAtMost}
+use Rattle.ledger.specs.Ledger.{lengthWrong, obeys, pairsOf, hasPair, Contains}
 
 -- the ledger rule in document 01's words, for a ledger of r pairs
 pub record Obeys (r : ℕ) (l : List ℕ) : Type 0 where
@@ -45,3 +45,7 @@ pub record Ledgers : Type 0 where
   -- sharing is a common place, and lying inside one pair is that every place is held
   pub overlaps-place : (s e : ℕ) (ps : Pairs) → s < e → ObeyFrom 0 ps → (overlaps s e ps ≡ false) ↔ ((p : ℕ) → inRange s e p + contains p ps ≤ 1)
   pub inside-places : (s e : ℕ) (ps : Pairs) → s < e → ObeyFrom 0 ps → (inside s e ps ≡ true) ↔ ((p : ℕ) → s ≤ p → p < e → contains p ps ≡ 1)
+  -- each of its ranges lies inside one of another ledger exactly where each of its places is held there
+  pub nested-places : (ds ps : Pairs) → ObeyFrom 0 ds → ObeyFrom 0 ps → (allInside ds ps ≡ true) ↔ ((p : ℕ) → contains p ds ≤ contains p ps)
+  -- it has a used pair exactly where it holds bytes
+  pub pair-bytes : (l : List ℕ) → obeys l ≡ true → (hasPair l ≡ true) ↔ (0 < total (pairsOf l))

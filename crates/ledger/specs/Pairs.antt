@@ -54,6 +54,11 @@ unfoldable pub inside : ℕ → ℕ → Pairs → Bool
 inside s e none = false
 inside s e (pair a b ps) = (leb a s && leb e b) || inside s e ps
 
+-- each of the pairs ds lies inside one of the pairs ps
+unfoldable pub allInside : Pairs → Pairs → Bool
+allInside none ps = true
+allInside (pair a b ds) ps = inside a b ps && allInside ds ps
+
 -- no end is above f
 unfoldable pub endsAtMost : ℕ → Pairs → Bool
 endsAtMost f none = true

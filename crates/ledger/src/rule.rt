@@ -6,7 +6,7 @@ ghost use Prim.Native.Nat.{suc, _+_, _%_, _≤_, min};
 ghost use lib.Dec.{leb, ltb, eqb};
 ghost use lib.ListN.{length, getD, drop};
 ghost use Rattle.ledger.specs.Pairs.{total, endsAtMost};
-ghost use Rattle.ledger.specs.Ledger.{lengthWrong, allZero, mayFollow, obeysFrom, obeys, ledgerRefusal, pairsOf};
+ghost use Rattle.ledger.specs.Ledger.{lengthWrong, allZero, mayFollow, obeysFrom, obeys, ledgerRefusal, pairsOf, hasPair};
 
 // The most entries that a ledger may have.
 pub const ENTRY_LIMIT: usize = 8192;
@@ -68,6 +68,13 @@ fn pair_used(ledger: &[u64], i: usize) -> bool
         return false;
     }
     0 < ledger[i + 1]
+}
+
+// Whether the ledger has a used pair: the first is used, or none is.
+pub fn has_pair(ledger: &[u64]) -> bool
+    ensures { λ r. ⌜ r ≡ hasPair (now (ledger .entry)) ⌝ }
+{
+    pair_used(ledger, 0)
 }
 
 // Whether the pairs after the first obey the rule, where that one ends at `first`, and no end is above the limit. Ends that obey the rule

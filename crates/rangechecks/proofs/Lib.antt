@@ -1,2 +1,5 @@
 pub mod Ranges
 pub mod RangeInside
+pub mod Reaching
+pub mod PairNumbered
+pub mod NestedWalk
