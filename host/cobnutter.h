@@ -10,14 +10,18 @@
  *
  * A transfer goes in by value and the answer holds the next one, which takes its place:
  *
- *     cob_received r = cob_receive(t, channel, piece, piece_len, file, file_len, ledger, ledger_len);
+ *     cob_received r = cob_receive(t, channel, piece, piece_len, file, file_len, claimed, claimed_len, doubtful,
+ *                                  doubtful_len);
  *     t = r.transfer;
  *
- * The file has as many bytes (F) as were named at the start, and the ledger as many entries: 2R numbers for R ranges,
- * an even number, at most COB_LEDGER_LIMIT. The ledger holds pairs of start and end, end not counted, ascending, with
- * zeros after them. As many pairs as the sender has blocks are enough; ranges that touch become one, so mostly fewer
- * are enough. Transfer, file and ledger belong together: cob_receive tests that they fit, and refuses with 1 where they
- * do not; cob_screen_line tests the same without the file. cob_verdict and cob_stored test nothing.
+ * The file has as many bytes (F) as were named at the start. Two ledgers of one length are lent with it. The claimed one
+ * has the ranges that headers announced, the doubtful one those of them that the sender suspects of errors (bit 32).
+ * Each has 2R numbers for R ranges, an even number, at most COB_LEDGER_LIMIT, and holds pairs of start and end, end not
+ * counted, ascending, with zeros after them. Each may need as many pairs as the sender has blocks, and never more;
+ * ranges that touch become one, so mostly fewer are enough.
+ *
+ * Transfer, file and ledgers belong together: cob_receive tests that they fit, and refuses with 1 where they do not;
+ * cob_screen_line and cob_shown test the same without the file.
  *
  * A channel is a number below COB_CHANNELS that the host gives to one data connection; its pieces come in order. A
  * sender counts the connections of each listener apart, so a host keeps one transfer for each listener. Where a channel
@@ -33,10 +37,10 @@
  *
  * Numbers. `refused` is 0 where a call is not refused. In every answer a field that means nothing in a case is 0.
  *
- *      1  transfer, file and ledger do not fit, or a ledger that is to be written breaks its rule
- *      2  channel 64 or above                       3  the verdict is RESULT or BROKEN already
- *      4  a piece that has bytes, but the channel   5  start: odd ledger length, or above COB_LEDGER_LIMIT
- *         has ended
+ *      1  transfer, file and ledgers do not fit, or a ledger that is to be written breaks its rule
+ *      2  channel 64 or above                       3  the verdict is not GUESS
+ *      4  a piece that has bytes, but the channel   5  start: ledgers of unequal lengths, of an odd length, or above
+ *         has ended                                    COB_LEDGER_LIMIT
  *     21  a header does not have 17 bytes
  *     31  line above 2,048 bytes                   32  no CR LF at the end
  *     33  a byte outside 32 to 126                 34  verb
@@ -44,21 +48,23 @@
  *     41  host-port malformed or empty             42  more than 64 host-ports
  *     43  list of fewer than 64 entries
  *     51  range malformed                          52  the ranges so far, merged, need more pairs than the ledger has
- *     53  ledger length, as 5                      54  an empty ledger has no text
+ *     53  ledger length odd or above the limit     54  an empty ledger has no text
  *     55  too few bytes lent for the whole output
  *     61  saved ledger cut short, wrong length     62  another kind of record
  *     63  pairs not whole, or against the rule     64  more pairs than the ledger has
  *     71  count or size out of range or not the sender's, another file length, or a sender that no calls give
  *     73  channel at or above the count            74  the channel's ending is written already
  *
- * A peer's fault is no refusal: the call is answered, the verdict is COB_BROKEN, and the transfer has the number and the
+ * A peer's fault is no refusal: the call is answered, the verdict is COB_BROKEN, and cob_shown has the number and the
  * channel. The header reader and writer refuse with 11, 12, 13 and 15 too.
  *
  *     11  descriptor with bit 1 or 2               12  descriptor with bit 128 or 16
  *     13  descriptor whose bits don't go together  14  a second count of end markers
  *     15  count 0, above 64, or below the channels in use
  *     16  payload past the file's end              17  payload shares a byte with another
- *     18  no pair left in the ledger               19  a channel more than was counted
+ *     18  a ledger lacks a pair for the payload    19  a channel more than was counted
+ *
+ * By 17 or 18 neither ledger changes, even where one of them has a pair left.
  *
  * By 1 to 5, 21 to 36, 43, 53 to 74, and the header writer's 11, 12, 13 and 15 nothing that was lent changes. By 41 and 42
  * the whole list becomes 0, by 51 and 52 the whole ledger.
@@ -74,6 +80,7 @@ extern "C" {
 #endif
 
 #define COB_CHANNELS 64
+/* The most entries of each ledger. */
 #define COB_LEDGER_LIMIT 8192
 #define COB_HEADER_LENGTH 17
 /* The most bytes of the file in one block that is sent. */
@@ -81,15 +88,29 @@ extern "C" {
 /* The fewest entries of a list for host-ports, and the most host-ports of a text. */
 #define COB_HOST_LIMIT 64
 /* More bytes than any screen line has. */
-#define COB_SCREEN_LINE 64
+#define COB_SCREEN_LINE 96
 
 /* The verdicts. */
 #define COB_GUESS 0
 #define COB_RESULT 1
 #define COB_BROKEN 2
+/* As final as COB_RESULT, with bytes in doubtful ranges. */
+#define COB_SUSPECT 3
 
 /* ---- one transfer */
 
+/*
+ * The first version of this header had one ledger. These three have other symbols now, so that an object compiled with
+ * that header does not link, instead of lending one ledger where two are read.
+ */
+#define cob_start cob2_start
+#define cob_receive cob2_receive
+#define cob_screen_line cob2_screen_line
+
+/*
+ * The fields of cob_channel and cob_transfer are the library's own: a host holds a transfer and hands it on as it is.
+ * They are listed because it goes by value. What they say is asked with cob_shown.
+ */
 typedef struct cob_channel {
     uint8_t state; /* 0 unused, 1 in a header, 2 in a payload, 3 in the last payload, 4 ended */
     uint8_t held;  /* header bytes held, 0 unless in a header */
@@ -114,10 +135,22 @@ typedef struct cob_started {
 
 typedef struct cob_received {
     cob_transfer transfer;
-    size_t taken; /* bytes of the piece */
-    uint8_t verdict;
+    size_t taken;    /* bytes of the piece */
+    uint8_t verdict; /* of the transfer beside it, also where the call is refused */
     uint8_t refused;
 } cob_received;
+
+/* What the screen line says, as numbers. */
+typedef struct cob_screen {
+    uint64_t ended;    /* channels that have ended */
+    uint64_t count;    /* of end markers, 0 while unknown */
+    uint64_t fault;    /* 0 where there is none */
+    uint64_t on;       /* the fault's channel */
+    uint64_t bytes;    /* payload bytes stored since the start */
+    uint64_t doubtful; /* bytes that the doubtful ranges hold, under every verdict */
+    uint8_t verdict;
+    uint8_t refused;
+} cob_screen;
 
 /* What every writer answers. */
 typedef struct cob_written {
@@ -125,20 +158,20 @@ typedef struct cob_written {
     uint8_t refused;
 } cob_written;
 
-/* Zeroes the ledger. */
-cob_started cob_start(uint64_t len, uint64_t *ledger, size_t ledger_len);
+/* Zeroes both ledgers. */
+cob_started cob_start(uint64_t len, uint64_t *claimed, size_t claimed_len, uint64_t *doubtful, size_t doubtful_len);
 
 cob_received cob_receive(cob_transfer transfer, uint64_t channel, const uint8_t *piece, size_t piece_len,
-                         uint8_t *file, size_t file_len, uint64_t *ledger, size_t ledger_len);
+                         uint8_t *file, size_t file_len, uint64_t *claimed, size_t claimed_len, uint64_t *doubtful,
+                         size_t doubtful_len);
 
-uint8_t cob_verdict(cob_transfer transfer);
+/* Refuses with 1 alone. */
+cob_screen cob_shown(cob_transfer transfer, const uint64_t *claimed, size_t claimed_len, const uint64_t *doubtful,
+                     size_t doubtful_len);
 
-/* The payload bytes stored since the start. */
-uint64_t cob_stored(cob_transfer transfer, const uint64_t *ledger, size_t ledger_len);
-
-/* Ends with LF, and has no 0 after it. */
-cob_written cob_screen_line(cob_transfer transfer, const uint64_t *ledger, size_t ledger_len, uint8_t *out,
-                            size_t out_len);
+/* Ends with LF, and has no 0 after it. Refuses with 1, then 55. */
+cob_written cob_screen_line(cob_transfer transfer, const uint64_t *claimed, size_t claimed_len,
+                            const uint64_t *doubtful, size_t doubtful_len, uint8_t *out, size_t out_len);
 
 /* ---- sending a file */
 

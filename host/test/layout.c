@@ -1,4 +1,7 @@
-/* The layout of every struct, and every function called from C: the screen lines of document 01, and of a file sent. */
+/*
+ * The layout of every struct, and every function called from C: the screen lines of document 01, of a file sent, of one
+ * that its sender suspects in part, and of a doubtful ledger that is too short.
+ */
 #include "../cobnutter.h"
 
 #include <stdio.h>
@@ -31,6 +34,16 @@ AT(cob_received, transfer, 0);
 AT(cob_received, taken, 2600);
 AT(cob_received, verdict, 2608);
 AT(cob_received, refused, 2609);
+
+SIZE(cob_screen, 56);
+AT(cob_screen, ended, 0);
+AT(cob_screen, count, 8);
+AT(cob_screen, fault, 16);
+AT(cob_screen, on, 24);
+AT(cob_screen, bytes, 32);
+AT(cob_screen, doubtful, 40);
+AT(cob_screen, verdict, 48);
+AT(cob_screen, refused, 49);
 
 SIZE(cob_written, 16);
 AT(cob_written, length, 0);
@@ -79,17 +92,30 @@ AT(cob_found, found, 16);
 
 static cob_transfer transfer;
 static uint8_t file[8];
-static uint64_t ledger[2];
+static uint64_t claimed[2], doubtful[2];
+
+static int start(void)
+{
+    cob_started started = cob_start(sizeof file, claimed, 2, doubtful, 2);
+    transfer = started.transfer;
+    return started.refused == 0 && claimed[1] == 0 && doubtful[1] == 0;
+}
+
+static cob_screen shown(void)
+{
+    return cob_shown(transfer, claimed, 2, doubtful, 2);
+}
 
 /* A piece on a channel, then the screen line. */
 static int piece(uint64_t channel, const uint8_t *bytes, size_t length)
 {
     uint8_t line[COB_SCREEN_LINE];
-    cob_received received = cob_receive(transfer, channel, bytes, length, file, sizeof file, ledger, 2);
+    cob_received received =
+        cob_receive(transfer, channel, bytes, length, file, sizeof file, claimed, 2, doubtful, 2);
     transfer = received.transfer;
-    cob_written screen = cob_screen_line(transfer, ledger, 2, line, sizeof line);
+    cob_written screen = cob_screen_line(transfer, claimed, 2, doubtful, 2, line, sizeof line);
     fwrite(line, 1, screen.length, stdout);
-    return received.refused == 0 && received.taken == length && received.verdict == cob_verdict(transfer);
+    return received.refused == 0 && received.taken == length && received.verdict == shown().verdict;
 }
 
 static int block(uint64_t channel, uint8_t descriptor, uint64_t third, const char *payload)
@@ -120,11 +146,9 @@ static int send_channel(uint64_t channel)
 static int sending(void)
 {
     uint8_t out[COB_HEADER_LENGTH];
-    cob_started started = cob_start(sizeof file, ledger, 2);
     cob_begun begun = cob_sender_begin(sizeof file, 2, 3);
-    transfer = started.transfer;
     sender = begun.sender;
-    return begun.refused == 0 && cob_sender_begin(sizeof file, 65, 3).refused == 71 &&
+    return start() && begun.refused == 0 && cob_sender_begin(sizeof file, 65, 3).refused == 71 &&
            cob_sender_next(sender, 0, 2, 4, TEXT(SENT), out, sizeof out).refused == 71 &&
            cob_sender_next(sender, 2, 2, 3, TEXT(SENT), out, sizeof out).refused == 73 &&
            cob_sender_next(sender, 0, 2, 3, TEXT(SENT), out, sizeof out).refused == 55 && send_channel(1) &&
@@ -159,11 +183,44 @@ static int forms(void)
            cob_saved_read(out, saved.length, to, 2) == 0 && to[0] == 0 && to[1] == 90;
 }
 
+static int shows(uint8_t verdict, uint64_t ended, uint64_t count, uint64_t bytes, uint64_t doubted)
+{
+    cob_screen s = shown();
+    return s.refused == 0 && s.verdict == verdict && s.ended == ended && s.count == count && s.fault == 0 &&
+           s.on == 0 && s.bytes == bytes && s.doubtful == doubted;
+}
+
+/* One payload of two with bit 32. */
+static int suspected(void)
+{
+    return start() && block(0, 32, 0, "p") && block(1, 8, 1, "laid123") && shows(COB_GUESS, 1, 0, 8, 1) &&
+           block(0, 72, 2, "") && shows(COB_SUSPECT, 2, 2, 8, 1);
+}
+
+/* A range for which the doubtful ledger alone has no pair: its payload is not taken, and neither ledger changes. */
+static int broken(void)
+{
+    int taken = start() && block(5, 32, 0, "a") && block(5, 0, 1, "b");
+    int fault = !block(5, 32, 2, "c");
+    cob_screen s = shown();
+    return taken && fault && s.verdict == COB_BROKEN && s.fault == 18 && s.on == 5 && s.bytes == 2 &&
+           s.doubtful == 1 && claimed[1] == 2 && doubtful[1] == 1;
+}
+
+/* A doubtful range that is inside no claimed one, and lengths that differ. */
+static int refused(void)
+{
+    static const cob_screen none = {.refused = 1};
+    doubtful[1] = 9;
+    cob_screen s = shown();
+    return memcmp(&s, &none, offsetof(cob_screen, refused) + 1) == 0 &&
+           cob_receive(transfer, 0, TEXT(""), file, sizeof file, claimed, 2, doubtful, 2).refused == 1 &&
+           cob_start(sizeof file, claimed, 2, doubtful, 0).refused == 5 && claimed[1] == 2 && doubtful[1] == 9;
+}
+
 int main(void)
 {
-    cob_started started = cob_start(sizeof file, ledger, 2);
-    transfer = started.transfer;
-    int good = started.refused == 0 && block(0, 0, 0, "plai") && block(1, 8, 4, "d123") && block(0, 72, 2, "") &&
-               memcmp(file, "plaid123", sizeof file) == 0 && cob_stored(transfer, ledger, 2) == sizeof file;
-    return good && sending() && control() && forms() ? 0 : 1;
+    int good = start() && block(0, 0, 0, "plai") && block(1, 8, 4, "d123") && block(0, 72, 2, "") &&
+               memcmp(file, "plaid123", sizeof file) == 0 && shows(COB_RESULT, 2, 2, sizeof file, 0);
+    return good && sending() && suspected() && broken() && refused() && control() && forms() ? 0 : 1;
 }

@@ -7,9 +7,10 @@ use native.Mathlib.Omega.{arith}
 use lib.Dec.{ltb}
 use lib.ListN.{length, take, drop, length-append}
 use lib.Seq.{getD-set-same, set-set, take-at, drop-at, take-append-add, take-append-le, drop-append-add, drop-append-le, length-take-le}
+use Rattle.ledger.specs.Ledger.{hasPair}
 use Rattle.transfer.specs.declared.state.Transfer.{Transfer}
 use Rattle.transfer.specs.Channel.{heldLimit, State, header, payload, ended, stateCode, heldLength, nextPlace, bytesLeft, heldBytes, encodeState, blank, channelAt, putState, putFault}
-use Rattle.transfer.specs.Transfer.{oneIfEnded, oneIfActive, usedOf, world, guess, result, broken, allEnded, verdictOf}
+use Rattle.transfer.specs.Transfer.{oneIfEnded, oneIfActive, usedOf, world, guess, result, suspect, broken, allEnded, isDoubted, verdictOf}
 use Rattle.transfer.specs.Header.{requestOf}
 use Rattle.channels.specs.declared.channel_state.ChannelState.{ChannelState}
 use Rattle.channels.specs.declared.other_channels.OtherChannels.{OtherChannels}
@@ -115,10 +116,10 @@ write-back-len t c x = refl
 
 module _ (t : Transfer) (c : ℕ) (o : OtherChannels) (a : CountsOthers t c o) where
   -- the verdict by the count of the others that have ended
-  pub write-back-verdict : (x : ChannelState) (file ledger : List ℕ)
-      → verdictOf (world (writeBack t c x) file ledger) ≡ cond (ltb 0 (x .fault)) broken (cond (countReached (x .count) (o .ended + oneIfEnded (channelOf x))) result guess)
-  unfolding verdictOf allEnded
-  write-back-verdict x file ledger = rw (a .ended x) (unfold writeBack in refl)
+  pub write-back-verdict : (x : ChannelState) (file claimed doubtful : List ℕ)
+      → verdictOf (world (writeBack t c x) file claimed doubtful) ≡ cond (ltb 0 (x .fault)) broken (cond (countReached (x .count) (o .ended + oneIfEnded (channelOf x))) (cond (hasPair doubtful) suspect result) guess)
+  unfolding verdictOf allEnded isDoubted
+  write-back-verdict x file claimed doubtful = rw (a .ended x) (unfold writeBack in refl)
 
   pub write-back-used : (x : ChannelState) → x .state ≡ 1 → usedOf (writeBack t c x) ≡ o .used + 1
   write-back-used x s = let z : oneIfEnded (channelOf x) + oneIfActive (channelOf x) ≡ 1 = rw s in omega (arith, a .used x, z)

@@ -29,7 +29,7 @@ fn payload_number(last: bool) -> u8
 
 // left payload bytes from the place next on are to come, after which the channel ends or not; a channel's end stops the call.
 pub fn expect_payload(x: ChannelState, next: u64, left: u64, last: bool) -> NextState
-    ensures { λ r. ⌜ ((t : Transfer) (c : ℕ) (file ledger : List ℕ) → HasChannel t c → continuesOrStops (r .continues) (world (writeBack t c (r .channel)) file ledger) ≡ expectPayload (world (writeBack t c x) file ledger) c next left last) ⌝ }
+    ensures { λ r. ⌜ ((t : Transfer) (c : ℕ) (file claimed doubtful : List ℕ) → HasChannel t c → continuesOrStops (r .continues) (world (writeBack t c (r .channel)) file claimed doubtful) ≡ expectPayload (world (writeBack t c x) file claimed doubtful) c next left last) ⌝ }
 {
     if 0 < left {
         return NextState {

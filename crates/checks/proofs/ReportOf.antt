@@ -9,10 +9,10 @@ use Rattle.transfer.specs.Fit.{fitsWithoutFile}
 use Rattle.channelchecks.specs.FitReport.{unfit, reportIf}
 use Rattle.checks.specs.ReportOf.{reportOf, reportWithFile}
 
-pub report-in : (file : ℕ) (t : Transfer) (l : List ℕ) → reportWithFile file t l ≡ reportIf (eqb file (t .len) && fitsWithoutFile t l) t
+pub report-in : (file : ℕ) (t : Transfer) (claimed doubtful : List ℕ) → reportWithFile file t claimed doubtful ≡ reportIf (eqb file (t .len) && fitsWithoutFile t claimed doubtful) t
 unfolding reportWithFile reportOf
-report-in file t l = go (eqb file (t .len))
+report-in file t claimed doubtful = go (eqb file (t .len))
   where
-    go : (b : Bool) → cond b (reportIf (fitsWithoutFile t l) t) unfit ≡ reportIf (b && fitsWithoutFile t l) t
+    go : (b : Bool) → cond b (reportIf (fitsWithoutFile t claimed doubtful) t) unfit ≡ reportIf (b && fitsWithoutFile t claimed doubtful) t
     go true = refl
     go false = refl

@@ -1,3 +1,3 @@
-// FIT: whether a transfer, a file and a ledger belong together.
+// FIT: whether a transfer, a file and two ledgers belong together.
 pub mod fit;
 mod numbers;

@@ -44,12 +44,12 @@ Holds (descriptor d fault) =
     (faultOf d ≡ fault)
     × (refusalNumber (readOf (headerBytes d 0 0)) ≡ fault)
     × (writtenNumber (writeOf d 0 lentBytes) ≡ fault)
-    × (after (startedWorld (replicate 8 0) lentLedger) (receive 0 (headerBytes d 0 0) ∷ []) .t .fault ≡ fault)
+    × (after (startedWorld (replicate 8 0) lentLedger lentLedger) (receive 0 (headerBytes d 0 0) ∷ []) .t .fault ≡ fault)
 Holds (received calls fault ledger) =
-    let start = startedWorld (replicate 8 0) lentLedger in
+    let start = startedWorld (replicate 8 0) lentLedger lentLedger in
     (answersOf start calls ≡ map takesAll calls)
     × (after start calls .t .fault ≡ fault)
-    × (after start calls .lent .ledger ≡ ledger)
+    × (after start calls .lent .claimed ≡ ledger)
 Holds (ranges text k ledger) =
     (loadedNumber (readRanges text lentLedger) ≡ k) × (readRangesAfter text lentLedger ≡ ledger)
 

@@ -17,7 +17,7 @@ use Rattle.headers.specs.ClaimOrFault.{claimOrFault}
 module _ (F known used : ℕ) (h : List ℕ) where
   abbrev Ranged : HeaderRequest → Type 0
   Ranged (counts n) = Unit {0}
-  Ranged (claims s e) = (s < e) × (e - s ≡ payloadLength h)
+  Ranged (claims s e doubt) = (s < e) × (e - s ≡ payloadLength h)
   Ranged nothing = Unit {0}
   Ranged (faulty k) = Unit {0}
 
@@ -31,26 +31,26 @@ module _ (F known used : ℕ) (h : List ℕ) where
   ranged _ (by-16 d q l f) = tt
   ranged _ (for-claim d q l f) = (omega arith, rw q (omega arith))
 
-  pub range-asked : (s e : ℕ) → claims s e ≡ requestOf F known used h → (s < e) × (e - s ≡ payloadLength h)
-  range-asked s e q = rw (sym q) at (ranged (requestOf F known used h) (asked F known used h))
+  pub range-asked : (s e : ℕ) (doubt : Bool) → claims s e doubt ≡ requestOf F known used h → (s < e) × (e - s ≡ payloadLength h)
+  range-asked s e doubt q = rw (sym q) at (ranged (requestOf F known used h) (asked F known used h))
 
-module _ (t : Transfer) (file l : List ℕ) (c : ℕ) (h : List ℕ) where
+module _ (t : Transfer) (file claimed doubtful : List ℕ) (c : ℕ) (h : List ℕ) where
   abbrev AsksFor : HeaderRequest → Type 0
   AsksFor a = a ≡ requestOf (t .len) (t .count) (usedOf t) h
 
-  pub apply-fault : (k : ℕ) → AsksFor (faulty k) → stopWithFault (world t file l) c k ≡ applyHeader (world t file l) c h
+  pub apply-fault : (k : ℕ) → AsksFor (faulty k) → stopWithFault (world t file claimed doubtful) c k ≡ applyHeader (world t file claimed doubtful) c h
   unfolding applyHeader applyRequest
   apply-fault k q = rw (sym q)
 
   module _ (v : Outcome World) (last : Bool) (is : last ≡ endsChannel h) where
-    pub apply-count : (n : ℕ) → AsksFor (counts n) → v ≡ expectPayload (world (putCount t n) file l) c 0 0 last → v ≡ applyHeader (world t file l) c h
+    pub apply-count : (n : ℕ) → AsksFor (counts n) → v ≡ expectPayload (world (putCount t n) file claimed doubtful) c 0 0 last → v ≡ applyHeader (world t file claimed doubtful) c h
     unfolding applyHeader applyRequest
     apply-count n q e = rw (sym q) (rw is at e)
 
-    pub apply-nothing : AsksFor nothing → v ≡ expectPayload (world t file l) c 0 0 last → v ≡ applyHeader (world t file l) c h
+    pub apply-nothing : AsksFor nothing → v ≡ expectPayload (world t file claimed doubtful) c 0 0 last → v ≡ applyHeader (world t file claimed doubtful) c h
     unfolding applyHeader applyRequest
     apply-nothing q e = rw (sym q) (rw is at e)
 
-    pub apply-claim : (s e : ℕ) → AsksFor (claims s e) → v ≡ claimOrFault (world t file l) c s e last → v ≡ applyHeader (world t file l) c h
+    pub apply-claim : (s e : ℕ) (doubt : Bool) → AsksFor (claims s e doubt) → v ≡ claimOrFault (world t file claimed doubtful) c s e doubt last → v ≡ applyHeader (world t file claimed doubtful) c h
     unfolding applyHeader applyRequest claimOrFault
-    apply-claim s e q w = rw (sym q) (rw (is, range-asked (t .len) (t .count) (usedOf t) h s e q .1) at w)
+    apply-claim s e doubt q w = rw (sym q) (rw (is, range-asked (t .len) (t .count) (usedOf t) h s e doubt q .1) at w)

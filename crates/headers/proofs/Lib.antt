@@ -1,3 +1,4 @@
 pub mod ClaimNumber
+pub mod ClaimRange
 pub mod ClaimOrFault
 pub mod ApplyHeader

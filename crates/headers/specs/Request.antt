@@ -5,6 +5,6 @@ use Rattle.headers.specs.declared.judge.Request.the-variants.{Counts, Cl
 
 abbrev pub toHeaderRequest : Request → HeaderRequest
 toHeaderRequest (Counts n) = counts n
-toHeaderRequest (Claims s e) = claims s e
+toHeaderRequest (Claims s e doubt) = claims s e doubt
 toHeaderRequest Nothing = nothing
 toHeaderRequest (Faulty k) = faulty k

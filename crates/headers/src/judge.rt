@@ -12,10 +12,14 @@ ghost use Rattle.eblock.specs.Header.{countLimit};
 ghost use Rattle.transfer.specs.Header.{counts, claims, nothing, faulty, requestOf};
 ghost use Rattle.headers.specs.Request.{toHeaderRequest};
 
-// What a header asks for: a count, a range, or neither; or the number of its fault.
+// What a header asks for: a count, a range, doubtful or not, or neither; or the number of its fault.
 pub enum Request {
     Counts(u64),
-    Claims { start: u64, end: u64 },
+    Claims {
+        start: u64,
+        end: u64,
+        doubtful: bool,
+    },
     Nothing,
     Faulty(u8),
 }
@@ -39,9 +43,9 @@ fn judge_count(known: u64, others: u64, count: u64) -> Request
     Request::Counts(count)
 }
 
-// A payload of length bytes from the place offset on, in a file of len bytes.
-fn judge_payload(len: u64, length: u64, offset: u64) -> Request
-    ensures { λ r. ⌜ toHeaderRequest r ≡ cond (eqb length 0) nothing (cond (ltb len (offset + length)) (faulty 16) (claims offset (offset + length))) ⌝ }
+// A payload of length bytes from the place offset on, doubtful or not, in a file of len bytes.
+fn judge_payload(len: u64, length: u64, offset: u64, doubtful: bool) -> Request
+    ensures { λ r. ⌜ toHeaderRequest r ≡ cond (eqb length 0) nothing (cond (ltb len (offset + length)) (faulty 16) (claims offset (offset + length) doubtful)) ⌝ }
 {
     if length == 0 {
         return Request::Nothing;
@@ -52,6 +56,7 @@ fn judge_payload(len: u64, length: u64, offset: u64) -> Request
     Request::Claims {
         start: offset,
         end: offset + length,
+        doubtful: doubtful,
     }
 }
 
@@ -70,5 +75,6 @@ pub fn judge_header(len: u64, known: u64, others: u64, head: &[u8]) -> Request
         return judge_count(known, others, third);
     }
     let second = big::read(&head[1..9]);
-    judge_payload(len, second, third)
+    let doubtful = descriptor::has(descriptor::SUSPECTED, d);
+    judge_payload(len, second, third, doubtful)
 }

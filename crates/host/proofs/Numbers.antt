@@ -12,10 +12,14 @@ use Rattle.commands.specs.declared.line.Line.the-variants.{Command, Refused as 
 use Rattle.hostlists.specs.HostList.{refusalNumber as listNumber}
 use Rattle.hostlists.specs.declared.list.Hosts.{Hosts}
 use Rattle.hostlists.specs.declared.list.Hosts.the-variants.{Count, Refused as NoList}
+use Rattle.receiver.specs.declared.show.Screen.{Screen}
+use Rattle.receiver.specs.declared.show.Screen.the-variants.{Shows, Refused as NotShown}
+use Rattle.receiver.specs.Shown.{screenNumber}
 use Rattle.host.specs.Header.{fieldsOf}
 use Rattle.host.specs.Written.{writtenOf}
 use Rattle.host.specs.Line.{commandOf}
 use Rattle.host.specs.Hosts.{hostPortCountOf}
+use Rattle.host.specs.Shown.{shownBy}
 use Rattle.host.specs.Numbers.{Numbers}
 
 header : (x : Header) → fieldsOf x .refused ≡ headerNumber x
@@ -39,10 +43,14 @@ unfolding writtenBytes writtenNumber
 written (Bytes n) = (refl, refl)
 written (NotWritten k) = (refl, refl)
 
+shown : (x : Screen) → shownBy x .refused ≡ screenNumber x
+shown (Shows n) = refl
+shown (NotShown k) = refl
+
 list : (x : Hosts) → hostPortCountOf x .refused ≡ listNumber x
 unfolding listNumber
 list (Count n) = refl
 list (NoList k) = refl
 
 pub numbers : Numbers
-numbers = record { header = header; line = line; verb-is = verb-is; written = written; sent = λ x s. (written x .0, written x .1, refl); list = list }
+numbers = record { header = header; line = line; verb-is = verb-is; written = written; sent = λ x s. (written x .0, written x .1, refl); shown = shown; list = list }

@@ -1,4 +1,5 @@
 pub mod Received
+pub mod Shown
 pub mod Header
 pub mod Written
 pub mod Sending

@@ -1,6 +1,6 @@
 -- What receive leaves, as a host has it: numbers in place of cases.
 use Prim.Native.Nat.{ℕ}
-use Rattle.transfer.specs.Transfer.{World, Verdict, guess, result, broken, verdictOf}
+use Rattle.transfer.specs.Transfer.{World, Verdict, guess, result, suspect, broken, verdictOf}
 use Rattle.transfer.specs.Receive.{Answer, refused, took}
 use Rattle.host.specs.declared.calls.Received.{Received}
 
@@ -8,6 +8,7 @@ abbrev pub verdictCode : Verdict → ℕ
 verdictCode guess = 0
 verdictCode result = 1
 verdictCode broken = 2
+verdictCode suspect = 3
 
 -- none where the call is refused
 abbrev pub takenIn : Answer → ℕ

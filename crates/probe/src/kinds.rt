@@ -34,23 +34,56 @@ fn read_or_write(kind: u16, body: &[u8]) -> bool {
     }
 }
 
-fn by_numbers(s: Session, kind: u16, a: u64, b: u64, file: &mut [u8], ledger: &mut [u64]) -> Turn {
+fn by_numbers(
+    s: Session,
+    kind: u16,
+    a: u64,
+    b: u64,
+    file: &mut [u8],
+    claimed: &mut [u64],
+    doubtful: &mut [u64],
+) -> Turn {
     match kind {
-        16 => calls::start(s, a, b, file, ledger),
-        19 => lent::poke(s, a, b, ledger),
-        20 => lent::lend(s, a, b, file, ledger),
+        16 => calls::start(s, a, b, b, file, claimed, doubtful),
+        19 => lent::poke(s, a, b, claimed, doubtful),
+        20 => lent::lend(s, a, b, file, claimed, doubtful),
+        24 => lent::poke_doubtful(s, a, b, claimed, doubtful),
         _ => lent::show_file(s, a, b, file),
     }
 }
 
 // Kinds whose body is two numbers.
-fn two_numbers(s: Session, kind: u16, body: &[u8], file: &mut [u8], ledger: &mut [u64]) -> Turn {
+fn two_numbers(
+    s: Session,
+    kind: u16,
+    body: &[u8],
+    file: &mut [u8],
+    claimed: &mut [u64],
+    doubtful: &mut [u64],
+) -> Turn {
     if body.len() != 16 {
         return session::stop(s);
     }
     let a = little::read(body);
     let b = little::read(&body[8..]);
-    by_numbers(s, kind, a, b, file, ledger)
+    by_numbers(s, kind, a, b, file, claimed, doubtful)
+}
+
+// Kind 23, whose body is three numbers.
+fn start_apart(
+    s: Session,
+    body: &[u8],
+    file: &mut [u8],
+    claimed: &mut [u64],
+    doubtful: &mut [u64],
+) -> Turn {
+    if body.len() != 24 {
+        return session::stop(s);
+    }
+    let length = little::read(body);
+    let c = little::read(&body[8..]);
+    let d = little::read(&body[16..]);
+    calls::start(s, length, c, d, file, claimed, doubtful)
 }
 
 pub fn serve(
@@ -58,14 +91,18 @@ pub fn serve(
     kind: u16,
     body: &[u8],
     file: &mut [u8],
-    ledger: &mut [u64],
+    claimed: &mut [u64],
+    doubtful: &mut [u64],
     source: &mut [u8],
 ) -> Turn {
     match kind {
-        16 | 19 | 20 | 21 => two_numbers(s, kind, body, file, ledger),
-        17 => calls::receive(s, body, file, ledger),
+        16 | 19 | 20 | 21 | 24 => two_numbers(s, kind, body, file, claimed, doubtful),
+        17 => calls::receive(s, body, file, claimed, doubtful),
         18 => lent::fill_file(s, body, file),
-        22 => lent::show_ledger(s, body, ledger),
+        22 => lent::show_claimed(s, body, claimed),
+        23 => start_apart(s, body, file, claimed, doubtful),
+        25 => lent::lend_doubtful(s, body, claimed, doubtful),
+        26 => lent::show_doubtful(s, body, doubtful),
         48 => sending::begin(s, body, source),
         49 => sending::next(s, body, source),
         50 => sending::lend(s, body, source),

@@ -35,7 +35,8 @@ fn serve(
     s: Session,
     request: &[u8],
     file: &mut [u8],
-    ledger: &mut [u64],
+    claimed: &mut [u64],
+    doubtful: &mut [u64],
     source: &mut [u8],
 ) -> Turn {
     if request.len() < 2 {
@@ -46,7 +47,8 @@ fn serve(
         frame::two(request[0], request[1]),
         &request[2..],
         file,
-        ledger,
+        claimed,
+        doubtful,
         source,
     )
 }
@@ -56,10 +58,11 @@ fn answer(
     number: u64,
     request: &[u8],
     file: &mut [u8],
-    ledger: &mut [u64],
+    claimed: &mut [u64],
+    doubtful: &mut [u64],
     source: &mut [u8],
 ) -> Turn {
-    let turn = serve(s, request, file, ledger, source);
+    let turn = serve(s, request, file, claimed, doubtful, source);
     if !turn.goes_on {
         print::record(number);
     }
@@ -70,7 +73,8 @@ fn one_request(
     s: Session,
     number: u64,
     file: &mut [u8],
-    ledger: &mut [u64],
+    claimed: &mut [u64],
+    doubtful: &mut [u64],
     source: &mut [u8],
 ) -> Turn {
     let mut space = frame::space();
@@ -80,14 +84,14 @@ fn one_request(
         return session::stop(s);
     };
     let length = part::of_bytes(n as u64, &space);
-    answer(s, number, &space[..length], file, ledger, source)
+    answer(s, number, &space[..length], file, claimed, doubtful, source)
 }
 
-fn run(file: &mut [u8], ledger: &mut [u64], source: &mut [u8]) {
-    let mut s = session::first(ledger);
+fn run(file: &mut [u8], claimed: &mut [u64], doubtful: &mut [u64], source: &mut [u8]) {
+    let mut s = session::first(claimed, doubtful);
     let mut number: u64 = 0;
     while number < REQUESTS {
-        let t = one_request(s, number, file, ledger, source);
+        let t = one_request(s, number, file, claimed, doubtful, source);
         if !t.goes_on {
             return;
         }
@@ -117,7 +121,8 @@ fn source_space() -> [u8; 70000]
 
 fn main() {
     let mut file = file_space();
-    let mut ledger = ledger_space();
+    let mut claimed = ledger_space();
+    let mut doubtful = ledger_space();
     let mut source = source_space();
-    run(&mut file, &mut ledger, &mut source);
+    run(&mut file, &mut claimed, &mut doubtful, &mut source);
 }

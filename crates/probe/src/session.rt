@@ -1,14 +1,15 @@
-// What is kept from one request to the next, beside the file, the ledger and the file that the sender is lent.
+// What is kept from one request to the next, beside the file, the ledgers and the file that the sender is lent.
 use receiver::receive::Receiver;
 use receiver::start;
 use sender::begin;
 use sender::state::Sender;
 
-// The receiver, and how much of the file and of the ledger a call is lent at present; the sender, and how much of its file.
+// The receiver, and how much of the file and of either ledger a call is lent at present; the sender, and how much of its file.
 pub struct Session {
     pub receiver: Receiver,
     pub bytes: usize,
-    pub entries: usize,
+    pub claimed: usize,
+    pub doubtful: usize,
     pub sender: Sender,
     pub source: usize,
 }
@@ -34,15 +35,28 @@ pub fn stop(s: Session) -> Turn {
 }
 
 // The session with another receiver, and so much lent to it.
-pub fn receiving(s: Session, receiver: Receiver, bytes: usize, entries: usize) -> Session {
+pub fn receiving(
+    s: Session,
+    receiver: Receiver,
+    bytes: usize,
+    claimed: usize,
+    doubtful: usize,
+) -> Session {
     let sender = s.sender;
     Session {
         receiver: receiver,
         bytes: bytes,
-        entries: entries,
+        claimed: claimed,
+        doubtful: doubtful,
         sender: sender,
         source: s.source,
     }
+}
+
+// The session with so much lent to its receiver.
+pub fn lending(s: Session, bytes: usize, claimed: usize, doubtful: usize) -> Session {
+    let receiver = s.receiver;
+    receiving(s, receiver, bytes, claimed, doubtful)
 }
 
 // The session with another sender, and so much lent to it.
@@ -51,22 +65,24 @@ pub fn sending(s: Session, sender: Sender, source: usize) -> Session {
     Session {
         receiver: receiver,
         bytes: s.bytes,
-        entries: s.entries,
+        claimed: s.claimed,
+        doubtful: s.doubtful,
         sender: sender,
         source: source,
     }
 }
 
 // What a start with no bytes and no entries leaves, and a beginning that is refused.
-pub fn first(ledger: &mut [u64]) -> Session {
-    let started = start::start(0, &mut ledger[..0]);
+pub fn first(claimed: &mut [u64], doubtful: &mut [u64]) -> Session {
+    let started = start::start(0, &mut claimed[..0], &mut doubtful[..0]);
     let receiver = started.receiver;
     let begun = begin::begin(0, 0, 0);
     let sender = begun.sender;
     Session {
         receiver: receiver,
         bytes: 0,
-        entries: 0,
+        claimed: 0,
+        doubtful: 0,
         sender: sender,
         source: 0,
     }

@@ -14,7 +14,7 @@ use Rattle.checks.specs.ReportOf.{reportWithFile}
 use Rattle.checks.proofs.ReportOf.{report-in}
 use Rattle.transfer.specs.declared.state.Transfer.{Transfer}
 use Rattle.transfer.specs.Channel.{channelCount, channelAt}
-use Rattle.transfer.specs.Transfer.{usedOf, endedOf, World, world, guess, result, broken, allEnded, verdictOf}
+use Rattle.transfer.specs.Transfer.{usedOf, endedOf, World, world, guess, result, suspect, broken, allEnded, isDoubted, verdictOf}
 use Rattle.transfer.specs.Receive.{refused, isGuess, isNonEmpty, refusalOf, receiveOf}
 use Rattle.transfer.specs.Fit.{fits}
 use Rattle.runs.specs.Runs.{takeBytesOn}
@@ -22,25 +22,26 @@ use Rattle.runs.proofs.StateNumbers.{is-ended, not-ended}
 
 -- ---- what the pass over the channels found
 
-module _ (t : Transfer) (f ledger : List ℕ) where
-  whole-is : reportWithFile (length f) t ledger ≡ reportIf (fits (world t f ledger)) t
-  whole-is = report-in (length f) t ledger ∙ (unfold fits in refl)
+module _ (t : Transfer) (f claimed doubtful : List ℕ) where
+  whole-is : reportWithFile (length f) t claimed doubtful ≡ reportIf (fits (world t f claimed doubtful)) t
+  whole-is = report-in (length f) t claimed doubtful ∙ (unfold fits in refl)
 
-  pub found-fits : reportWithFile (length f) t ledger .fits ≡ fits (world t f ledger)
-  found-fits = ap (λ s. s .fits) whole-is ∙ fits-where (fits (world t f ledger)) t
+  pub found-fits : reportWithFile (length f) t claimed doubtful .fits ≡ fits (world t f claimed doubtful)
+  found-fits = ap (λ s. s .fits) whole-is ∙ fits-where (fits (world t f claimed doubtful)) t
 
-  pub found-counts : fits (world t f ledger) ≡ true → (reportWithFile (length f) t ledger .used ≡ usedOf t) × (reportWithFile (length f) t ledger .ended ≡ endedOf t)
-  found-counts e = (ap (λ s. s .used) whole-is ∙ used-where (fits (world t f ledger)) t e, ap (λ s. s .ended) whole-is ∙ ended-where (fits (world t f ledger)) t e)
+  pub found-counts : fits (world t f claimed doubtful) ≡ true → (reportWithFile (length f) t claimed doubtful .used ≡ usedOf t) × (reportWithFile (length f) t claimed doubtful .ended ≡ endedOf t)
+  found-counts e = (ap (λ s. s .used) whole-is ∙ used-where (fits (world t f claimed doubtful)) t e, ap (λ s. s .ended) whole-is ∙ ended-where (fits (world t f claimed doubtful)) t e)
 
 -- the verdict by the numbers that the code has
 pub guess-is : (w : World) (ended : ℕ) → ended ≡ endedOf (w .t) → isGuess (verdictOf w) ≡ not (ltb 0 (w .t .fault) || (ltb 0 (w .t .count) && eqb ended (w .t .count)))
 unfolding verdictOf allEnded
-guess-is w ended e = rw e (go (ltb 0 (w .t .fault)) (ltb 0 (w .t .count) && eqb (endedOf (w .t)) (w .t .count)))
+guess-is w ended e = rw e (go (ltb 0 (w .t .fault)) (ltb 0 (w .t .count) && eqb (endedOf (w .t)) (w .t .count)) (isDoubted w))
   where
-    go : (a b : Bool) → isGuess (cond a broken (cond b result guess)) ≡ not (a || b)
-    go true b = refl
-    go false true = refl
-    go false false = refl
+    go : (a b d : Bool) → isGuess (cond a broken (cond b (cond d suspect result) guess)) ≡ not (a || b)
+    go true b d = refl
+    go false true true = refl
+    go false true false = refl
+    go false false d = refl
 
 module _ (w : World) (c : ℕ) (piece : List ℕ) where
   pub refused-1 : fits w ≡ false → refusalOf w c piece ≡ 1

@@ -4,6 +4,7 @@ use channelchecks::report::FitReport;
 use channels::other_channels;
 use checks::fit;
 use counts::count;
+use ledger::rule;
 use runs::take;
 use transfer::state::Transfer;
 use verdicts::verdict;
@@ -45,7 +46,7 @@ pub struct Received {
 // The number by which a call is refused, 0 where it is not: for what FIT found, the transfer's fault and count, the state of the channel,
 // where there is one, and a piece that has bytes or not.
 fn refusal(found: FitReport, fault: u64, count: u64, state: u8, channel: u64, some: bool) -> u8
-    ensures { λ r. ⌜ ((t : Transfer) (file ledger piece : List ℕ) → found ≡ reportWithFile (length file) t ledger → fault ≡ t .fault → count ≡ t .count → (channel < 64 → state ≡ channelAt t channel .state) → isNonEmpty piece ≡ some → r ≡ refusalOf (world t file ledger) channel piece) ⌝ }
+    ensures { λ r. ⌜ ((t : Transfer) (file claimed doubtful piece : List ℕ) → found ≡ reportWithFile (length file) t claimed doubtful → fault ≡ t .fault → count ≡ t .count → (channel < 64 → state ≡ channelAt t channel .state) → isNonEmpty piece ≡ some → r ≡ refusalOf (world t file claimed doubtful) channel piece) ⌝ }
 {
     if !found.fits {
         return 1;
@@ -76,10 +77,10 @@ fn channel_index(channel: u64) -> usize
 }
 
 // What a refused call answers.
-fn refused(t: Transfer, n: u8) -> Received
-    ensures { λ r. ⌜ (r .receiver .transfer ≡ t) × (r .answer ≡ Refused n) × ((file ledger : List ℕ) → toVerdict (r .verdict) ≡ verdictOf (world t file ledger)) ⌝ }
+fn refused(t: Transfer, n: u8, doubtful: &[u64]) -> Received
+    ensures { λ r. ⌜ (r .receiver .transfer ≡ t) × (r .answer ≡ Refused n) × ((file claimed : List ℕ) → toVerdict (r .verdict) ≡ verdictOf (world t file claimed (now (doubtful .entry)))) ⌝ }
 {
-    let shown = verdict::of_transfer(t);
+    let shown = verdict::of_transfer(t, doubtful);
     Received {
         receiver: Receiver { transfer: t },
         verdict: shown,
@@ -94,17 +95,18 @@ fn taken(
     found: FitReport,
     piece: &[u8],
     file: &mut [u8],
-    ledger: &mut [u64],
+    claimed: &mut [u64],
+    doubtful: &mut [u64],
 ) -> Received
-    requires { ⌜ (c < 64) × (fits (world t (now file) (now ledger)) ≡ true) × (found .used ≡ usedOf t) × (found .ended ≡ endedOf t) ⌝ }
-    ensures { λ r. ⌜ ((toAnswer (r .answer), world (r .receiver .transfer) (now (file .exit)) (now (ledger .exit))) ≡ takeBytesOn c (world t (now (file .entry)) (now (ledger .entry))) (now (piece .entry)) 0) × (toVerdict (r .verdict) ≡ verdictOf (world (r .receiver .transfer) (now (file .exit)) (now (ledger .exit)))) ⌝ }
+    requires { ⌜ (c < 64) × (fits (world t (now file) (now claimed) (now doubtful)) ≡ true) × (found .used ≡ usedOf t) × (found .ended ≡ endedOf t) ⌝ }
+    ensures { λ r. ⌜ ((toAnswer (r .answer), world (r .receiver .transfer) (now (file .exit)) (now (claimed .exit)) (now (doubtful .exit))) ≡ takeBytesOn c (world t (now (file .entry)) (now (claimed .entry)) (now (doubtful .entry))) (now (piece .entry)) 0) × (toVerdict (r .verdict) ≡ verdictOf (world (r .receiver .transfer) (now (file .exit)) (now (claimed .exit)) (now (doubtful .exit)))) ⌝ }
 {
     let k = t.channels[c];
     let o = other_channels::counts_without(t.len, found, k.state);
     let x = transfer_channel::of(t.count, t.fault, t.on, k, &t.heads, c);
-    let r = take::take(x, c, o, piece, file, ledger);
+    let r = take::take(x, c, o, piece, file, claimed, doubtful);
     let y = r.channel;
-    let shown = verdict::of(y.fault, y.count, o.ended, y.state);
+    let shown = verdict::of(y.fault, y.count, o.ended, y.state, rule::has_pair(doubtful));
     Received {
         receiver: Receiver {
             transfer: transfer_channel::write_back(t, c, y),
@@ -121,18 +123,19 @@ impl Receiver {
         channel: u64,
         piece: &[u8],
         file: &mut [u8],
-        ledger: &mut [u64],
+        claimed: &mut [u64],
+        doubtful: &mut [u64],
     ) -> Received
-        ensures { λ r. ⌜ ((toAnswer (r .answer), world (r .receiver .transfer) (now (file .exit)) (now (ledger .exit))) ≡ receiveOf (world (self .transfer) (now (file .entry)) (now (ledger .entry))) channel (now (piece .entry))) × (toVerdict (r .verdict) ≡ verdictOf (world (r .receiver .transfer) (now (file .exit)) (now (ledger .exit)))) ⌝ }
+        ensures { λ r. ⌜ ((toAnswer (r .answer), world (r .receiver .transfer) (now (file .exit)) (now (claimed .exit)) (now (doubtful .exit))) ≡ receiveOf (world (self .transfer) (now (file .entry)) (now (claimed .entry)) (now (doubtful .entry))) channel (now (piece .entry))) × (toVerdict (r .verdict) ≡ verdictOf (world (r .receiver .transfer) (now (file .exit)) (now (claimed .exit)) (now (doubtful .exit)))) ⌝ }
     {
         let t = self.transfer;
-        let found = fit::report_with_file(t, file.len(), ledger);
+        let found = fit::report_with_file(t, file.len(), claimed, doubtful);
         let c = channel_index(channel);
         let k = t.channels[c];
         let n = refusal(found, t.fault, t.count, k.state, channel, 0 < piece.len());
         if 0 < n {
-            return refused(t, n);
+            return refused(t, n, doubtful);
         }
-        taken(t, c, found, piece, file, ledger)
+        taken(t, c, found, piece, file, claimed, doubtful)
     }
 }

@@ -1,11 +1,11 @@
-// Start: a fresh transfer, and the ledger zeroed.
+// Start: a fresh transfer, and both ledgers zeroed.
 use crate::receive::Receiver;
 use ledger::rule;
 use octets::entries;
 use transfer::state::Channel;
 use transfer::state::Transfer;
 ghost use mathlib.Core.Path.{_≡_};
-ghost use Rattle.transfer.specs.Transfer.{fresh, startRefusal, startOf, startAfter};
+ghost use Rattle.transfer.specs.Transfer.{fresh, lengthsWrong, startRefusal, startOf, startAfter};
 
 // The receiver that start gives, and the number by which it was refused, 0 where it was not.
 pub struct Started {
@@ -33,12 +33,22 @@ fn fresh(len: u64, pairs: u64) -> Transfer
     }
 }
 
-// For a file of len bytes. 5 where the ledger's length is odd or above 8,192 entries: it stays as it was, and the transfer is that of no
-// bytes and no pairs.
-pub fn start(len: u64, ledger: &mut [u64]) -> Started
-    ensures { λ r. ⌜ (r .refused ≡ startRefusal (now (ledger .entry))) × (r .receiver .transfer ≡ startOf len (now (ledger .entry))) × (now (ledger .exit) ≡ startAfter (now (ledger .entry))) ⌝ }
+// Whether the claimed ledger's length is odd or above 8,192 entries, or the two lengths differ.
+fn lengths_wrong(claimed: &[u64], doubtful: &[u64]) -> bool
+    ensures { λ r. ⌜ r ≡ lengthsWrong (now (claimed .entry)) (now (doubtful .entry)) ⌝ }
 {
-    if rule::length_wrong(ledger) {
+    if rule::length_wrong(claimed) {
+        return true;
+    }
+    doubtful.len() != claimed.len()
+}
+
+// For a file of len bytes. 5 where the lengths of the ledgers are wrong: both stay as they were, and the transfer is that of no bytes and no
+// pairs.
+pub fn start(len: u64, claimed: &mut [u64], doubtful: &mut [u64]) -> Started
+    ensures { λ r. ⌜ (r .refused ≡ startRefusal (now (claimed .entry)) (now (doubtful .entry))) × (r .receiver .transfer ≡ startOf len (now (claimed .entry)) (now (doubtful .entry))) × (now (claimed .exit) ≡ startAfter (now (claimed .entry)) (now (doubtful .entry)) (now (claimed .entry))) × (now (doubtful .exit) ≡ startAfter (now (claimed .entry)) (now (doubtful .entry)) (now (doubtful .entry))) ⌝ }
+{
+    if lengths_wrong(claimed, doubtful) {
         return Started {
             receiver: Receiver {
                 transfer: fresh(0, 0),
@@ -46,8 +56,9 @@ pub fn start(len: u64, ledger: &mut [u64]) -> Started
             refused: 5,
         };
     }
-    let pairs = ledger.len() / 2;
-    entries::clear(ledger);
+    let pairs = claimed.len() / 2;
+    entries::clear(claimed);
+    entries::clear(doubtful);
     Started {
         receiver: Receiver {
             transfer: fresh(len, pairs as u64),

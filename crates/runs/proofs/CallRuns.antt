@@ -22,9 +22,9 @@ use Rattle.verdicts.specs.Verdict.{countReached}
 use Rattle.runs.specs.Runs.{takeBytesOn, RunOf}
 use Rattle.runs.proofs.StateNumbers.{is-unused, is-ended}
 
-pub fits-parts : (t : Transfer) (file ledger : List ℕ) → fits (world t file ledger) ≡ true → (length file ≡ t .len) × (fitsWithoutFile t ledger ≡ true)
+pub fits-parts : (t : Transfer) (file claimed doubtful : List ℕ) → fits (world t file claimed doubtful) ≡ true → (length file ≡ t .len) × (fitsWithoutFile t claimed doubtful ≡ true)
 unfolding fits
-fits-parts t file ledger e = let a = and-eq-true-iff (eqb (length file) (t .len)) (fitsWithoutFile t ledger) .0 e in (eqb-true (length file) (t .len) (a .0), a .1)
+fits-parts t file claimed doubtful e = let a = and-eq-true-iff (eqb (length file) (t .len)) (fitsWithoutFile t claimed doubtful) .0 e in (eqb-true (length file) (t .len) (a .0), a .1)
 
 -- ---- runs that take nothing
 
@@ -36,19 +36,19 @@ nothing-taken c w v b bs e =
     }
 
 -- 19
-pub count-reached-run-of : (t : Transfer) (file ledger : List ℕ) (c : ℕ) (piece : List ℕ) → 0 < length piece → channelAt t c .state ≡ 0 → countReached (t .count) (usedOf t) ≡ true
-    → RunOf c (world t file ledger) piece (world (putFault t 19 c) file ledger) 0 false
-count-reached-run-of t file ledger c [] h s e = absurd (omega arith)
-count-reached-run-of t file ledger c (b ∷ bs) h s e =
+pub count-reached-run-of : (t : Transfer) (file claimed doubtful : List ℕ) (c : ℕ) (piece : List ℕ) → 0 < length piece → channelAt t c .state ≡ 0 → countReached (t .count) (usedOf t) ≡ true
+    → RunOf c (world t file claimed doubtful) piece (world (putFault t 19 c) file claimed doubtful) 0 false
+count-reached-run-of t file claimed doubtful c [] h s e = absurd (omega arith)
+count-reached-run-of t file claimed doubtful c (b ∷ bs) h s e =
     let a = and-eq-true-iff (ltb 0 (t .count)) (eqb (usedOf t) (t .count)) .0 e in
-    nothing-taken c (world t file ledger) (world (putFault t 19 c) file ledger) b bs (rows .by-19 (world t file ledger) c b (is-unused t c s) (ltb-true 0 (t .count) (a .0)) (eqb-true (usedOf t) (t .count) (a .1)))
+    nothing-taken c (world t file claimed doubtful) (world (putFault t 19 c) file claimed doubtful) b bs (rows .by-19 (world t file claimed doubtful) c b (is-unused t c s) (ltb-true 0 (t .count) (a .0)) (eqb-true (usedOf t) (t .count) (a .1)))
 
 -- an ended channel
-pub ended-run-of : (t : Transfer) (file ledger : List ℕ) (c : ℕ) (piece : List ℕ) → 0 < length piece → 4 ≤ channelAt t c .state → RunOf c (world t file ledger) piece (world t file ledger) 0 false
-ended-run-of t file ledger c [] h s = absurd (omega arith)
-ended-run-of t file ledger c (b ∷ bs) h s = nothing-taken c (world t file ledger) (world t file ledger) b bs left
+pub ended-run-of : (t : Transfer) (file claimed doubtful : List ℕ) (c : ℕ) (piece : List ℕ) → 0 < length piece → 4 ≤ channelAt t c .state → RunOf c (world t file claimed doubtful) piece (world t file claimed doubtful) 0 false
+ended-run-of t file claimed doubtful c [] h s = absurd (omega arith)
+ended-run-of t file claimed doubtful c (b ∷ bs) h s = nothing-taken c (world t file claimed doubtful) (world t file claimed doubtful) b bs left
   where
-    left : takeByte (world t file ledger) c b ≡ notTaken (world t file ledger)
+    left : takeByte (world t file claimed doubtful) c b ≡ notTaken (world t file claimed doubtful)
     left = unfold takeByte in rw (is-ended t c s) (unfold takeByteIn in refl)
 
 -- ---- one run after the others: i bytes were taken before it

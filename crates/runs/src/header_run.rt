@@ -66,14 +66,15 @@ fn judge_run(
     o: OtherChannels,
     piece: &[u8],
     more: usize,
-    ledger: &mut [u64],
+    claimed: &mut [u64],
+    doubtful: &mut [u64],
 ) -> RunResult
     requires { ⌜ (more < length (now piece)) × (more ≡ 16 - x .held) ⌝ }
-    ensures { λ r. ⌜ (r .taken ≡ more + 1) × ((t : Transfer) (file : List ℕ) → CountsOthers t c o → TakesHeader (x .state) (x .count) (o .used) → fitsWithoutFile (writeBack t c x) (now (ledger .entry)) ≡ true → length file ≡ t .len → RunOf c (world (writeBack t c x) file (now (ledger .entry))) (now (piece .entry)) (world (writeBack t c (r .channel)) file (now (ledger .exit))) (r .taken) (r .continues)) ⌝ }
+    ensures { λ r. ⌜ (r .taken ≡ more + 1) × ((t : Transfer) (file : List ℕ) → CountsOthers t c o → TakesHeader (x .state) (x .count) (o .used) → fitsWithoutFile (writeBack t c x) (now (claimed .entry)) (now (doubtful .entry)) ≡ true → length file ≡ t .len → RunOf c (world (writeBack t c x) file (now (claimed .entry)) (now (doubtful .entry))) (now (piece .entry)) (world (writeBack t c (r .channel)) file (now (claimed .exit)) (now (doubtful .exit))) (r .taken) (r .continues)) ⌝ }
 {
     let y = hold_bytes(x, &piece[..more]);
     let whole = whole_header(y, piece[more]);
-    let next = apply::apply_header(y, c, o, &whole, ledger);
+    let next = apply::apply_header(y, c, o, &whole, claimed, doubtful);
     let after = next.channel;
     RunResult {
         channel: after,
@@ -88,14 +89,15 @@ pub fn header_run(
     c: usize,
     o: OtherChannels,
     piece: &[u8],
-    ledger: &mut [u64],
+    claimed: &mut [u64],
+    doubtful: &mut [u64],
 ) -> RunResult
     requires { ⌜ 0 < length (now piece) ⌝ }
-    ensures { λ r. ⌜ (0 < r .taken) × (r .taken ≤ length (now (piece .entry))) × ((t : Transfer) (file : List ℕ) → CountsOthers t c o → TakesHeader (x .state) (x .count) (o .used) → fitsWithoutFile (writeBack t c x) (now (ledger .entry)) ≡ true → length file ≡ t .len → RunOf c (world (writeBack t c x) file (now (ledger .entry))) (now (piece .entry)) (world (writeBack t c (r .channel)) file (now (ledger .exit))) (r .taken) (r .continues)) ⌝ }
+    ensures { λ r. ⌜ (0 < r .taken) × (r .taken ≤ length (now (piece .entry))) × ((t : Transfer) (file : List ℕ) → CountsOthers t c o → TakesHeader (x .state) (x .count) (o .used) → fitsWithoutFile (writeBack t c x) (now (claimed .entry)) (now (doubtful .entry)) ≡ true → length file ≡ t .len → RunOf c (world (writeBack t c x) file (now (claimed .entry)) (now (doubtful .entry))) (now (piece .entry)) (world (writeBack t c (r .channel)) file (now (claimed .exit)) (now (doubtful .exit))) (r .taken) (r .continues)) ⌝ }
 {
     let more = room(x);
     if more < piece.len() {
-        return judge_run(x, c, o, piece, more, ledger);
+        return judge_run(x, c, o, piece, more, claimed, doubtful);
     }
     RunResult {
         channel: hold_bytes(x, piece),

@@ -41,10 +41,11 @@ pub fn run(
     o: OtherChannels,
     piece: &[u8],
     file: &mut [u8],
-    ledger: &mut [u64],
+    claimed: &mut [u64],
+    doubtful: &mut [u64],
 ) -> RunResult
     requires { ⌜ 0 < length (now piece) ⌝ }
-    ensures { λ r. ⌜ (r .taken ≤ length (now (piece .entry))) × (r .continues ≡ true → 0 < r .taken) × ((t : Transfer) → CountsOthers t c o → fits (world (writeBack t c x) (now (file .entry)) (now (ledger .entry))) ≡ true → RunOf c (world (writeBack t c x) (now (file .entry)) (now (ledger .entry))) (now (piece .entry)) (world (writeBack t c (r .channel)) (now (file .exit)) (now (ledger .exit))) (r .taken) (r .continues)) ⌝ }
+    ensures { λ r. ⌜ (r .taken ≤ length (now (piece .entry))) × (r .continues ≡ true → 0 < r .taken) × ((t : Transfer) → CountsOthers t c o → fits (world (writeBack t c x) (now (file .entry)) (now (claimed .entry)) (now (doubtful .entry))) ≡ true → RunOf c (world (writeBack t c x) (now (file .entry)) (now (claimed .entry)) (now (doubtful .entry))) (now (piece .entry)) (world (writeBack t c (r .channel)) (now (file .exit)) (now (claimed .exit)) (now (doubtful .exit))) (r .taken) (r .continues)) ⌝ }
 {
     if gives_19(x, o) {
         let mut y = x;
@@ -57,7 +58,7 @@ pub fn run(
         };
     }
     if x.state < 2 {
-        return header_run::header_run(x, c, o, piece, ledger);
+        return header_run::header_run(x, c, o, piece, claimed, doubtful);
     }
     if 0 < x.left {
         return payload_run::payload_run(x, piece, file);

@@ -25,14 +25,15 @@ pub fn take(
     o: OtherChannels,
     piece: &[u8],
     file: &mut [u8],
-    ledger: &mut [u64],
+    claimed: &mut [u64],
+    doubtful: &mut [u64],
 ) -> CallResult
-    ensures { λ r. ⌜ ((t : Transfer) → CountsOthers t c o → fits (world (writeBack t c x) (now (file .entry)) (now (ledger .entry))) ≡ true → (took (r .taken), world (writeBack t c (r .channel)) (now (file .exit)) (now (ledger .exit))) ≡ takeBytesOn c (world (writeBack t c x) (now (file .entry)) (now (ledger .entry))) (now (piece .entry)) 0) ⌝ }
+    ensures { λ r. ⌜ ((t : Transfer) → CountsOthers t c o → fits (world (writeBack t c x) (now (file .entry)) (now (claimed .entry)) (now (doubtful .entry))) ≡ true → (took (r .taken), world (writeBack t c (r .channel)) (now (file .exit)) (now (claimed .exit)) (now (doubtful .exit))) ≡ takeBytesOn c (world (writeBack t c x) (now (file .entry)) (now (claimed .entry)) (now (doubtful .entry))) (now (piece .entry)) 0) ⌝ }
 {
     let mut y = x;
     let mut i = 0;
     while i < piece.len() {
-        let r = run::run(y, c, o, &piece[i..], file, ledger);
+        let r = run::run(y, c, o, &piece[i..], file, claimed, doubtful);
         y = r.channel;
         i += r.taken;
         if !r.continues {

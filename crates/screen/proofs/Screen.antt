@@ -1,31 +1,31 @@
--- The screen line: its parts, its number by FIT, and the stored bytes where nothing is cut.
-use Prim.Native.Nat.{ℕ, zero, suc, _+_, _-_, _≤_, _<_}
-use mathlib.Core.Path.{_≡_, refl, sym, ap, _∙_}
+-- The screen line: its parts, how long it can be, and its number by FIT.
+use Prim.Native.Nat.{ℕ, zero, suc, _+_, _≤_, _<_}
+use mathlib.Core.Path.{_≡_, refl, sym, ap, _∙_, subst}
+use mathlib.Core.Logic.{inl, inr}
 use mathlib.Core.List.{List, [], _∷_, _++_}
-use mathlib.Core.Bool.{true, false, and-eq-true-iff}
+use mathlib.Core.Bool.{Bool, true, false, cond}
 use native.Mathlib.Omega.{arith}
 use native.Mathlib.Numerals.{add-one}
-use borrow.Author.Tests.{leb-true}
-use lib.ListN.{length, getD, set, take, length-append, replicate}
+use denote.Enum.Declared.{tagOf}
+use types.Run.{OneOf}
+use lib.ListN.{length, getD, set, take, length-append}
 use lib.Seq.{sets, take-suc, length-take-le}
-use lib.Dec.{leb}
 use Rattle.octets.specs.Decimal.{decimal}
 use Rattle.octets.proofs.Decimals.{length-decimal, width-20}
 use Rattle.answers.specs.Written.{roomRefusal}
 use Rattle.answers.proofs.WritesAt.{sets-append}
-use Rattle.ledger.specs.Pairs.{Pairs, none, pair, total, ObeyFrom, endsAtMost}
-use Rattle.ledger.specs.Ledger.{largest, pairsOf}
 use Rattle.transfer.specs.declared.state.Transfer.{Transfer}
-use Rattle.transfer.specs.Transfer.{endedOf, world, verdictOf, storedOf}
+use Rattle.transfer.specs.Transfer.{World, world, Verdict, guess, result, suspect, broken, verdictOf}
 use Rattle.transfer.specs.Fit.{fitsWithoutFile}
-use Rattle.transfer.proofs.FitByChannel.{ruled}
-use Rattle.verdicts.specs.declared.verdict.Verdict.{Verdict as Shown}
-use Rattle.verdicts.specs.declared.verdict.Verdict.the-variants.{Guess, Result, Broken}
-use Rattle.verdicts.specs.Verdict.{toVerdict}
-use Rattle.receiver.specs.Stored.{storedSaturating}
-use Rattle.runs.proofs.Runs.{fits-some}
-use Rattle.screen.specs.Screen.{brokenWord, onWord, guessWord, resultWord, endedWord, ofWord, unknownWord, bytesWord, lineFeed, countText, brokenText, endedText, frontText, bytesText, lineText, lineOf, lineFor, lineTextOf, screenRefusal}
-use Rattle.screen.specs.declared.line.Numbers.{Numbers}
+use Rattle.verdicts.specs.declared.verdict.Verdict.{Verdict as Word}
+use Rattle.verdicts.specs.declared.verdict.Verdict.the-variants.{Guess, Result, Suspect, Broken}
+use Rattle.verdicts.specs.Verdict.{toVerdict, fromVerdict}
+use Rattle.verdicts.proofs.verdict.Verdict.{the-type}
+use Rattle.receiver.specs.declared.show.Shown.{Shown}
+use Rattle.receiver.specs.declared.show.Screen.{Screen}
+use Rattle.receiver.specs.declared.show.Screen.the-variants.{Shows, Refused}
+use Rattle.receiver.specs.Shown.{numbersOf, shownOf}
+use Rattle.screen.specs.Screen.{brokenWord, onWord, guessWord, resultWord, suspectWord, endedWord, ofWord, unknownWord, bytesWord, doubtfulWord, lineFeed, countText, brokenText, endedText, frontText, bytesText, tailText, lineText, lineOf, lineFor, lineTextOf, screenRefusal}
 
 -- one byte more of a word
 pub put-next : (word out : List ℕ) (at i : ℕ) → i < length word → set (sets out at (take i word)) (at + i) (getD word i 0) ≡ sets out at (take (i + 1) word)
@@ -57,7 +57,9 @@ pub length-endedText : (ended count : ℕ) → length (endedText ended count) �
 unfolding endedText endedWord ofWord
 length-endedText ended count = simp length-append (omega arith)
 
-module _ (v : Shown) (fault on ended count : ℕ) where
+-- ---- by the word
+
+module _ (v : Word) (fault on ended count : ℕ) where
   pub front-broken : v ≡ Broken → frontText (toVerdict v) fault on ended count ≡ brokenText fault on
   unfolding frontText
   front-broken e = rw e
@@ -70,11 +72,33 @@ module _ (v : Shown) (fault on ended count : ℕ) where
   unfolding frontText
   front-result e = rw e
 
-  pub length-lineText : (bytes : ℕ) → length (lineText (toVerdict v) fault on ended count bytes) ≡ length (frontText (toVerdict v) fault on ended count) + 8 + length (decimal bytes)
-  unfolding lineText bytesText bytesWord lineFeed
-  length-lineText bytes = simp length-append (omega arith)
+  pub front-suspect : v ≡ Suspect → frontText (toVerdict v) fault on ended count ≡ suspectWord ++ endedText ended count
+  unfolding frontText
+  front-suspect e = rw e
 
--- ---- the longest line
+pub tail-suspect : (v : Word) (doubt : ℕ) → v ≡ Suspect → tailText (toVerdict v) doubt ≡ doubtfulWord ++ decimal doubt ++ lineFeed
+unfolding tailText
+tail-suspect v doubt e = rw e
+
+-- the word is another one
+abbrev pub NoSuspect : Word → Type 0
+NoSuspect v = OneOf (0 ∷ 1 ∷ 3 ∷ []) (tagOf the-type v)
+
+pub tail-other : (v : Word) (doubt : ℕ) → NoSuspect v → tailText (toVerdict v) doubt ≡ lineFeed
+unfolding tailText
+tail-other Guess doubt k = refl
+tail-other Result doubt k = refl
+tail-other Broken doubt k = refl
+tail-other Suspect doubt (inl k) = absurd (omega (arith, k))
+tail-other Suspect doubt (inr (inl k)) = absurd (omega (arith, k))
+tail-other Suspect doubt (inr (inr k)) = absurd (omega (arith, k))
+
+-- ---- the whole
+
+pub length-lineText : (v : Verdict) (fault on ended count bytes doubt : ℕ)
+    → length (lineText v fault on ended count bytes doubt) ≡ length (frontText v fault on ended count) + 7 + length (decimal bytes) + length (tailText v doubt)
+unfolding lineText bytesText bytesWord
+length-lineText v fault on ended count bytes doubt = simp length-append (omega arith)
 
 digits-most : (n : ℕ) → n < 18446744073709551616 → length (decimal n) ≤ 20
 digits-most n h = omega (arith, length-decimal n, width-20 n h)
@@ -85,48 +109,71 @@ count-most zero h = omega arith
 count-most (suc n) h = digits-most (suc n) h
 
 -- of numbers of 64 bits
-pub line-most : (v : Shown) (fault on ended count bytes : ℕ) → fault < 18446744073709551616 → on < 18446744073709551616 → ended < 18446744073709551616
-    → count < 18446744073709551616 → bytes < 18446744073709551616 → length (lineText (toVerdict v) fault on ended count bytes) ≤ 85
-unfolding guessWord resultWord
-line-most v fault on ended count bytes f o e c b = go v refl
-  where
-    go : (u : Shown) → v ≡ u → length (lineText (toVerdict v) fault on ended count bytes) ≤ 85
-    go Broken q =
-        omega (arith, length-lineText v fault on ended count bytes, ap length (front-broken v fault on ended count q), length-brokenText fault on, digits-most fault f, digits-most on o, digits-most bytes b)
-    go Guess q =
-        omega (arith, length-lineText v fault on ended count bytes, ap length (front-guess v fault on ended count q), length-append guessWord (endedText ended count), length-endedText ended count, digits-most ended e, count-most count c, digits-most bytes b)
-    go Result q =
-        omega (arith, length-lineText v fault on ended count bytes, ap length (front-result v fault on ended count q), length-append resultWord (endedText ended count), length-endedText ended count, digits-most ended e, count-most count c, digits-most bytes b)
+module _ (fault on ended count bytes doubt : ℕ) (f : fault < 18446744073709551616) (o : on < 18446744073709551616) (e : ended < 18446744073709551616) (c : count < 18446744073709551616)
+    (b : bytes < 18446744073709551616) (d : doubt < 18446744073709551616) where
+  front-most : (v : Verdict) → length (frontText v fault on ended count) ≤ 58
+  unfolding frontText guessWord resultWord suspectWord
+  front-most broken = omega (arith, length-brokenText fault on, digits-most fault f, digits-most on o)
+  front-most guess = omega (arith, length-append guessWord (endedText ended count), length-endedText ended count, digits-most ended e, count-most count c)
+  front-most result = omega (arith, length-append resultWord (endedText ended count), length-endedText ended count, digits-most ended e, count-most count c)
+  front-most suspect = omega (arith, length-append suspectWord (endedText ended count), length-endedText ended count, digits-most ended e, count-most count c)
+
+  tail-most : (v : Verdict) → length (tailText v doubt) ≤ 31
+  unfolding tailText doubtfulWord lineFeed
+  tail-most broken = omega arith
+  tail-most guess = omega arith
+  tail-most result = omega arith
+  tail-most suspect = omega (arith, length-between doubtfulWord (decimal doubt) lineFeed, digits-most doubt d)
+
+  pub line-most : (v : Verdict) → length (lineText v fault on ended count bytes doubt) ≤ 116
+  line-most v = omega (arith, length-lineText v fault on ended count bytes doubt, front-most v, tail-most v, digits-most bytes b)
 
 -- ---- by FIT
 
-module _ (t : Transfer) (ledger out : List ℕ) where
-  pub not-fit : fitsWithoutFile t ledger ≡ false → screenRefusal t ledger out ≡ 1
+module _ (t : Transfer) (claimed doubtful out : List ℕ) where
+  pub not-fit : fitsWithoutFile t claimed doubtful ≡ false → screenRefusal t claimed doubtful out ≡ 1
   unfolding screenRefusal
   not-fit f = rw f
 
-  pub fit : fitsWithoutFile t ledger ≡ true → screenRefusal t ledger out ≡ roomRefusal (length (lineFor t ledger)) out
+  pub fit : fitsWithoutFile t claimed doubtful ≡ true → screenRefusal t claimed doubtful out ≡ roomRefusal (length (lineFor t claimed doubtful)) out
   unfolding screenRefusal
   fit f = rw f
 
--- what the code says is the line where its numbers are the transfer's
-pub said : (v : Shown) (n : Numbers) (t : Transfer) (ledger : List ℕ) → toVerdict v ≡ verdictOf (world t [] ledger) → n .fault ≡ t .fault → n .on ≡ t .on
-    → n .ended ≡ endedOf t → n .count ≡ t .count → n .bytes ≡ storedOf (world t [] ledger) → lineTextOf v n ≡ lineFor t ledger
-unfolding lineOf
-said v n t ledger e k c d m b = rw (e, k, c, d, m, b)
+-- ---- what is shown
 
--- ---- stored bytes
+-- a line of these numbers, or the number of the refusal
+data Said (t : Transfer) (claimed doubtful : List ℕ) : Screen → Type 0 where
+  says : (n : Shown) → fitsWithoutFile t claimed doubtful ≡ true → lineTextOf n ≡ lineFor t claimed doubtful → Said t claimed doubtful (Shows n)
+  refuses : (k : ℕ) → fitsWithoutFile t claimed doubtful ≡ false → k ≡ 1 → Said t claimed doubtful (Refused k)
 
--- pairs by the rule with no end above f hold no more than f places
-total-le : (f lo : ℕ) (ps : Pairs) → ObeyFrom lo ps → endsAtMost f ps ≡ true → total ps ≤ f - lo
-unfolding total endsAtMost
-total-le f lo none c h = omega arith
-total-le f lo (pair a b ps) c h =
-    let q = and-eq-true-iff (leb b f) (endsAtMost f ps) .0 h in
-    omega (arith, total-le f (suc b) ps (c .2) (q .1), leb-true b f (q .0), c .0, c .1)
+to-from : (v : Verdict) → toVerdict (fromVerdict v) ≡ v
+to-from guess = refl
+to-from result = refl
+to-from suspect = refl
+to-from broken = refl
 
-pub stored-whole : (t : Transfer) (file ledger : List ℕ) → t .len ≤ largest → fitsWithoutFile t ledger ≡ true → storedSaturating t ledger ≡ storedOf (world t file ledger)
-unfolding storedSaturating storedOf
-stored-whole t file ledger l f =
-    let g = fits-some t ledger f in
-    omega (arith, total-le (t .len) 0 (pairsOf ledger) (ruled (world t (replicate (t .len) 0) ledger) (g .rule)) (g .ends))
+said : (t : Transfer) (claimed doubtful : List ℕ) → Said t claimed doubtful (shownOf t claimed doubtful)
+unfolding shownOf
+said t claimed doubtful = go (fitsWithoutFile t claimed doubtful) refl
+  where
+    w : World
+    w = world t [] claimed doubtful
+
+    line-is : lineTextOf (numbersOf w) ≡ lineOf w
+    line-is = unfold numbersOf lineOf in rw (to-from (verdictOf w))
+
+    go : (b : Bool) → fitsWithoutFile t claimed doubtful ≡ b → Said t claimed doubtful (cond b (Shows (numbersOf w)) (Refused 1))
+    go true e = says (numbersOf w) e line-is
+    go false e = refuses 1 e refl
+
+pub says-line : (t : Transfer) (claimed doubtful : List ℕ) (n : Shown) → Shows n ≡ shownOf t claimed doubtful → (fitsWithoutFile t claimed doubtful ≡ true) × (lineTextOf n ≡ lineFor t claimed doubtful)
+says-line t claimed doubtful n e = go (subst (Said t claimed doubtful) (sym e) (said t claimed doubtful))
+  where
+    go : Said t claimed doubtful (Shows n) → (fitsWithoutFile t claimed doubtful ≡ true) × (lineTextOf n ≡ lineFor t claimed doubtful)
+    go (says _ f q) = (f, q)
+
+pub says-refused : (t : Transfer) (claimed doubtful : List ℕ) (k : ℕ) → Refused k ≡ shownOf t claimed doubtful → (fitsWithoutFile t claimed doubtful ≡ false) × (k ≡ 1)
+says-refused t claimed doubtful k e = go (subst (Said t claimed doubtful) (sym e) (said t claimed doubtful))
+  where
+    go : Said t claimed doubtful (Refused k) → (fitsWithoutFile t claimed doubtful ≡ false) × (k ≡ 1)
+    go (refuses _ f q) = (f, q)

@@ -11,16 +11,16 @@ use Rattle.screen.specs.Screen.{lineFor, screenRefusal, screenOf, screen
 use Rattle.screen.specs.ScreenRows.{ScreenRows}
 use Rattle.screen.proofs.Screen.{not-fit, fit}
 
-refused : (t : Transfer) (ledger out : List ℕ) (k : ℕ) → screenRefusal t ledger out ≡ k → 0 < k → Refuses (screenOf t ledger out) (screenAfter t ledger out) out k
+refused : (t : Transfer) (claimed doubtful out : List ℕ) (k : ℕ) → screenRefusal t claimed doubtful out ≡ k → 0 < k → Refuses (screenOf t claimed doubtful out) (screenAfter t claimed doubtful out) out k
 unfolding screenOf screenAfter
-refused t ledger out k e h = refuses (screenRefusal t ledger out) _ (lineFor t ledger) out k e h
+refused t claimed doubtful out k e h = refuses (screenRefusal t claimed doubtful out) _ (lineFor t claimed doubtful) out k e h
 
 pub screen-rows : ScreenRows
 unfolding screenOf screenAfter
 screen-rows =
     record {
-      row-1 = λ t ledger out f. refused t ledger out 1 (not-fit t ledger out f) (omega arith);
-      row-55 = λ t ledger out f h. refused t ledger out 55 (fit t ledger out f ∙ room-short (length (lineFor t ledger)) out h) (omega arith);
-      row-written = λ t ledger out f h.
-          writes (screenRefusal t ledger out) _ (lineFor t ledger) out (fit t ledger out f ∙ room-enough (length (lineFor t ledger)) out h) refl;
+      row-1 = λ t claimed doubtful out f. refused t claimed doubtful out 1 (not-fit t claimed doubtful out f) (omega arith);
+      row-55 = λ t claimed doubtful out f h. refused t claimed doubtful out 55 (fit t claimed doubtful out f ∙ room-short (length (lineFor t claimed doubtful)) out h) (omega arith);
+      row-written = λ t claimed doubtful out f h.
+          writes (screenRefusal t claimed doubtful out) _ (lineFor t claimed doubtful) out (fit t claimed doubtful out f ∙ room-enough (length (lineFor t claimed doubtful)) out h) refl;
     }

@@ -1,4 +1,4 @@
--- Worked cases of the screen line: document 01's example call by call, its broken line, and one with a payload under way, as one statement over a list of cases.
+-- Worked cases of the screen line: document 01's example call by call, its broken line, one with a payload under way, and two with bit 32, as one statement over a list of cases.
 use Prim.Native.Nat.{ℕ, _-_}
 use mathlib.Core.Path.{_≡_}
 use mathlib.Core.List.{List, [], _∷_, _++_}
@@ -7,10 +7,10 @@ use Rattle.octets.specs.Cases.{AllHold}
 use Rattle.answers.specs.declared.written.Written.the-variants.{Bytes, Refused}
 use Rattle.eblock.specs.Header.{headerBytes}
 use Rattle.transfer.specs.Calls.{Call, receive, startedWorld, after}
-use Rattle.transfer.specs.Example.{firstCall, secondCall, thirdCall}
+use Rattle.transfer.specs.Example.{plai, firstCall, secondCall, thirdCall}
 use Rattle.screen.specs.Screen.{lineOf, screenOf, screenAfter}
 
--- from a file of 8 bytes and a ledger of one pair, the calls leave this line
+-- from a file of 8 bytes and ledgers of one pair, the calls leave this line
 pub record Case : Type 0 where
   pub calls : List Call
   pub line : List ℕ
@@ -21,13 +21,13 @@ filled n = replicate n 238
 
 abbrev pub Holds : Case → Type 0
 Holds k =
-    let w = after (startedWorld (replicate 8 0) (replicate 2 7)) (k .calls) in
+    let w = after (startedWorld (replicate 8 0) (replicate 2 7) (replicate 2 7)) (k .calls) in
     let n = length (k .line) in
     (lineOf w ≡ k .line)
-    × (screenOf (w .t) (w .lent .ledger) (filled 40) ≡ Bytes n)
-    × (screenAfter (w .t) (w .lent .ledger) (filled 40) ≡ k .line ++ filled (40 - n))
+    × (screenOf (w .t) (w .lent .claimed) (w .lent .doubtful) (filled 50) ≡ Bytes n)
+    × (screenAfter (w .t) (w .lent .claimed) (w .lent .doubtful) (filled 50) ≡ k .line ++ filled (50 - n))
     -- one byte less than it has
-    × (screenOf (w .t) (w .lent .ledger) (filled (n - 1)) ≡ Refused 55)
+    × (screenOf (w .t) (w .lent .claimed) (w .lent .doubtful) (filled (n - 1)) ≡ Refused 55)
 
 -- GUESS ended 0 of ? bytes 4
 abbrev pub firstLine : List ℕ
@@ -49,6 +49,14 @@ brokenLine = 66 ∷ 82 ∷ 79 ∷ 75 ∷ 69 ∷ 78 ∷ 32 ∷ 49 ∷ 55 ∷ 32 �
 abbrev pub underWayLine : List ℕ
 underWayLine = 71 ∷ 85 ∷ 69 ∷ 83 ∷ 83 ∷ 32 ∷ 101 ∷ 110 ∷ 100 ∷ 101 ∷ 100 ∷ 32 ∷ 48 ∷ 32 ∷ 111 ∷ 102 ∷ 32 ∷ 50 ∷ 32 ∷ 98 ∷ 121 ∷ 116 ∷ 101 ∷ 115 ∷ 32 ∷ 50 ∷ 10 ∷ []
 
+-- SUSPECT ended 1 of 1 bytes 4 doubtful 4
+abbrev pub suspectLine : List ℕ
+suspectLine = 83 ∷ 85 ∷ 83 ∷ 80 ∷ 69 ∷ 67 ∷ 84 ∷ 32 ∷ 101 ∷ 110 ∷ 100 ∷ 101 ∷ 100 ∷ 32 ∷ 49 ∷ 32 ∷ 111 ∷ 102 ∷ 32 ∷ 49 ∷ 32 ∷ 98 ∷ 121 ∷ 116 ∷ 101 ∷ 115 ∷ 32 ∷ 52 ∷ 32 ∷ 100 ∷ 111 ∷ 117 ∷ 98 ∷ 116 ∷ 102 ∷ 117 ∷ 108 ∷ 32 ∷ 52 ∷ 10 ∷ []
+
+-- GUESS ended 0 of ? bytes 1
+abbrev pub doubtUnderWayLine : List ℕ
+doubtUnderWayLine = 71 ∷ 85 ∷ 69 ∷ 83 ∷ 83 ∷ 32 ∷ 101 ∷ 110 ∷ 100 ∷ 101 ∷ 100 ∷ 32 ∷ 48 ∷ 32 ∷ 111 ∷ 102 ∷ 32 ∷ 63 ∷ 32 ∷ 98 ∷ 121 ∷ 116 ∷ 101 ∷ 115 ∷ 32 ∷ 49 ∷ 10 ∷ []
+
 abbrev pub cases : List Case
 cases =
     record { calls = firstCall ∷ []; line = firstLine }
@@ -58,6 +66,9 @@ cases =
     ∷ record { calls = firstCall ∷ receive 1 (headerBytes 0 2 3) ∷ []; line = brokenLine }
     -- a count known, and two bytes of a payload of four
     ∷ record { calls = receive 0 (headerBytes 64 0 2) ∷ receive 1 (headerBytes 0 4 0 ++ (112 ∷ 108 ∷ [])) ∷ []; line = underWayLine }
+    -- "plai" with bit 32, and the count; and one byte of it, where no doubt shows
+    ∷ record { calls = receive 0 (headerBytes 32 4 0 ++ plai) ∷ receive 0 (headerBytes 72 0 1) ∷ []; line = suspectLine }
+    ∷ record { calls = receive 0 (headerBytes 32 4 0 ++ (112 ∷ [])) ∷ []; line = doubtUnderWayLine }
     ∷ []
 
 abbrev pub ScreenCases : Type 0

@@ -11,11 +11,11 @@ use Rattle.screen.specs.Screen.{lineFor, screenOf, screenAfter}
 
 -- the premises carry the order of the numbers
 pub record ScreenRows : Type 0 where
-  -- 1: transfer and ledger don't fit
-  pub row-1 : (t : Transfer) (ledger out : List ℕ) → fitsWithoutFile t ledger ≡ false → Refuses (screenOf t ledger out) (screenAfter t ledger out) out 1
+  -- 1: transfer and ledgers don't fit
+  pub row-1 : (t : Transfer) (claimed doubtful out : List ℕ) → fitsWithoutFile t claimed doubtful ≡ false → Refuses (screenOf t claimed doubtful out) (screenAfter t claimed doubtful out) out 1
   -- 55: the lent bytes are too few for the whole line
-  pub row-55 : (t : Transfer) (ledger out : List ℕ) → fitsWithoutFile t ledger ≡ true → length out < length (lineFor t ledger)
-      → Refuses (screenOf t ledger out) (screenAfter t ledger out) out 55
+  pub row-55 : (t : Transfer) (claimed doubtful out : List ℕ) → fitsWithoutFile t claimed doubtful ≡ true → length out < length (lineFor t claimed doubtful)
+      → Refuses (screenOf t claimed doubtful out) (screenAfter t claimed doubtful out) out 55
   -- otherwise the line is written, and the bytes after it are unchanged
-  pub row-written : (t : Transfer) (ledger out : List ℕ) → fitsWithoutFile t ledger ≡ true → length (lineFor t ledger) ≤ length out
-      → Writes (screenOf t ledger out) (screenAfter t ledger out) out (lineFor t ledger) (length (lineFor t ledger))
+  pub row-written : (t : Transfer) (claimed doubtful out : List ℕ) → fitsWithoutFile t claimed doubtful ≡ true → length (lineFor t claimed doubtful) ≤ length out
+      → Writes (screenOf t claimed doubtful out) (screenAfter t claimed doubtful out) out (lineFor t claimed doubtful) (length (lineFor t claimed doubtful))

@@ -1,9 +1,9 @@
 // The screen line, written into lent bytes.
 use answers::written::Written;
-use checks::fit;
-use counts::count;
 use octets::decimal;
 use receiver::receive::Receiver;
+use receiver::show::Screen;
+use receiver::show::Shown;
 use verdicts::verdict::Verdict;
 ghost use mathlib.Core.Path.{_≡_};
 ghost use mathlib.Core.List.{_++_};
@@ -12,16 +12,7 @@ ghost use lib.ListN.{length};
 ghost use Rattle.octets.specs.Decimal.{decimal};
 ghost use Rattle.answers.specs.Written.{roomRefusal, writtenBy, writtenAfter};
 ghost use Rattle.answers.specs.WritesAt.{WritesAt};
-ghost use Rattle.screen.specs.Screen.{countText, brokenText, endedText, frontTextOf, lineTextOf, screenOf, screenAfter};
-
-// The numbers that a line may say. A count of 0 is an unknown one.
-struct Numbers {
-    fault: u64,
-    on: u64,
-    ended: u64,
-    count: u64,
-    bytes: u64,
-}
+ghost use Rattle.screen.specs.Screen.{countText, brokenText, endedText, frontTextOf, tailTextOf, lineTextOf, screenOf, screenAfter};
 
 const BROKEN: [u8; 7] = *b"BROKEN ";
 
@@ -31,6 +22,8 @@ const GUESS: [u8; 5] = *b"GUESS";
 
 const RESULT: [u8; 6] = *b"RESULT";
 
+const SUSPECT: [u8; 7] = *b"SUSPECT";
+
 const ENDED: [u8; 7] = *b" ended ";
 
 const OF: [u8; 4] = *b" of ";
@@ -39,10 +32,12 @@ const UNKNOWN: [u8; 1] = *b"?";
 
 const BYTES: [u8; 7] = *b" bytes ";
 
+const DOUBTFUL: [u8; 10] = *b" doubtful ";
+
 const LINE_FEED: [u8; 1] = *b"\n";
 
-// The length of the longest line: RESULT, and three numbers of 20 digits.
-const LONGEST: usize = 85;
+// The length of the longest line: SUSPECT, and four numbers of 20 digits.
+const LONGEST: usize = 116;
 
 // ---- its parts, each written from a place on; the answer is the place after it
 
@@ -95,7 +90,7 @@ fn put_broken(out: &mut [u8], fault: u64, on: u64) -> usize
     put_number(out, on_at, on)
 }
 
-// GUESS or RESULT, and how many channels have ended.
+// GUESS, RESULT or SUSPECT, and how many channels have ended.
 fn put_ended(out: &mut [u8], word: &[u8], ended: u64, count: u64) -> usize
     requires { ⌜ length (now word) + length (endedText ended count) ≤ length (now out) ⌝ }
     ensures { λ r. ⌜ WritesAt (now (out .entry)) 0 (now (word .entry) ++ endedText ended count) r (now (out .exit)) ⌝ }
@@ -105,23 +100,39 @@ fn put_ended(out: &mut [u8], word: &[u8], ended: u64, count: u64) -> usize
     put_count(out, count_at, count)
 }
 
-fn put_front(out: &mut [u8], v: Verdict, n: Numbers) -> usize
-    requires { ⌜ length (frontTextOf v n) ≤ length (now out) ⌝ }
-    ensures { λ r. ⌜ WritesAt (now (out .entry)) 0 (frontTextOf v n) r (now (out .exit)) ⌝ }
+fn put_front(out: &mut [u8], n: Shown) -> usize
+    requires { ⌜ length (frontTextOf n) ≤ length (now out) ⌝ }
+    ensures { λ r. ⌜ WritesAt (now (out .entry)) 0 (frontTextOf n) r (now (out .exit)) ⌝ }
 {
-    match v {
+    let verdict = n.verdict;
+    match verdict {
         Verdict::Broken => put_broken(out, n.fault, n.on),
         Verdict::Guess => put_ended(out, &GUESS, n.ended, n.count),
         Verdict::Result => put_ended(out, &RESULT, n.ended, n.count),
+        Verdict::Suspect => put_ended(out, &SUSPECT, n.ended, n.count),
     }
 }
 
-fn put_line(out: &mut [u8], v: Verdict, n: Numbers) -> usize
-    requires { ⌜ length (lineTextOf v n) ≤ length (now out) ⌝ }
-    ensures { λ r. ⌜ WritesAt (now (out .entry)) 0 (lineTextOf v n) r (now (out .exit)) ⌝ }
+// The end of the line, after SUSPECT with the doubtful bytes.
+fn put_tail(out: &mut [u8], at: usize, n: Shown) -> usize
+    requires { ⌜ at + length (tailTextOf n) ≤ length (now out) ⌝ }
+    ensures { λ r. ⌜ WritesAt (now (out .entry)) at (tailTextOf n) r (now (out .exit)) ⌝ }
 {
-    let bytes_at = put_front(out, v, n);
-    put_between(out, bytes_at, &BYTES, n.bytes, &LINE_FEED)
+    let verdict = n.verdict;
+    match verdict {
+        Verdict::Suspect => put_between(out, at, &DOUBTFUL, n.doubtful, &LINE_FEED),
+        _ => put_word(out, at, &LINE_FEED),
+    }
+}
+
+fn put_line(out: &mut [u8], n: Shown) -> usize
+    requires { ⌜ length (lineTextOf n) ≤ length (now out) ⌝ }
+    ensures { λ r. ⌜ WritesAt (now (out .entry)) 0 (lineTextOf n) r (now (out .exit)) ⌝ }
+{
+    let bytes_at = put_front(out, n);
+    let number_at = put_word(out, bytes_at, &BYTES);
+    let tail_at = put_number(out, number_at, n.bytes);
+    put_tail(out, tail_at, n)
 }
 
 // ---- the line
@@ -138,31 +149,21 @@ fn put_first(text: &[u8], out: &mut [u8]) -> Written
 }
 
 // The line of these numbers in the first of the lent bytes.
-fn put_numbers(v: Verdict, n: Numbers, out: &mut [u8]) -> Written
-    ensures { λ r. ⌜ (r ≡ writtenBy (roomRefusal (length (lineTextOf v n)) (now (out .entry))) (length (lineTextOf v n))) × (now (out .exit) ≡ writtenAfter (roomRefusal (length (lineTextOf v n)) (now (out .entry))) (lineTextOf v n) (now (out .entry))) ⌝ }
+fn put_numbers(n: Shown, out: &mut [u8]) -> Written
+    ensures { λ r. ⌜ (r ≡ writtenBy (roomRefusal (length (lineTextOf n)) (now (out .entry))) (length (lineTextOf n))) × (now (out .exit) ≡ writtenAfter (roomRefusal (length (lineTextOf n)) (now (out .entry))) (lineTextOf n) (now (out .entry))) ⌝ }
 {
     let mut line = [0; LONGEST];
-    let end = put_line(&mut line, v, n);
+    let end = put_line(&mut line, n);
     put_first(&line[..end], out)
 }
 
-// 1 where transfer and ledger don't fit, then 55.
-pub fn write(receiver: Receiver, ledger: &[u64], out: &mut [u8]) -> Written
-    ensures { λ r. ⌜ (r ≡ screenOf (receiver .transfer) (now (ledger .entry)) (now (out .entry))) × (now (out .exit) ≡ screenAfter (receiver .transfer) (now (ledger .entry)) (now (out .entry))) ⌝ }
+// 1 where transfer and ledgers don't fit, then 55.
+pub fn write(receiver: Receiver, claimed: &[u64], doubtful: &[u64], out: &mut [u8]) -> Written
+    ensures { λ r. ⌜ (r ≡ screenOf (receiver .transfer) (now (claimed .entry)) (now (doubtful .entry)) (now (out .entry))) × (now (out .exit) ≡ screenAfter (receiver .transfer) (now (claimed .entry)) (now (doubtful .entry)) (now (out .entry))) ⌝ }
 {
-    let t = receiver.transfer;
-    if !fit::without_file(t, ledger) {
-        return Written::Refused(1);
+    let screen = receiver.shown(claimed, doubtful);
+    match screen {
+        Screen::Shows(n) => put_numbers(n, out),
+        Screen::Refused(k) => Written::Refused(k),
     }
-    let verdict = receiver.verdict();
-    let ended = count::ended(t);
-    let bytes = receiver.stored(ledger);
-    let numbers = Numbers {
-        fault: t.fault,
-        on: t.on,
-        ended: ended,
-        count: t.count,
-        bytes: bytes,
-    };
-    put_numbers(verdict, numbers, out)
 }

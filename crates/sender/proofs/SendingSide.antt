@@ -6,7 +6,7 @@ use Rattle.sender.proofs.SenderRows.{rows, refused-beginning}
 use Rattle.sender.proofs.SentCalls.{sends}
 use Rattle.sender.proofs.GivenByCalls.{given-by-calls, can-end}
 use Rattle.sender.proofs.SentPlaces.{exactly-once}
-use Rattle.sender.proofs.WellFormedSending.{well-formed}
+use Rattle.sender.proofs.WellFormedSending.{well-formed, none-suspected}
 use Rattle.sender.proofs.EqualFile.{equal-file}
 use Rattle.sender.proofs.Example.{example}
 
@@ -20,7 +20,7 @@ sending-side =
       given-by-calls = given-by-calls;
       sends = sends;
       can-end = can-end;
-      well-formed = record { is = λ file count size e. let r = in-range count size e in well-formed file count size (r .0 .0) (r .0 .1) (r .1 .0) (r .1 .1) };
+      well-formed = record { is = λ file count size e. let r = in-range count size e in well-formed file count size (r .0 .0) (r .0 .1) (r .1 .0) (r .1 .1); none-suspected = none-suspected };
       exactly-once = λ file count size e. let r = in-range count size e in exactly-once file count size (r .0 .0) (r .1 .0);
       equal-file = equal-file;
       example = example;

@@ -14,9 +14,10 @@ use Rattle.eblock.specs.Descriptor.{has, faultOf}
 use Rattle.eblock.specs.Header.{descriptorOf, thirdOf, headerBytes}
 use Rattle.eblock.proofs.HeaderFields.{length-bytesOf, third-reads-back}
 use Rattle.transfer.specs.Transfer.{sum}
-use Rattle.transfer.specs.Header.{isEodc, endsChannel}
-use Rattle.transfer.specs.Block.{Block, block, sizeOf, countsIn}
+use Rattle.transfer.specs.Header.{isEodc, endsChannel, isDoubtful}
+use Rattle.transfer.specs.Block.{Block, block, sizeOf, countsIn, doubtfulIn}
 use Rattle.transfer.specs.Sending.{SentChannel, WellFormedBlock, WellFormedBlocks, WellFormedChannel, WellFormedChannels, sentBlocks, timesSentOn, payloadsHolding, nonEmptyPayloads, WellFormed}
+use Rattle.transfer.proofs.BlockDoubts.{doubtful-append}
 use Rattle.transfer.proofs.BlockCounts.{sum-counts, exactly-one}
 use Rattle.transfer.proofs.ArrivalWhole.{sent-append}
 use Rattle.transfer.proofs.CompleteSending.{ends-last}
@@ -24,7 +25,7 @@ use Rattle.transfer.proofs.BlockCut.{Done, done-append}
 use Rattle.sender.specs.Blocks.{blockCount, blockLength, dataBlock, ending, dataBlocksOn, channelBlocks, channelsBelow, sending}
 use Rattle.sender.proofs.BlockNumbers.{starts-inside, block-there}
 use Rattle.sender.proofs.SendingSums.{sumBelow, sumBelow-same, sumBelow-zero, sumBelow-at, sumBelow-most, sum-channels, sum-sent}
-use Rattle.sender.proofs.SendingEach.{each-on, each-channel}
+use Rattle.sender.proofs.SendingEach.{each-on, each-channel, each-sent}
 use Rattle.sender.proofs.SentPlaces.{data-place, data-size, data-length, ending-is, ending-size, exactly-once}
 
 -- at most 4,096 blocks of at most 65,536 bytes: a header can say every place
@@ -176,3 +177,17 @@ well-formed file count size h m z s b R r =
     apart : (p : ℕ) → Dec (p < length file) → payloadsHolding p (sentBlocks (sending file count size)) + contains p none ≤ 1
     apart p (yes l) = omega (arith, exactly-once file count size h z short .once p l)
     apart p (no l) = omega (arith, exactly-once file count size h z short .no-other p (omega arith))
+
+-- ---- bit 32
+
+-- a block without it
+not-doubtful : (x : Block) → isDoubtful (x .head) ≡ false → doubtfulIn (x ∷ []) ≡ []
+unfolding doubtfulIn
+not-doubtful x e = rw e
+
+pub none-suspected : (file : List ℕ) (count size : ℕ) → doubtfulIn (sentBlocks (sending file count size)) ≡ []
+unfolding doubtfulIn
+none-suspected file count size =
+    each-sent (λ xs. doubtfulIn xs ≡ []) refl (λ a b p q. doubtful-append a b ∙ rw (p, q)) file count size
+    (λ k h. not-doubtful (dataBlock file size k) (unfold dataBlock headerBytes has in refl))
+    (λ c. not-doubtful (ending count c) (ending-is (λ h. isDoubtful h ≡ false) count c (unfold headerBytes has in refl) (unfold headerBytes has in refl))) count

@@ -9,7 +9,7 @@ use Rattle.ledger.specs.Pairs.{none}
 use Rattle.answers.specs.Written.{writtenNumber}
 use Rattle.transfer.specs.Transfer.{World, result, verdictOf}
 use Rattle.transfer.specs.Calls.{Call, after}
-use Rattle.transfer.specs.Block.{blockBytes}
+use Rattle.transfer.specs.Block.{blockBytes, doubtfulIn}
 use Rattle.transfer.specs.AfterList.{StartedWith, HasByte, PayloadsInFile}
 use Rattle.transfer.specs.Sending.{sentBlocks, payloadsHolding, WellFormed, sentOn, piecesOn}
 use Rattle.transfer.specs.Arrivals.{Arrives}
@@ -74,6 +74,8 @@ pub record CanEnd : Type 0 where
 -- well-formed, for a receiver whose file has that length and whose ledger has a pair for each block
 pub record WellFormedSending : Type 0 where
   pub is : (file : List ℕ) (count size : ℕ) → beginRefusal count size ≡ 0 → blockCount (length file) size ≤ 4096 → (R : ℕ) → blockCount (length file) size ≤ R → WellFormed (length file) R none (sending file count size)
+  -- no block has bit 32, so that it never ends with SUSPECT (document 02, Item 3)
+  pub none-suspected : (file : List ℕ) (count size : ℕ) → doubtfulIn (sentBlocks (sending file count size)) ≡ []
 
 -- each byte of the file is sent, and once
 pub record ExactlyOnce (file : List ℕ) (count size : ℕ) : Type 0 where

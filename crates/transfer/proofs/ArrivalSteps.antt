@@ -1,4 +1,4 @@
--- A tally on the way through an arrival: every byte is taken, and the verdict is GUESS while a byte is to come, then RESULT.
+-- A tally on the way through an arrival: every byte is taken, and the verdict is GUESS while a byte is to come, then RESULT or SUSPECT.
 use Prim.Native.Nat.{ℕ, suc, _+_, _<_}
 use mathlib.Core.Path.{_≡_, refl, sym, ap, _∙_, subst}
 use mathlib.Core.Logic.{_⊎_, inl, inr}
@@ -10,13 +10,13 @@ use borrow.Author.Tests.{lt-leb, le-ltb, eq-eqb, ne-eqb}
 use lib.Dec.{ltb, eqb}
 use lib.ListN.{length}
 use lib.Seq.{getD-set-other, ext-getD}
-use Rattle.ledger.specs.Pairs.{Pairs, ObeyFrom}
+use Rattle.ledger.specs.Pairs.{Pairs, size, ObeyFrom}
 use Rattle.transfer.specs.Channel.{channelCount}
-use Rattle.transfer.specs.Transfer.{guess, result}
+use Rattle.transfer.specs.Transfer.{Verdict, guess, result, suspect}
 use Rattle.transfer.specs.Receive.{Outcome, afterByte, takeByte, Answer, refused, took, takeBytes, isNonEmpty, isEnded}
 use Rattle.transfer.specs.Calls.{Call, receive, foldCalls}
 use Rattle.transfer.specs.Block.{hasEnded}
-use Rattle.transfer.specs.Tally.{Tally, Stream, intact, taken, accepted, countsOf, knownCount, endedIn, tallyVerdict, empty, streamAt, withStream, tallyByte as tallyByteOf, tallyRefusal, tallyCall}
+use Rattle.transfer.specs.Tally.{Tally, Stream, intact, taken, accepted, countsOf, knownCount, doubted, endedIn, tallyVerdict, empty, streamAt, withStream, tallyByte as tallyByteOf, tallyRefusal, tallyCall}
 use Rattle.transfer.specs.StateFrom.{stateFrom}
 use Rattle.transfer.specs.Sending.{piecesOn}
 use Rattle.transfer.proofs.ReceivePieces.{bytes-goes, bytes-stops}
@@ -32,6 +32,10 @@ use Rattle.transfer.proofs.SendingWellFormed.{Sendable}
 use Rattle.transfer.proofs.SendingBegun.{Underway, counts-are, on-channel, not-ended, ended-below}
 use Rattle.transfer.proofs.SendingFaultless.{Takes, takes-byte}
 use Rattle.transfer.proofs.SendingPieces.{pieces-here, pieces-other, pieces-none}
+
+-- SUSPECT where a range is doubtful, RESULT where none is
+abbrev pub lastWord : List Stream → Verdict
+lastWord ss = cond (ltb 0 (size (doubted ss))) suspect result
 
 module _ (F R : ℕ) (before : Pairs) (ruled : ObeyFrom 0 before) (n : ℕ) (all : List Stream) (sent : Sendable F R before n all) where
   -- without a fault so far, and the calls ks are to come
@@ -60,7 +64,7 @@ module _ (F R : ℕ) (before : Pairs) (ruled : ObeyFrom 0 before) (n : ℕ) (all
       less = ended-below F R before n all sent (t .streams) (underway t ks w) c b m (ap (λ bs. taken (streamAt t c) ++ bs) (sym e) ∙ w .comes c)
 
       go : (countsOf (t .streams) ≡ []) ⊎ (countsOf (t .streams) ≡ n ∷ [])
-          → cond (eqb (length (countsOf (t .streams))) 1 && eqb (endedIn (t .streams)) (knownCount (t .streams))) result guess ≡ guess
+          → cond (eqb (length (countsOf (t .streams))) 1 && eqb (endedIn (t .streams)) (knownCount (t .streams))) (lastWord (t .streams)) guess ≡ guess
       go (inl h) = rw h
       go (inr h) = rw (h, ne-eqb (endedIn (t .streams)) n (λ q. omega (arith, less)))
 
@@ -72,9 +76,9 @@ module _ (F R : ℕ) (before : Pairs) (ruled : ObeyFrom 0 before) (n : ℕ) (all
       same : (c : ℕ) → taken (streamAt t c) ≡ taken (streamIn all c)
       same c = sym (append-nil (taken (streamAt t c))) ∙ ap (λ bs. taken (streamAt t c) ++ bs) (sym (none c)) ∙ w .comes c
 
-  pub result-then : (t : Tally) (ks : List Call) → Way t ks → ((c : ℕ) → piecesOn c ks ≡ []) → tallyVerdict t ≡ result
+  pub last-then : (t : Tally) (ks : List Call) → Way t ks → ((c : ℕ) → piecesOn c ks ≡ []) → tallyVerdict t ≡ lastWord all
   unfolding tallyVerdict
-  result-then t ks w none = rw (le-ltb 0 (t .fault) (omega (arith, w .clean)), all-there t ks w none, sent .counts-are, eq-eqb (endedIn all) n (sent .ended-are))
+  last-then t ks w none = rw (le-ltb 0 (t .fault) (omega (arith, w .clean)), all-there t ks w none, sent .counts-are, eq-eqb (endedIn all) n (sent .ended-are))
 
   -- ---- a byte
 

@@ -1,32 +1,53 @@
--- Every arrival of a well-formed sending is taken whole, shows GUESS until its last byte and then RESULT, and leaves the file that was sent.
-use Prim.Native.Nat.{ℕ, suc, _≤_, _<_}
+-- Every arrival of a well-formed sending is taken whole, shows GUESS until its last byte and then RESULT or SUSPECT, and leaves the file that was sent.
+use Prim.Native.Nat.{ℕ, zero, suc, _≤_, _<_}
 use mathlib.Core.Path.{_≡_, refl, sym, ap, _∙_}
-use mathlib.Core.Logic.{inl, inr}
+use mathlib.Core.Logic.{_↔_, inl, inr}
+use mathlib.Core.Bool.{cond}
 use mathlib.Core.List.{List, [], _∷_, _++_, append-nil}
 use native.Mathlib.Omega.{arith}
+use native.Mathlib.Decide.{decLt}
+use borrow.Author.Tests.{lt-ltb, le-ltb}
+use lib.Dec.{eqb}
 use lib.ListN.{length, getD}
-use Rattle.ledger.specs.Pairs.{Pairs, ObeyFrom}
-use Rattle.transfer.specs.Transfer.{World, guess, result, verdictOf}
+use Rattle.ledger.specs.Pairs.{Pairs, size, ObeyFrom}
+use Rattle.transfer.specs.Transfer.{World, Verdict, guess, result, suspect, broken, verdictOf}
 use Rattle.transfer.specs.Receive.{took}
 use Rattle.transfer.specs.Fit.{pairLimit}
 use Rattle.transfer.specs.Calls.{Call, receive, callOf, after}
-use Rattle.transfer.specs.Block.{Block, withPayloads}
-use Rattle.transfer.specs.Tally.{Tally, blocksOf, tallyVerdict, empty}
+use Rattle.transfer.specs.Block.{Block, sizeOf, doubtfulIn, withPayloads}
+use Rattle.transfer.specs.Tally.{Tally, blocksOf, doubted, tallyVerdict, empty}
 use Rattle.transfer.specs.AfterList.{StartedWith, tallyOf, HasByte}
-use Rattle.transfer.specs.Sending.{SentChannel, WellFormedBlocks, WellFormedChannels, sentBlocks, WellFormed, piecesOn, Arrival, totalPieceBytes}
+use Rattle.transfer.specs.Sending.{SentChannel, WellFormedBlocks, WellFormedChannels, sentBlocks, nonEmptyPayloads, WellFormed, piecesOn, Arrival, totalPieceBytes}
 use Rattle.transfer.specs.Arrivals.{Arrives}
 use Rattle.transfer.proofs.TallyTransfer.{worldOf}
 use Rattle.transfer.proofs.TallyInvariant.{Invariant}
 use Rattle.transfer.proofs.TallyCalls.{verdict-is, call}
+use Rattle.transfer.proofs.BlockDoubts.{ifDoubtful, sum-doubtful}
+use Rattle.transfer.proofs.BlockPlaces.{by-payload, by-pair}
 use Rattle.transfer.proofs.BlockPayloads.{length-withPayloads}
 use Rattle.transfer.proofs.BlockBytesInFile.{has-withPayloads, none-withPayloads}
 use Rattle.transfer.proofs.CompleteBlocks.{AllWhole, whole-stand}
 use Rattle.transfer.proofs.TallyBegins.{begins}
 use Rattle.transfer.proofs.TallyFromStart.{world-along}
-use Rattle.transfer.proofs.SendingStreams.{streamsOf, bytes-all}
+use Rattle.transfer.proofs.SendingStreams.{streamsOf, bytes-all, sum-sent}
 use Rattle.transfer.proofs.SendingWellFormed.{Sendable, sendable, sent-bodies, withPayloads-sent}
-use Rattle.transfer.proofs.ArrivalSteps.{Way, way-empty, guess-still, all-there, result-then, call-taken, run-taken}
+use Rattle.transfer.proofs.ArrivalSteps.{Way, way-empty, lastWord, guess-still, all-there, last-then, call-taken, run-taken}
 use Rattle.transfer.proofs.SendingPieces.{offered-append, some-offered, none-offered}
+
+-- ---- the last words differ
+
+result-suspect : result ≡ suspect → ⊥
+result-suspect e = let z : _≡_ {A = ℕ} 0 1 = ap code e in omega (arith, z)
+  where
+    code : Verdict → ℕ
+    code guess = 0
+    code result = 0
+    code suspect = 1
+    code broken = 0
+
+none-is : (n : ℕ) → (0 < n → ⊥) → n ≡ 0
+none-is zero h = refl
+none-is (suc n) h = absurd (h (omega arith))
 
 -- ---- what is sent
 
@@ -89,8 +110,41 @@ module _ (w : World) (file : List ℕ) (R : ℕ) (before : Pairs) (begun : Start
       let p = some-offered post h in
       shown pre post o ∙ guess-still F R before (start .0) (length s) (streamsOf s) sent (tally pre) post (p .0) (p .1) (p .2 .0) o (p .2 .1)
 
-  shown-result : (pre post : List Call) → OnWay pre post → totalPieceBytes post ≡ 0 → verdictOf (after w pre) ≡ result
-  shown-result pre post o h = shown pre post o ∙ result-then F R before (start .0) (length s) (streamsOf s) sent (tally pre) post o (none-offered post h)
+  shown-last : (pre post : List Call) → OnWay pre post → totalPieceBytes post ≡ 0 → verdictOf (after w pre) ≡ lastWord (streamsOf s)
+  shown-last pre post o h = shown pre post o ∙ last-then F R before (start .0) (length s) (streamsOf s) sent (tally pre) post o (none-offered post h)
+
+  -- a doubtful range is there where a payload that is not empty has bit 32
+  suspected-are : nonEmptyPayloads (doubtfulIn (blocksOf (streamsOf s))) ≡ nonEmptyPayloads (doubtfulIn (sentBlocks s))
+  suspected-are =
+      let one : Block → ℕ = λ x. cond (eqb (sizeOf x) 0) 0 1 in
+      sum-doubtful one (blocksOf (streamsOf s)) ∙ sum-sent F (ifDoubtful one) s (wf .each) (wf .once) ∙ sym (sum-doubtful one (sentBlocks s))
+
+  doubted-where : (0 < size (doubted (streamsOf s))) ↔ (0 < nonEmptyPayloads (doubtfulIn (sentBlocks s)))
+  doubted-where =
+      let xs = doubtfulIn (blocksOf (streamsOf s)) in (
+        (λ h. omega (arith, suspected-are, by-payload xs .1 (by-pair xs .0 h))),
+        (λ h. by-pair xs .1 (by-payload xs .0 (omega (arith, suspected-are, h)))),
+      )
+
+  last-words : (pre post : List Call) → OnWay pre post → totalPieceBytes post ≡ 0
+      → ((verdictOf (after w pre) ≡ suspect) ↔ (0 < nonEmptyPayloads (doubtfulIn (sentBlocks s)))) × ((verdictOf (after w pre) ≡ result) ↔ (nonEmptyPayloads (doubtfulIn (sentBlocks s)) ≡ 0))
+  last-words pre post o h = go (decLt 0 (size (doubted (streamsOf s))))
+    where
+      v : Verdict
+      v = verdictOf (after w pre)
+
+      N : ℕ
+      N = nonEmptyPayloads (doubtfulIn (sentBlocks s))
+
+      go : Dec (0 < size (doubted (streamsOf s))) → ((v ≡ suspect) ↔ (0 < N)) × ((v ≡ result) ↔ (N ≡ 0))
+      go (yes y) =
+          let e : v ≡ suspect = shown-last pre post o h ∙ ap (λ b. cond b suspect result) (lt-ltb 0 (size (doubted (streamsOf s))) y) in
+          let some : 0 < N = doubted-where .0 y in
+          (((λ z. some), (λ z. e)), ((λ z. absurd (result-suspect (sym z ∙ e))), (λ z. absurd (omega (arith, some, z)))))
+      go (no y) =
+          let e : v ≡ result = shown-last pre post o h ∙ ap (λ b. cond b suspect result) (le-ltb 0 (size (doubted (streamsOf s))) (omega arith)) in
+          let some : 0 < N → ⊥ = λ z. y (doubted-where .1 z) in
+          (((λ z. absurd (result-suspect (sym e ∙ z))), (λ z. absurd (some z))), ((λ z. none-is N some), (λ z. e)))
 
   -- ---- the file
 
@@ -122,7 +176,8 @@ module _ (w : World) (file : List ℕ) (R : ℕ) (before : Pairs) (begun : Start
       record {
         all-taken = λ pre post c b bs e. taken-whole pre post c b bs (way pre (receive c (b ∷ bs) ∷ post) e);
         shows-guess = λ pre post e h. shown-guess pre post (way pre post e) (omega (arith, h, ap totalPieceBytes e, offered-append pre post));
-        shows-result = λ pre post e h. shown-result pre post (way pre post e) (omega (arith, h, ap totalPieceBytes e, offered-append pre post));
+        shows-suspect = λ pre post e h. last-words pre post (way pre post e) (omega (arith, h, ap totalPieceBytes e, offered-append pre post)) .0;
+        shows-result = λ pre post e h. last-words pre post (way pre post e) (omega (arith, h, ap totalPieceBytes e, offered-append pre post)) .1;
         file-is = file-sent;
         payloads-in-file = whole-stand File (sentBlocks s) (sent-whole F (sentBlocks s) blocks) at-place;
         rest-stays = λ p h. ap (λ f. getD f p 0) file-sent ∙ none-withPayloads p (sentBlocks s) file h;

@@ -16,7 +16,7 @@ use Rattle.transfer.specs.Block.{Block, placeOf, sizeOf, claimsIn}
 use Rattle.transfer.specs.AfterList.{ClaimsPlace, LedgerIs}
 use Rattle.transfer.proofs.BlockClaims.{cover, claims-ruled, claims-holds}
 
-cover-claims : (p : ℕ) (xs : List Block) → 0 < cover p xs → ClaimsPlace p xs
+pub cover-claims : (p : ℕ) (xs : List Block) → 0 < cover p xs → ClaimsPlace p xs
 unfolding sum
 cover-claims p [] h = absurd (omega arith)
 cover-claims p (x ∷ xs) h = go (stand (placeOf x) (placeOf x + sizeOf x) p) (λ k. cover-claims p xs k)
@@ -26,7 +26,7 @@ cover-claims p (x ∷ xs) h = go (stand (placeOf x) (placeOf x + sizeOf x) p) (�
     go (under a e) i = inr (i (omega (arith, h, e)))
     go (past a b e) i = inr (i (omega (arith, h, e)))
 
-claims-cover : (p : ℕ) (xs : List Block) → ClaimsPlace p xs → 0 < cover p xs
+pub claims-cover : (p : ℕ) (xs : List Block) → ClaimsPlace p xs → 0 < cover p xs
 unfolding sum
 claims-cover p [] h = absurd h
 claims-cover p (x ∷ xs) (inl h) = omega (arith, inRange-in (placeOf x) (placeOf x + sizeOf x) p (h .0) (h .1))

@@ -16,7 +16,7 @@ use Rattle.transfer.proofs.AfterList.{every-list}
 use Rattle.transfer.proofs.SendingPieces.{has-arrival}
 use Rattle.transfer.proofs.ArrivalWhole.{arrives}
 use Rattle.transfer.proofs.ArrivalOnlyWellFormed.{only-well-formed}
-use Rattle.transfer.proofs.Example.{well-formed, arrival, begins}
+use Rattle.transfer.proofs.Example.{well-formed, suspected-well-formed, none-suspected, one-suspected, arrival, begins}
 
 pub every-arrival : EveryArrival
 every-arrival = record { arrives = arrives; has-arrival = has-arrival; only-well-formed = only-well-formed }
@@ -27,7 +27,10 @@ example =
       well-formed = well-formed;
       arrival = arrival;
       begins = begins;
-      arrives = arrives (startedWorld (replicate 8 0) (replicate 4 7)) (replicate 8 0) 2 none begins exampleSending well-formed calls arrival;
+      arrives = arrives (startedWorld (replicate 8 0) (replicate 4 7) (replicate 4 7)) (replicate 8 0) 2 none begins exampleSending well-formed calls arrival;
+      none-suspected = none-suspected;
+      suspected-well-formed = suspected-well-formed;
+      one-suspected = one-suspected;
     }
 
 pub demand-3 : Demand3

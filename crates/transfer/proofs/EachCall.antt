@@ -16,7 +16,7 @@ use Rattle.transfer.specs.Header.{requestOf}
 use Rattle.transfer.specs.Receive.{Outcome, continues, stops, notTaken, Answer, refused, took, takeBytes, isGuess, isNonEmpty}
 use Rattle.transfer.specs.Calls.{Call, receive, callOf, foldCalls, after}
 use Rattle.transfer.specs.Block.{cut, partialHeader, hasEnded}
-use Rattle.transfer.specs.Tally.{Tally, Stream, intact, faulted, taken, accepted, countedStreams, knownCount, claimed, usedIn, tallyVerdict, empty, streamAt, withStream, tallyWithFault, keepBytes, applyJudgement, requestFault, tallyByteAfter, tallyByte, tallyRefusal, tallyCall as tallyCallOf}
+use Rattle.transfer.specs.Tally.{Tally, Stream, intact, faulted, taken, accepted, countedStreams, knownCount, claimed, doubted, usedIn, tallyVerdict, empty, streamAt, withStream, tallyWithFault, keepBytes, applyJudgement, requestFault, tallyByteAfter, tallyByte, tallyRefusal, tallyCall as tallyCallOf}
 use Rattle.transfer.specs.AfterList.{StartedWith, tallyOf}
 use Rattle.transfer.specs.EachCall.{Adds, EachCall}
 use Rattle.transfer.proofs.ReceivePieces.{bytes-goes, bytes-stops, bytes-leaves}
@@ -74,7 +74,7 @@ module _ (t : Tally) (c b : ℕ) (h : c < length (t .streams)) where
   unfolding tallyByte tallyByteAfter
   byte-leads F R before =
       go (not (isNonEmpty (taken (streamAt t c))) && (ltb 0 (knownCount (countedStreams t)) && eqb (usedIn (countedStreams t)) (knownCount (countedStreams t)))) (eqb (length (partialHeader (taken (streamAt t c)))) heldLimit)
-      (requestFault R (claimed before (countedStreams t)) (requestOf F (knownCount (countedStreams t)) (usedIn (countedStreams t)) (partialHeader (taken (streamAt t c)) ++ (b ∷ []))))
+      (requestFault R (claimed before (countedStreams t)) (doubted (countedStreams t)) (requestOf F (knownCount (countedStreams t)) (usedIn (countedStreams t)) (partialHeader (taken (streamAt t c)) ++ (b ∷ []))))
     where
       go : (x y : Bool) (k : ℕ) → Leads t c b (cond x (notTaken (tallyWithFault t 19 c)) (cond y (applyJudgement t c longer k) (keepBytes t c longer)))
       go true y k = (refl, omega arith)

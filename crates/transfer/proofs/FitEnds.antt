@@ -69,10 +69,10 @@ module _ (w : World) (c : ℕ) (h : c < length (w .t .channels)) where
   request-moves r (faulty k) = fault-moves w refl k
   request-moves r (counts n) = payload-moves (withTransfer w (putCount (w .t) n)) (unfold putCount in refl) 0 0 (endsChannel r)
   request-moves r nothing = payload-moves w refl 0 0 (endsChannel r)
-  request-moves r (claims s e) =
-      let k = claimFault (w .t .pairs) (pairsOf (w .lent .ledger)) s e in
-      either (ltb 0 k) (stopWithFault w c k) (expectPayload (claimRange w s e) c s (payloadLength r) (endsChannel r)) (fault-moves w refl k)
-      (payload-moves (claimRange w s e) (unfold claimRange in refl) s (payloadLength r) (endsChannel r))
+  request-moves r (claims s e doubt) =
+      let k = claimFault (w .t .pairs) (pairsOf (w .lent .claimed)) (pairsOf (w .lent .doubtful)) s e doubt in
+      either (ltb 0 k) (stopWithFault w c k) (expectPayload (claimRange w s e doubt) c s (payloadLength r) (endsChannel r)) (fault-moves w refl k)
+      (payload-moves (claimRange w s e doubt) (unfold claimRange in refl) s (payloadLength r) (endsChannel r))
 
   header-moves : (r : List ℕ) (b : ℕ) → Moves (takeHeaderByte w c r b)
   unfolding takeHeaderByte applyHeader
@@ -87,7 +87,7 @@ module _ (w : World) (c : ℕ) (h : c < length (w .t .channels)) where
       (unfold putFault endedOf in refl) (header-moves [] b)
   state-moves (header r) b = header-moves r b
   state-moves (payload p zero e) b = refl
-  state-moves (payload p (suc n) e) b = payload-moves (world (w .t) (set (w .lent .file) p b) (w .lent .ledger)) refl (suc p) n e
+  state-moves (payload p (suc n) e) b = payload-moves (world (w .t) (set (w .lent .file) p b) (w .lent .claimed) (w .lent .doubtful)) refl (suc p) n e
   state-moves ended b = refl
 
   byte-moves : (b : ℕ) → Moves (takeByte w c b)

@@ -17,7 +17,7 @@ use Rattle.eblock.specs.Header.{secondOf, thirdOf}
 use Rattle.transfer.specs.declared.state.Channel.{Channel}
 use Rattle.transfer.specs.Channel.{channelCount, heldLimit, State, unused, header, payload, ended, nextPlace, bytesLeft, decodeState, stateAt, channelAt, putState, putFault, putCount}
 use Rattle.transfer.specs.Transfer.{sum, usedOf, World, world, withTransfer}
-use Rattle.transfer.specs.Header.{endsChannel, payloadLength, HeaderRequest, counts, claims, nothing, faulty, requestOf, claimFault}
+use Rattle.transfer.specs.Header.{endsChannel, isDoubtful, payloadLength, HeaderRequest, counts, claims, nothing, faulty, requestOf, claimFault}
 use Rattle.transfer.specs.Judgement.{HeaderAsks, for-count, for-nothing, for-claim}
 use Rattle.transfer.specs.Receive.{continues, notTaken, afterByte, stopWithFault, expectPayload, claimRange, applyRequest, storePayloadByte, takeByte}
 use Rattle.transfer.proofs.ChannelBytes.{inRange-nothing}
@@ -28,7 +28,7 @@ use Rattle.transfer.proofs.FitChannelKinds.{waits, held-within}
 use Rattle.transfer.proofs.FitByChannel.{Together, ruled}
 use Rattle.transfer.proofs.FitUsed.{used-within}
 use Rattle.transfer.proofs.FitStates.{Steady}
-use Rattle.transfer.proofs.FitPuts.{Room, put-keeps, fault-keeps, count-keeps, store-keeps, claimed-holds, claim-keeps}
+use Rattle.transfer.proofs.FitPuts.{Room, put-keeps, fault-keeps, count-keeps, store-keeps, with-holds, claim-keeps}
 
 module _ (c : ℕ) (h : c < channelCount) where
   -- ---- on a channel in use
@@ -48,7 +48,7 @@ module _ (c : ℕ) (h : c < channelCount) where
   faults-keep w f u k a b = fault-keeps (withTransfer w (putState (w .t) c (header []))) (clear-keeps w f (header []) (omega arith) (unfold bytesLeft in refl) (in-use-room w f u)) c h k a b
 
   opens-keep : (w : World) → Together w → InUse w → (p n : ℕ) (e : Bool)
-      → ((q : ℕ) → sum (waits q) (w .t .channels) + inRange p (p + n) q ≤ contains q (pairsOf (w .lent .ledger)) + waits q (channelAt (w .t) c)) → Together (afterByte (expectPayload w c p n e))
+      → ((q : ℕ) → sum (waits q) (w .t .channels) + inRange p (p + n) q ≤ contains q (pairsOf (w .lent .claimed)) + waits q (channelAt (w .t) c)) → Together (afterByte (expectPayload w c p n e))
   unfolding expectPayload
   opens-keep w f u p zero true r = clear-keeps w f ended tt (unfold bytesLeft in refl) (in-use-room w f u)
   opens-keep w f u p zero false r = clear-keeps w f (header []) (omega arith) (unfold bytesLeft in refl) (in-use-room w f u)
@@ -59,13 +59,17 @@ module _ (c : ℕ) (h : c < channelCount) where
 
   -- ---- a header's 17th byte
 
-  claimed-keeps : (w : World) → Together w → InUse w → (s n : ℕ) (e : Bool) → 0 < n → s + n ≤ w .t .len → claimFault (w .t .pairs) (pairsOf (w .lent .ledger)) s (s + n) ≡ 0
-      → Together (afterByte (expectPayload (claimRange w s (s + n)) c s n e))
+  -- the fault of a range that is asked for
+  abbrev judgedAs : World → ℕ → ℕ → Bool → ℕ
+  judgedAs w s e doubt = claimFault (w .t .pairs) (pairsOf (w .lent .claimed)) (pairsOf (w .lent .doubtful)) s e doubt
+
+  claimed-keeps : (w : World) → Together w → InUse w → (s n : ℕ) (doubt e : Bool) → 0 < n → s + n ≤ w .t .len → judgedAs w s (s + n) doubt ≡ 0
+      → Together (afterByte (expectPayload (claimRange w s (s + n) doubt) c s n e))
   unfolding claimRange
-  claimed-keeps w f u s n e g l z =
-      let ok = claim-accepted (w .t .pairs) (pairsOf (w .lent .ledger)) s (s + n) (omega arith) (ruled w (f .rule)) z in
-      opens-keep (claimRange w s (s + n)) (claim-keeps w f s (s + n) (omega arith) (ok .1) l) u s n e
-      (λ p. omega (arith, f .rests p, claimed-holds w f s (s + n) (omega arith) (ok .1) p, shares-none s (s + n) p (pairsOf (w .lent .ledger)) (ok .0)))
+  claimed-keeps w f u s n doubt e g l z =
+      let ok = claim-accepted (w .t .pairs) (pairsOf (w .lent .claimed)) (pairsOf (w .lent .doubtful)) s (s + n) doubt (omega arith) (ruled (w .lent .claimed) (f .rule)) (ruled (w .lent .doubtful) (f .doubtful-rule)) z in
+      opens-keep (claimRange w s (s + n) doubt) (claim-keeps w f s (s + n) (omega arith) (ok .1) l doubt (ok .2)) u s n e
+      (λ p. omega (arith, f .rests p, with-holds (w .t .pairs) (w .lent .claimed) (f .rule) s (s + n) (omega arith) (ok .1) p, shares-none s (s + n) p (pairsOf (w .lent .claimed)) (ok .0)))
 
   heeds-keep : (w : World) → Together w → InUse w → (r : List ℕ) (a : HeaderRequest) → HeaderAsks (w .t .len) (w .t .count) (usedOf (w .t)) r a → Together (afterByte (applyRequest w c r a))
   unfolding applyRequest
@@ -73,21 +77,21 @@ module _ (c : ℕ) (h : c < channelCount) where
   heeds-keep w f u r (counts n) (for-count _ q k₀ n₀ n₁ n₂) =
       opens-empty-keeps (withTransfer w (putCount (w .t) (thirdOf r))) (count-keeps w f (thirdOf r) n₀ n₁ n₂) (unfold putCount in u) (endsChannel r)
   heeds-keep w f u r nothing (for-nothing _ q q₀) = opens-empty-keeps w f u (endsChannel r)
-  heeds-keep w f u r (claims s e) (for-claim _ q q₀ q₁) = go (claimFault (w .t .pairs) (pairsOf (w .lent .ledger)) (thirdOf r) (thirdOf r + secondOf r)) refl
+  heeds-keep w f u r (claims s e doubt) (for-claim _ q q₀ q₁) = go (judgedAs w (thirdOf r) (thirdOf r + secondOf r) (isDoubtful r)) refl
     where
       size-is : payloadLength r ≡ secondOf r
       size-is = unfold payloadLength in rw q
 
-      go : (k : ℕ) → claimFault (w .t .pairs) (pairsOf (w .lent .ledger)) (thirdOf r) (thirdOf r + secondOf r) ≡ k
-          → Together (afterByte (applyRequest w c r (claims (thirdOf r) (thirdOf r + secondOf r))))
+      go : (k : ℕ) → judgedAs w (thirdOf r) (thirdOf r + secondOf r) (isDoubtful r) ≡ k
+          → Together (afterByte (applyRequest w c r (claims (thirdOf r) (thirdOf r + secondOf r) (isDoubtful r))))
       go (suc k) z =
-          rw (claim-faulty w c r (thirdOf r) (thirdOf r + secondOf r) k z)
-          (judged (claim-numbered (w .t .pairs) (pairsOf (w .lent .ledger)) (thirdOf r) (thirdOf r + secondOf r) (omega arith) (ruled w (f .rule))))
+          rw (claim-faulty w c r (thirdOf r) (thirdOf r + secondOf r) (isDoubtful r) k z)
+          (judged (claim-numbered (w .t .pairs) (pairsOf (w .lent .claimed)) (pairsOf (w .lent .doubtful)) (thirdOf r) (thirdOf r + secondOf r) (isDoubtful r) (omega arith) (ruled (w .lent .claimed) (f .rule)) (ruled (w .lent .doubtful) (f .doubtful-rule))))
         where
-          judged : Numbered (claimFault (w .t .pairs) (pairsOf (w .lent .ledger)) (thirdOf r) (thirdOf r + secondOf r)) → Together (afterByte (stopWithFault w c (suc k)))
+          judged : Numbered (judgedAs w (thirdOf r) (thirdOf r + secondOf r) (isDoubtful r)) → Together (afterByte (stopWithFault w c (suc k)))
           judged (inl y) = absurd (omega arith)
           judged (inr y) = faults-keep w f u (suc k) (omega (arith, y .0)) (omega (arith, y .1))
-      go zero z = rw (claim-opens w c r (thirdOf r) (thirdOf r + secondOf r) z, size-is) (claimed-keeps w f u (thirdOf r) (secondOf r) (endsChannel r) q₀ q₁ z)
+      go zero z = rw (claim-opens w c r (thirdOf r) (thirdOf r + secondOf r) (isDoubtful r) z, size-is) (claimed-keeps w f u (thirdOf r) (secondOf r) (isDoubtful r) (endsChannel r) q₀ q₁ z)
 
   -- ---- a byte
 
@@ -118,7 +122,7 @@ module _ (c : ℕ) (h : c < channelCount) where
   stores-keep w zero b e f u l = f
   stores-keep w (suc n) b e f u l =
       let p = channelAt (w .t) c .next in
-      opens-keep (world (w .t) (set (w .lent .file) p b) (w .lent .ledger)) (store-keeps w f p b) u (suc p) n e
+      opens-keep (world (w .t) (set (w .lent .file) p b) (w .lent .claimed) (w .lent .doubtful)) (store-keeps w f p b) u (suc p) n e
       (λ q. omega (arith, f .rests q, inRange-part (suc p) (suc p + n) p (p + channelAt (w .t) c .left) q (omega arith) (omega arith)))
 
   pub byte-keeps : (w : World) (b : ℕ) → Together w → Together (afterByte (takeByte w c b))

@@ -1,35 +1,40 @@
 -- FIT: the world of a tally fits, wherever the invariant holds.
 use Prim.Native.Nat.{ℕ, suc, _*_, _≤_}
-use mathlib.Core.Path.{_≡_, sym, ap, _∙_}
+use mathlib.Core.Path.{_≡_, refl, sym, ap, _∙_}
 use mathlib.Core.Logic.{inl, inr}
 use mathlib.Core.Bool.{Bool, true}
 use mathlib.Core.List.{List, [], _∷_, map}
 use native.Mathlib.Omega.{arith}
 use lib.ListN.{length, getD, drop, length-map, List·getD-append}
 use lib.Seq.{getD-drop}
-use Rattle.ledger.specs.Pairs.{Pairs, ObeyFrom}
+use Rattle.ledger.specs.Pairs.{Pairs, none, contains, ObeyFrom}
 use Rattle.ledger.specs.Ledger.{obeys}
 use Rattle.ledger.proofs.LedgerLayout.{length-laidOut, rule-laidOut}
 use Rattle.transfer.specs.Channel.{heldLimit, State, heldBytes, encodeState}
 use Rattle.transfer.specs.Transfer.{sum}
 use Rattle.transfer.specs.Receive.{isNonEmpty}
 use Rattle.transfer.specs.Fit.{pairLimit, fits}
-use Rattle.transfer.specs.Block.{Block}
-use Rattle.transfer.specs.Tally.{Tally, Stream, taken, accepted, blocksOf, countsOf, knownCount, claimed, usedIn, streamAt}
+use Rattle.transfer.specs.Block.{Block, doubtfulIn}
+use Rattle.transfer.specs.Tally.{Tally, Stream, taken, accepted, blocksOf, countsOf, knownCount, claimed, doubted, usedIn, streamAt}
 use Rattle.transfer.specs.StateFrom.{stateFrom}
 use Rattle.transfer.specs.Fitting.{CountSays, FaultSays}
 use Rattle.transfer.proofs.ChannelReadBack.{length-heldBytes}
 use Rattle.transfer.proofs.BlockClaims.{sum-append, hitBy, cover, claims-ruled, claims-holds}
+use Rattle.transfer.proofs.BlockDoubts.{doubts-ruled, sum-doubtful-le}
 use Rattle.transfer.proofs.BlockPayloads.{length-withPayloads}
 use Rattle.transfer.proofs.ChannelBytes.{Kind, untouched, heading, filling, finished, kind, kind-rest}
 use Rattle.transfer.proofs.TallyStreams.{AllProper, proper-at}
 use Rattle.transfer.proofs.TallyTransfer.{rowOf, headsOf, transferOf, worldOf, length-headsOf, heads-drop, row-at, used-is}
 use Rattle.transfer.proofs.TallyInvariant.{Count, unknown, announced, Fault, no-fault, fault-of, Invariant}
-use Rattle.transfer.proofs.TallyHeader.{pairs-are}
+use Rattle.transfer.proofs.TallyHeader.{pairs-are, doubts-are}
 use Rattle.transfer.proofs.FitChannelKinds.{waits}
 use Rattle.transfer.proofs.FitByChannel.{Together}
 use Rattle.transfer.proofs.FitStates.{Steady, steady-stands, steady-stage, steady-zero}
 use Rattle.transfer.proofs.FitTests.{together-fits}
+
+holds-none : (p : ℕ) → contains p none ≡ 0
+unfolding contains
+holds-none p = refl
 
 kind-steady : (x : State) (xs : List Block) (u : Bool) → Kind x xs u → Steady x
 kind-steady x xs u (untouched e f g) = rw e tt
@@ -57,6 +62,10 @@ module _ (F R : ℕ) (before : Pairs) (file : List ℕ) (t : Tally) (c₀ : Obey
         pairs = r;
         rule = rule-laidOut R 0 (claimed before (t .streams)) all-ruled;
         ends = rw (pairs-are F R before file c₀ t i) (i .ends);
+        doubtful-entries = length-laidOut R (doubted (t .streams));
+        doubtful-rule = rule-laidOut R 0 (doubted (t .streams)) (doubts-ruled (blocksOf (t .streams)));
+        doubts = λ p. rw (pairs-are F R before file c₀ t i, doubts-are F R before file c₀ t i)
+            (omega (arith, claims-holds p (blocksOf (t .streams)) before c₀, claims-holds p (doubtfulIn (blocksOf (t .streams))) none tt, sum-doubtful-le (hitBy p) (blocksOf (t .streams)), holds-none p));
         channels = length-map (t .streams) rowOf ∙ i .number;
         heads = omega (arith, length-headsOf (t .streams) (i .proper), i .number);
         stages = λ c h. rw (row-at (t .streams) c) (unfold rowOf in steady-stage (stateFrom (streamAt t c)) (steady c));

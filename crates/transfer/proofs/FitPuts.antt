@@ -9,14 +9,14 @@ use native.Mathlib.Decide.{ℕ-discrete, decLt}
 use lib.Dec.{eqb}
 use lib.ListN.{length, getD, set, take, drop, length-append, length-drop, length-set, List·getD-append}
 use lib.Seq.{length-take-le, getD-append-add, getD-set-same, getD-set-other, getD-take, getD-drop}
-use Rattle.ledger.specs.Pairs.{Pairs, size, inRange, contains, ObeyFrom, join, endsAtMost}
-use Rattle.ledger.specs.Ledger.{obeys, pairsOf, laidOut}
+use Rattle.ledger.specs.Pairs.{size, inRange, contains, ObeyFrom, join, endsAtMost}
+use Rattle.ledger.specs.Ledger.{obeys, pairsOf}
 use Rattle.ledger.proofs.PairsJoin.{join-holds, join-ruled, join-ends}
 use Rattle.ledger.proofs.LedgerLayout.{length-laidOut, pairsOf-laidOut, rule-laidOut}
 use Rattle.eblock.specs.Header.{countLimit}
 use Rattle.transfer.specs.Channel.{channelCount, heldLimit, blank, State, nextPlace, bytesLeft, heldBytes, encodeState, channelAt, putState, putFault, putCount}
 use Rattle.transfer.specs.Transfer.{sum, oneIfEnded, oneIfActive, endedOf, usedOf, World, world, withTransfer}
-use Rattle.transfer.specs.Receive.{claimRange}
+use Rattle.transfer.specs.Receive.{withRange, claimRange}
 use Rattle.transfer.specs.Fitting.{CountSays}
 use Rattle.transfer.proofs.ChannelReadBack.{length-heldBytes}
 use Rattle.transfer.proofs.Sums.{sum-set}
@@ -62,7 +62,7 @@ Room w c = 0 < w .t .count → usedOf (w .t) < w .t .count + oneIfUsed (channelA
 
 module _ (w : World) (f : Together w) (c : ℕ) (h : c < channelCount) where
   pub put-keeps : (x : State) → Steady x → Room w c
-      → ((p : ℕ) → sum (waits p) (w .t .channels) + inRange (nextPlace x) (nextPlace x + bytesLeft x) p ≤ contains p (pairsOf (w .lent .ledger)) + waits p (channelAt (w .t) c))
+      → ((p : ℕ) → sum (waits p) (w .t .channels) + inRange (nextPlace x) (nextPlace x + bytesLeft x) p ≤ contains p (pairsOf (w .lent .claimed)) + waits p (channelAt (w .t) c))
       → Together (withTransfer w (putState (w .t) c x))
   unfolding putState
   put-keeps x s room r =
@@ -72,6 +72,9 @@ module _ (w : World) (f : Together w) (c : ℕ) (h : c < channelCount) where
         pairs = f .pairs;
         rule = f .rule;
         ends = f .ends;
+        doubtful-entries = f .doubtful-entries;
+        doubtful-rule = f .doubtful-rule;
+        doubts = f .doubts;
         channels = length-set (w .t .channels) c (encodeState x) ∙ f .channels;
         heads = written-length (w .t .heads) (heldBytes x) (heldLimit * c) heldLimit bytes fit ∙ f .heads;
         stages = λ d g. staged d g (ℕ-discrete d c);
@@ -143,6 +146,9 @@ module _ (w : World) (f : Together w) (c : ℕ) (h : c < channelCount) where
         pairs = f .pairs;
         rule = f .rule;
         ends = f .ends;
+        doubtful-entries = f .doubtful-entries;
+        doubtful-rule = f .doubtful-rule;
+        doubts = f .doubts;
         channels = f .channels;
         heads = f .heads;
         stages = f .stages;
@@ -162,6 +168,9 @@ module _ (w : World) (f : Together w) where
         pairs = f .pairs;
         rule = f .rule;
         ends = f .ends;
+        doubtful-entries = f .doubtful-entries;
+        doubtful-rule = f .doubtful-rule;
+        doubts = f .doubts;
         channels = f .channels;
         heads = f .heads;
         stages = f .stages;
@@ -171,17 +180,21 @@ module _ (w : World) (f : Together w) where
         fault = f .fault;
       }
 
-  -- ---- file or ledger changed
+  -- ---- file or ledgers changed
 
-  lent-keeps : (file claimed : List ℕ) → length file ≡ length (w .lent .file) → length claimed ≡ 2 * w .t .pairs → obeys claimed ≡ true → endsAtMost (w .t .len) (pairsOf claimed) ≡ true
-      → ((p : ℕ) → contains p (pairsOf (w .lent .ledger)) ≤ contains p (pairsOf claimed)) → Together (world (w .t) file claimed)
-  lent-keeps file claimed l n o e m =
+  lent-keeps : (file claimed doubtful : List ℕ) → length file ≡ length (w .lent .file) → length claimed ≡ 2 * w .t .pairs → obeys claimed ≡ true → endsAtMost (w .t .len) (pairsOf claimed) ≡ true
+      → ((p : ℕ) → contains p (pairsOf (w .lent .claimed)) ≤ contains p (pairsOf claimed))
+      → length doubtful ≡ 2 * w .t .pairs → obeys doubtful ≡ true → ((p : ℕ) → contains p (pairsOf doubtful) ≤ contains p (pairsOf claimed)) → Together (world (w .t) file claimed doubtful)
+  lent-keeps file claimed doubtful l n o e m n′ o′ d =
       record {
         file = l ∙ f .file;
         entries = n;
         pairs = f .pairs;
         rule = o;
         ends = e;
+        doubtful-entries = n′;
+        doubtful-rule = o′;
+        doubts = d;
         channels = f .channels;
         heads = f .heads;
         stages = f .stages;
@@ -191,24 +204,50 @@ module _ (w : World) (f : Together w) where
         fault = f .fault;
       }
 
-  pub store-keeps : (p b : ℕ) → Together (world (w .t) (set (w .lent .file) p b) (w .lent .ledger))
-  store-keeps p b = lent-keeps (set (w .lent .file) p b) (w .lent .ledger) (length-set (w .lent .file) p b) (f .entries) (f .rule) (f .ends) (λ p. omega arith)
+  pub store-keeps : (p b : ℕ) → Together (world (w .t) (set (w .lent .file) p b) (w .lent .claimed) (w .lent .doubtful))
+  store-keeps p b =
+      lent-keeps (set (w .lent .file) p b) (w .lent .claimed) (w .lent .doubtful) (length-set (w .lent .file) p b) (f .entries) (f .rule) (f .ends) (λ p. omega arith) (f .doubtful-entries) (f .doubtful-rule) (f .doubts)
 
-  module _ (s e : ℕ) (g : s < e) (k : size (join s e (pairsOf (w .lent .ledger))) ≤ w .t .pairs) where
-    abbrev joined : Pairs
-    joined = join s e (pairsOf (w .lent .ledger))
+-- a range put into a ledger of R pairs that obeys the rule and has room for it
+module _ (R : ℕ) (l : List ℕ) (o : obeys l ≡ true) (s e : ℕ) (g : s < e) (k : size (join s e (pairsOf l)) ≤ R) where
+  joined-ruled : ObeyFrom 0 (join s e (pairsOf l))
+  joined-ruled = join-ruled s e 0 (pairsOf l) g (omega arith) (ruled l o)
 
-    joined-ruled : ObeyFrom 0 joined
-    joined-ruled = join-ruled s e 0 (pairsOf (w .lent .ledger)) g (omega arith) (ruled w (f .rule))
+  with-pairs : pairsOf (withRange R s e l) ≡ join s e (pairsOf l)
+  unfolding withRange
+  with-pairs = pairsOf-laidOut R 0 (join s e (pairsOf l)) joined-ruled k
 
-    claimed-pairs : pairsOf (laidOut (w .t .pairs) joined) ≡ joined
-    claimed-pairs = pairsOf-laidOut (w .t .pairs) 0 joined joined-ruled k
+  pub with-holds : (p : ℕ) → contains p (pairsOf (withRange R s e l)) ≡ max (inRange s e p) (contains p (pairsOf l))
+  with-holds p = ap (contains p) with-pairs ∙ join-holds s e 0 p (pairsOf l) g (ruled l o)
 
-    pub claimed-holds : (p : ℕ) → contains p (pairsOf (laidOut (w .t .pairs) joined)) ≡ max (inRange s e p) (contains p (pairsOf (w .lent .ledger)))
-    claimed-holds p = ap (contains p) claimed-pairs ∙ join-holds s e 0 p (pairsOf (w .lent .ledger)) g (ruled w (f .rule))
+  with-entries : length (withRange R s e l) ≡ 2 * R
+  unfolding withRange
+  with-entries = length-laidOut R (join s e (pairsOf l))
 
-    pub claim-keeps : e ≤ w .t .len → Together (claimRange w s e)
-    unfolding claimRange obeys
-    claim-keeps q =
-        lent-keeps (w .lent .file) (laidOut (w .t .pairs) joined) refl (length-laidOut (w .t .pairs) joined) (rule-laidOut (w .t .pairs) 0 joined joined-ruled)
-        (rw claimed-pairs (join-ends s e (w .t .len) (pairsOf (w .lent .ledger)) q (f .ends))) (λ p. omega (arith, claimed-holds p))
+  with-rule : obeys (withRange R s e l) ≡ true
+  unfolding withRange obeys
+  with-rule = rule-laidOut R 0 (join s e (pairsOf l)) joined-ruled
+
+module _ (w : World) (f : Together w) (s e : ℕ) (g : s < e) (k : size (join s e (pairsOf (w .lent .claimed))) ≤ w .t .pairs) (q : e ≤ w .t .len) where
+  holds : (p : ℕ) → contains p (pairsOf (withRange (w .t .pairs) s e (w .lent .claimed))) ≡ max (inRange s e p) (contains p (pairsOf (w .lent .claimed)))
+  holds p = with-holds (w .t .pairs) (w .lent .claimed) (f .rule) s e g k p
+
+  ends-kept : endsAtMost (w .t .len) (pairsOf (withRange (w .t .pairs) s e (w .lent .claimed))) ≡ true
+  ends-kept = rw (with-pairs (w .t .pairs) (w .lent .claimed) (f .rule) s e g k) (join-ends s e (w .t .len) (pairsOf (w .lent .claimed)) q (f .ends))
+
+  -- the claimed ledger with the range, and another doubtful one
+  claimed-keeps : (doubtful : List ℕ) → length doubtful ≡ 2 * w .t .pairs → obeys doubtful ≡ true
+      → ((p : ℕ) → contains p (pairsOf doubtful) ≤ contains p (pairsOf (withRange (w .t .pairs) s e (w .lent .claimed))))
+      → Together (world (w .t) (w .lent .file) (withRange (w .t .pairs) s e (w .lent .claimed)) doubtful)
+  claimed-keeps doubtful n o d =
+      lent-keeps w f (w .lent .file) (withRange (w .t .pairs) s e (w .lent .claimed)) doubtful refl (with-entries (w .t .pairs) (w .lent .claimed) (f .rule) s e g k) (with-rule (w .t .pairs) (w .lent .claimed) (f .rule) s e g k)
+      ends-kept (λ p. omega (arith, holds p)) n o d
+
+  pub claim-keeps : (doubt : Bool) → (doubt ≡ true → size (join s e (pairsOf (w .lent .doubtful))) ≤ w .t .pairs) → Together (claimRange w s e doubt)
+  unfolding claimRange
+  claim-keeps false d = claimed-keeps (w .lent .doubtful) (f .doubtful-entries) (f .doubtful-rule) (λ p. omega (arith, f .doubts p, holds p))
+  claim-keeps true d =
+      let R = w .t .pairs in
+      let l = w .lent .doubtful in
+      claimed-keeps (withRange R s e l) (with-entries R l (f .doubtful-rule) s e g (d refl)) (with-rule R l (f .doubtful-rule) s e g (d refl))
+      (λ p. omega (arith, with-holds R l (f .doubtful-rule) s e g (d refl) p, f .doubts p, holds p))

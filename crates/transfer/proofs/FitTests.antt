@@ -11,12 +11,13 @@ use lib.ListN.{length}
 use Rattle.ledger.specs.Pairs.{endsAtMost}
 use Rattle.ledger.specs.Ledger.{obeys, pairsOf}
 use Rattle.ledger.proofs.PairsPlaces.{holds-le}
+use Rattle.ledger.proofs.PairsNested.{nested-held}
 use Rattle.transfer.specs.declared.state.Transfer.{Transfer}
 use Rattle.transfer.specs.Channel.{channelCount, heldLimit, channelAt}
 use Rattle.transfer.specs.Transfer.{World}
-use Rattle.transfer.specs.Fit.{pairLimit, channelsFit, restsApart, countFits, faultFits, fitsWithoutFile, fits}
+use Rattle.transfer.specs.Fit.{pairLimit, channelsFit, restsApart, countFits, faultFits, claimedFits, doubtfulFits, fitsWithoutFile, fits}
 use Rattle.transfer.specs.Fitting.{CountSays, FaultSays}
-use Rattle.transfer.proofs.FitByChannel.{Together, rests-of, rest-inside}
+use Rattle.transfer.proofs.FitByChannel.{Together, doubts-nested, rests-of, rest-inside}
 use Rattle.transfer.proofs.FitChannels.{both, ChannelSays, bytesAt, channel-says, channel-fits, zeros-byte, byte-zeros, channels-at, at-channels}
 use Rattle.transfer.proofs.FitRests.{apart-says, rests-say, rests-apart}
 
@@ -53,12 +54,16 @@ fault-fits t (inr q) = rw (ne-eqb (t .fault) 0 (λ e. omega arith), le-leb _ _ (
 
 -- ---- all but the file's length
 
-pub ledger-together : (w : World) → fitsWithoutFile (w .t) (w .lent .ledger) ≡ true → length (w .lent .file) ≡ w .t .len → Together w
-unfolding fitsWithoutFile
+pub ledger-together : (w : World) → fitsWithoutFile (w .t) (w .lent .claimed) (w .lent .doubtful) ≡ true → length (w .lent .file) ≡ w .t .len → Together w
+unfolding fitsWithoutFile claimedFits doubtfulFits
 ledger-together w h f =
     let t = w .t in
-    let l = w .lent .ledger in
-    let a₁ = both (leb (t .pairs) pairLimit) _ h in
+    let l = w .lent .claimed in
+    let d = w .lent .doubtful in
+    let a₀ = both (claimedFits t l) (doubtfulFits (t .pairs) l d) h in
+    let b₁ = both (eqb (length d) (2 * t .pairs)) _ (a₀ .1) in
+    let b₂ = both (obeys d) _ (b₁ .1) in
+    let a₁ = both (leb (t .pairs) pairLimit) _ (a₀ .0) in
     let a₂ = both (eqb (length l) (2 * t .pairs)) _ (a₁ .1) in
     let a₃ = both (obeys l) _ (a₂ .1) in
     let a₄ = both (endsAtMost (t .len) (pairsOf l)) _ (a₃ .1) in
@@ -76,6 +81,9 @@ ledger-together w h f =
       pairs = leb-true (t .pairs) pairLimit (a₁ .0);
       rule = a₃ .0;
       ends = a₄ .0;
+      doubtful-entries = eqb-true (length d) (2 * t .pairs) (b₁ .0);
+      doubtful-rule = b₂ .0;
+      doubts = nested-held (pairsOf d) (pairsOf l) (b₂ .1);
       channels = n;
       heads = eqb-true (length (t .heads)) (heldLimit * channelCount) (a₆ .0);
       stages = λ c g. s c (omega arith) .0;
@@ -86,11 +94,12 @@ ledger-together w h f =
       fault = fault-says t (a₉ .1);
     }
 
-pub together-ledger : (w : World) → Together w → fitsWithoutFile (w .t) (w .lent .ledger) ≡ true
-unfolding fitsWithoutFile
+pub together-ledger : (w : World) → Together w → fitsWithoutFile (w .t) (w .lent .claimed) (w .lent .doubtful) ≡ true
+unfolding fitsWithoutFile claimedFits doubtfulFits
 together-ledger w f =
     let t = w .t in
-    let l = w .lent .ledger in
+    let l = w .lent .claimed in
+    let d = w .lent .doubtful in
     rw (
       le-leb (t .pairs) pairLimit (f .pairs),
       eq-eqb (length l) (2 * t .pairs) (f .entries),
@@ -104,6 +113,9 @@ together-ledger w f =
       rests-apart (t .channels) (λ p. omega (arith, f .rests p, holds-le p (pairsOf l))),
       count-fits t (f .count),
       fault-fits t (f .fault),
+      eq-eqb (length d) (2 * t .pairs) (f .doubtful-entries),
+      f .doubtful-rule,
+      doubts-nested w (f .rule) (f .doubtful-rule) (f .doubts),
     )
 
 -- ---- the whole
@@ -111,7 +123,7 @@ together-ledger w f =
 pub fits-together : (w : World) → fits w ≡ true → Together w
 unfolding fits
 fits-together w h =
-    let a = both (eqb (length (w .lent .file)) (w .t .len)) (fitsWithoutFile (w .t) (w .lent .ledger)) h in
+    let a = both (eqb (length (w .lent .file)) (w .t .len)) (fitsWithoutFile (w .t) (w .lent .claimed) (w .lent .doubtful)) h in
     ledger-together w (a .1) (eqb-true (length (w .lent .file)) (w .t .len) (a .0))
 
 pub together-fits : (w : World) → Together w → fits w ≡ true

@@ -8,9 +8,10 @@ use native.Mathlib.Omega.{arith}
 use borrow.Author.Tests.{leb-true, leb-false}
 use lib.Dec.{leb, ltb}
 use lib.ListN.{length, replicate, length-replicate}
+use Rattle.ledger.proofs.Ledgers.{ledgers}
 use Rattle.transfer.specs.declared.state.Transfer.{Transfer}
 use Rattle.transfer.specs.Channel.{channelCount}
-use Rattle.transfer.specs.Transfer.{usedOf, endedOf, sum, World, world}
+use Rattle.transfer.specs.Transfer.{usedOf, endedOf, sum, World, world, isDoubted, doubtOf}
 use Rattle.transfer.specs.Receive.{Outcome, continues, stops, notTaken, afterByte, refused, takeBytes, takeByte, refusalOf, receiveOf}
 use Rattle.transfer.specs.Calls.{Call, receive, callOf}
 use Rattle.transfer.specs.Fit.{fitsWithoutFile}
@@ -22,6 +23,10 @@ use Rattle.transfer.proofs.FitTests.{ledger-together, together-ledger, 
 use Rattle.transfer.proofs.FitUsed.{oneIfUsed, used-sum}
 use Rattle.transfer.proofs.FitKept.{byte-keeps}
 use Rattle.transfer.proofs.FitEnds.{byte-ends}
+
+doubted-is : (w : World) → Fit w → (isDoubted w ≡ true) ↔ (0 < doubtOf w)
+unfolding isDoubted doubtOf
+doubted-is w f = ledgers .pair-bytes (w .lent .doubtful) (fit-together w f .doubtful-rule)
 
 used-are : (w : World) → Fit w → usedOf (w .t) ≡ sum oneIfUsed (w .t .channels)
 unfolding usedOf endedOf
@@ -57,11 +62,12 @@ lt-ne : (a b : ℕ) → a < b → a ≢ b
 lt-ne a b h e = omega (arith, h, e)
 
 -- a file of as many zeros will do
-fits-without-file : (t : Transfer) (claimed : List ℕ) → (fitsWithoutFile t claimed ≡ true) ↔ ((file : List ℕ) → length file ≡ t .len → Fit (world t file claimed))
-fits-without-file t claimed =
+fits-without-file : (t : Transfer) (claimed doubtful : List ℕ)
+    → (fitsWithoutFile t claimed doubtful ≡ true) ↔ ((file : List ℕ) → length file ≡ t .len → Fit (world t file claimed doubtful))
+fits-without-file t claimed doubtful =
     let some : List ℕ = replicate (t .len) 0 in
-    let w = world t some claimed in (
-      (λ e file l. together-fit (world t file claimed) (ledger-together (world t file claimed) e l)),
+    let w = world t some claimed doubtful in (
+      (λ e file l. together-fit (world t file claimed doubtful) (ledger-together (world t file claimed doubtful) e l)),
       (λ f. together-ledger w (fit-together w (f some (length-replicate (t .len) 0)))),
     )
 
@@ -70,6 +76,7 @@ fitting =
     record {
       without-file = fits-without-file;
       says = λ w. (λ e. together-fit w (fits-together w e), λ f. together-fits w (fit-together w f));
+      doubted-is = doubted-is;
       used-are = used-are;
       byte-keeps = λ w c b f h. together-fit (afterByte (takeByte w c b)) (byte-keeps c h w b (fit-together w f));
       call-keeps = λ w k f. together-fit (callOf w k .1) (call-keeps w k (fit-together w f));

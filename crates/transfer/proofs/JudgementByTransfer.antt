@@ -11,7 +11,7 @@ use lib.Dec.{ltb, eqb}
 use Rattle.eblock.specs.Descriptor.{faultOf}
 use Rattle.eblock.proofs.Table.{fault-numbers}
 use Rattle.eblock.specs.Header.{countLimit, descriptorOf, secondOf, thirdOf}
-use Rattle.transfer.specs.Header.{isEodc, HeaderRequest, counts, claims, nothing, faulty, requestOf}
+use Rattle.transfer.specs.Header.{isEodc, isDoubtful, HeaderRequest, counts, claims, nothing, faulty, requestOf}
 use Rattle.transfer.specs.Judgement.{HeaderAsks, by-descriptor, by-14, by-15, for-count, for-nothing, by-16, for-claim}
 
 -- none, or from 11 to 18
@@ -51,11 +51,11 @@ module _ (F known used : ℕ) (h : List ℕ) where
           for-count d q (omega (arith, ltb-false 0 known x)) (omega arith) (ltb-false countLimit (thirdOf h) (b .0)) (ltb-false (thirdOf h) used (b .1))
 
   range-asked : faultOf (descriptorOf h) ≡ 0 → isEodc h ≡ false
-      → Says (cond (eqb (secondOf h) 0) nothing (cond (ltb F (thirdOf h + secondOf h)) (faulty 16) (claims (thirdOf h) (thirdOf h + secondOf h))))
+      → Says (cond (eqb (secondOf h) 0) nothing (cond (ltb F (thirdOf h + secondOf h)) (faulty 16) (claims (thirdOf h) (thirdOf h + secondOf h) (isDoubtful h))))
   range-asked d q = go (eqb (secondOf h) 0) (ltb F (thirdOf h + secondOf h)) refl refl
     where
       go : (u v : Bool) → eqb (secondOf h) 0 ≡ u → ltb F (thirdOf h + secondOf h) ≡ v
-          → Says (cond u nothing (cond v (faulty 16) (claims (thirdOf h) (thirdOf h + secondOf h))))
+          → Says (cond u nothing (cond v (faulty 16) (claims (thirdOf h) (thirdOf h + secondOf h) (isDoubtful h))))
       go true v x y = for-nothing d q (eqb-true (secondOf h) 0 x)
       go false true x y = let n : secondOf h ≢ 0 = eqb-false (secondOf h) 0 x in by-16 d q (omega arith) (ltb-true F (thirdOf h + secondOf h) y)
       go false false x y = let n : secondOf h ≢ 0 = eqb-false (secondOf h) 0 x in for-claim d q (omega arith) (ltb-false F (thirdOf h + secondOf h) y)
@@ -68,14 +68,14 @@ module _ (F known used : ℕ) (h : List ℕ) where
           → Says (cond u (faulty (faultOf (descriptorOf h)))
           (cond v
           (cond (ltb 0 known) (faulty 14) (cond (eqb (thirdOf h) 0 || (ltb countLimit (thirdOf h) || ltb (thirdOf h) used)) (faulty 15) (counts (thirdOf h))))
-          (cond (eqb (secondOf h) 0) nothing (cond (ltb F (thirdOf h + secondOf h)) (faulty 16) (claims (thirdOf h) (thirdOf h + secondOf h))))))
+          (cond (eqb (secondOf h) 0) nothing (cond (ltb F (thirdOf h + secondOf h)) (faulty 16) (claims (thirdOf h) (thirdOf h + secondOf h) (isDoubtful h))))))
       go true v x y = by-descriptor (ltb-true 0 (faultOf (descriptorOf h)) x)
       go false true x y = count-asked (omega (arith, ltb-false 0 (faultOf (descriptorOf h)) x)) y
       go false false x y = range-asked (omega (arith, ltb-false 0 (faultOf (descriptorOf h)) x)) y
 
   abbrev InRange : HeaderRequest → Type 0
   InRange (counts n) = Unit {0}
-  InRange (claims s e) = Unit {0}
+  InRange (claims s e doubt) = Unit {0}
   InRange nothing = Unit {0}
   InRange (faulty k) = (11 ≤ k) × (k ≤ 18)
 

@@ -2,6 +2,7 @@ pub mod ChannelReadBack
 pub mod ReceivePieces
 pub mod Rows
 pub mod BlockClaims
+pub mod BlockDoubts
 pub mod BlockCounts
 pub mod BlockPayloads
 pub mod Sums
@@ -33,6 +34,7 @@ pub mod TallyBegins
 pub mod BlockBytesInFile
 pub mod CompleteBlocks
 pub mod BlockLedger
+pub mod BlockPlaces
 pub mod TallyFromStart
 pub mod AfterList
 pub mod EachCall

@@ -37,12 +37,12 @@ module _ (w : World) (c b : ℕ) where
   unfolding takeByte takeByteIn
   byte-ended s = rw s
 
-module _ (w : World) (c : ℕ) (h : List ℕ) (s e : ℕ) where
-  pub claim-faulty : (k : ℕ) → claimFault (w .t .pairs) (pairsOf (w .lent .ledger)) s e ≡ suc k → applyRequest w c h (claims s e) ≡ stopWithFault w c (suc k)
+module _ (w : World) (c : ℕ) (h : List ℕ) (s e : ℕ) (doubt : Bool) where
+  pub claim-faulty : (k : ℕ) → claimFault (w .t .pairs) (pairsOf (w .lent .claimed)) (pairsOf (w .lent .doubtful)) s e doubt ≡ suc k → applyRequest w c h (claims s e doubt) ≡ stopWithFault w c (suc k)
   unfolding applyRequest
   claim-faulty k q = rw (q, lt-ltb 0 (suc k) (omega arith))
 
-  pub claim-opens : claimFault (w .t .pairs) (pairsOf (w .lent .ledger)) s e ≡ 0
-      → applyRequest w c h (claims s e) ≡ expectPayload (claimRange w s e) c s (payloadLength h) (endsChannel h)
+  pub claim-opens : claimFault (w .t .pairs) (pairsOf (w .lent .claimed)) (pairsOf (w .lent .doubtful)) s e doubt ≡ 0
+      → applyRequest w c h (claims s e doubt) ≡ expectPayload (claimRange w s e doubt) c s (payloadLength h) (endsChannel h)
   unfolding applyRequest
   claim-opens q = rw q

@@ -32,31 +32,31 @@ module _ {W : Type 0} (f : W → ℕ → Outcome W) where
 -- ---- a payload's bytes
 
 -- the world with the channel c in a state
-abbrev pub at : Transfer → List ℕ → List ℕ → ℕ → State → World
-at t file claimed c x = world (putState t c x) file claimed
+abbrev pub at : Transfer → List ℕ → List ℕ → List ℕ → ℕ → State → World
+at t file claimed doubtful c x = world (putState t c x) file claimed doubtful
 
-pub payload-byte : (t : Transfer) (file claimed : List ℕ) (c p n b : ℕ) (e : Bool) → Has t c
-    → takeByte (at t file claimed c (payload p (suc (suc n)) e)) c b ≡ continues (at t (set file p b) claimed c (payload (suc p) (suc n) e))
+pub payload-byte : (t : Transfer) (file claimed doubtful : List ℕ) (c p n b : ℕ) (e : Bool) → Has t c
+    → takeByte (at t file claimed doubtful c (payload p (suc (suc n)) e)) c b ≡ continues (at t (set file p b) claimed doubtful c (payload (suc p) (suc n) e))
 unfolding takeByte takeByteIn storePayloadByte expectPayload
-payload-byte t file claimed c p n b e h =
+payload-byte t file claimed doubtful c p n b e h =
     rw (get-put t c h (payload p (suc (suc n)) e))
-    (ap (λ x. continues (world x (set file p b) claimed)) (put-put t c h (payload p (suc (suc n)) e) (payload (suc p) (suc n) e) tt))
+    (ap (λ x. continues (world x (set file p b) claimed doubtful)) (put-put t c h (payload p (suc (suc n)) e) (payload (suc p) (suc n) e) tt))
 
-pub payload-run : (ps qs : List ℕ) (t : Transfer) (file claimed : List ℕ) (c p n k : ℕ) (e : Bool) → Has t c → length ps < n
-    → takeBytes (λ v b. takeByte v c b) (at t file claimed c (payload p n e)) (ps ++ qs) k
-    ≡ takeBytes (λ v b. takeByte v c b) (at t (sets file p ps) claimed c (payload (p + length ps) (n - length ps) e)) qs (k + length ps)
-payload-run [] qs t file claimed c p n k e h g =
+pub payload-run : (ps qs : List ℕ) (t : Transfer) (file claimed doubtful : List ℕ) (c p n k : ℕ) (e : Bool) → Has t c → length ps < n
+    → takeBytes (λ v b. takeByte v c b) (at t file claimed doubtful c (payload p n e)) (ps ++ qs) k
+    ≡ takeBytes (λ v b. takeByte v c b) (at t (sets file p ps) claimed doubtful c (payload (p + length ps) (n - length ps) e)) qs (k + length ps)
+payload-run [] qs t file claimed doubtful c p n k e h g =
     let a : p + 0 ≡ p = omega arith in
     let b : n - 0 ≡ n = omega arith in
     let d : k + 0 ≡ k = omega arith in
     rw (a, b, d)
-payload-run (x ∷ ps) qs t file claimed c p zero k e h g = absurd (omega arith)
-payload-run (x ∷ ps) qs t file claimed c p (suc zero) k e h g = absurd (omega arith)
-payload-run (x ∷ ps) qs t file claimed c p (suc (suc n)) k e h g =
+payload-run (x ∷ ps) qs t file claimed doubtful c p zero k e h g = absurd (omega arith)
+payload-run (x ∷ ps) qs t file claimed doubtful c p (suc zero) k e h g = absurd (omega arith)
+payload-run (x ∷ ps) qs t file claimed doubtful c p (suc (suc n)) k e h g =
     let a : p + suc (length ps) ≡ suc p + length ps = omega arith in
     let b : suc (suc n) - suc (length ps) ≡ suc n - length ps = omega arith in
     let d : k + suc (length ps) ≡ suc k + length ps = omega arith in
     rw (a, b, d)
-    (bytes-goes (λ v y. takeByte v c y) (at t file claimed c (payload p (suc (suc n)) e)) (at t (set file p x) claimed c (payload (suc p) (suc n) e)) x (ps ++ qs) k
-    (payload-byte t file claimed c p n x e h)
-    ∙ payload-run ps qs t (set file p x) claimed c (suc p) (suc n) (suc k) e h (omega arith))
+    (bytes-goes (λ v y. takeByte v c y) (at t file claimed doubtful c (payload p (suc (suc n)) e)) (at t (set file p x) claimed doubtful c (payload (suc p) (suc n) e)) x (ps ++ qs) k
+    (payload-byte t file claimed doubtful c p n x e h)
+    ∙ payload-run ps qs t (set file p x) claimed doubtful c (suc p) (suc n) (suc k) e h (omega arith))

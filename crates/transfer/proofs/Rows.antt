@@ -7,7 +7,7 @@ use native.Mathlib.Omega.{arith}
 use borrow.Author.Tests.{lt-ltb, eq-eqb, le-leb, lt-leb, leb-true, leb-false}
 use lib.Dec.{leb}
 use Rattle.transfer.specs.Channel.{channelCount, State, unused, header, payload, ended, stateAt, putFault}
-use Rattle.transfer.specs.Transfer.{usedOf, World, withTransfer, Verdict, guess, result, broken, verdictOf}
+use Rattle.transfer.specs.Transfer.{usedOf, World, withTransfer, Verdict, guess, result, suspect, broken, verdictOf}
 use Rattle.transfer.specs.Receive.{notTaken, Answer, refused, took, takeBytes, takeByte, isGuess, isEnded, isNonEmpty, refusalOf, receiveOf}
 use Rattle.transfer.specs.Fit.{fits}
 use Rattle.transfer.specs.Calls.{Call, receive, callOf, foldCalls, answersOf, after}
@@ -18,6 +18,7 @@ use Rattle.transfer.specs.Rows.{Rows}
 not-guess : (v : Verdict) → (v ≡ guess → ⊥) → isGuess v ≡ false
 not-guess guess h = absurd (h refl)
 not-guess result h = refl
+not-guess suspect h = refl
 not-guess broken h = refl
 
 pub not-ended : (x : State) → (x ≡ ended → ⊥) → isEnded x ≡ false

@@ -9,16 +9,17 @@ use native.Mathlib.Decide.{decLt, ℕ-discrete}
 use lib.Dec.{eqb}
 use lib.ListN.{length, getD, set, length-append, length-set, List·getD-eq-default}
 use lib.Seq.{getD-set-same, getD-set-other}
-use Rattle.ledger.specs.Pairs.{Pairs, size, inRange, contains}
+use Rattle.ledger.specs.Pairs.{Pairs, none, size, inRange, contains}
 use Rattle.eblock.specs.Header.{thirdOf}
 use Rattle.transfer.specs.Channel.{channelCount}
 use Rattle.transfer.specs.Transfer.{sum}
 use Rattle.transfer.specs.Header.{isEodc, payloadLength}
 use Rattle.transfer.specs.Receive.{isNonEmpty}
-use Rattle.transfer.specs.Block.{Block, blockBytes, cut, hasEnded}
-use Rattle.transfer.specs.Tally.{Stream, intact, taken, accepted, blocksOf, countsOf, knownCount, claimed, oneIf, usedIn, endedIn}
+use Rattle.transfer.specs.Block.{Block, sizeOf, blockBytes, cut, doubtfulIn, hasEnded}
+use Rattle.transfer.specs.Tally.{Stream, intact, taken, accepted, blocksOf, countsOf, knownCount, claimed, doubted, oneIf, usedIn, endedIn}
 use Rattle.transfer.specs.Sending.{WellFormedBlocks}
 use Rattle.transfer.proofs.BlockClaims.{cover, claims-size}
+use Rattle.transfer.proofs.BlockDoubts.{sum-doubtful-le}
 use Rattle.transfer.proofs.BlockCounts.{sum-counts, at-most-one}
 use Rattle.transfer.proofs.TallyStreams.{streamIn, sum-blocks, sum-le, sum-lt}
 use Rattle.transfer.proofs.TallyInvariant.{AllSound, intact-at, intact-set}
@@ -64,6 +65,10 @@ module _ (F R : ℕ) (before : Pairs) (n : ℕ) (all : List Stream) (sent : Send
 
     pub room : size (claimed before ss) ≤ R
     room = omega (arith, claims-size (blocksOf ss) before, sent .room, sum-most (λ h. cond (eqb (payloadLength h) 0) 0 1))
+
+    pub doubt-room : size (doubted ss) ≤ R
+    unfolding size
+    doubt-room = omega (arith, claims-size (doubtfulIn (blocksOf ss)) none, sum-doubtful-le (λ (x : Block). cond (eqb (sizeOf x) 0) 0 1) (blocksOf ss), sent .room, sum-most (λ h. cond (eqb (payloadLength h) 0) 0 1))
 
     pub counts-are : (countsOf ss ≡ []) ⊎ (countsOf ss ≡ n ∷ [])
     unfolding sum

@@ -15,10 +15,10 @@ use Rattle.eblock.specs.Descriptor.{faultOf}
 use Rattle.eblock.specs.Header.{countLimit, descriptorOf, secondOf, thirdOf}
 use Rattle.transfer.specs.Channel.{channelCount, heldLimit}
 use Rattle.transfer.specs.Transfer.{sum}
-use Rattle.transfer.specs.Header.{isEodc, payloadLength, requestOf}
+use Rattle.transfer.specs.Header.{isEodc, isDoubtful, payloadLength, requestOf}
 use Rattle.transfer.specs.Receive.{Outcome, continues, stops, isNonEmpty}
 use Rattle.transfer.specs.Block.{Block, block, placeOf, sizeOf, blockBytes, cut, partialHeader, partialHeaderBy, hasEnded}
-use Rattle.transfer.specs.Tally.{Tally, Stream, intact, taken, accepted, blocksOf, countsOf, knownCount, claimed, usedIn, streamAt, withStream, keepBytes, applyJudgement, requestFault, tallyByteAfter, tallyByte}
+use Rattle.transfer.specs.Tally.{Tally, Stream, intact, taken, accepted, blocksOf, countsOf, knownCount, claimed, doubted, usedIn, streamAt, withStream, keepBytes, applyJudgement, requestFault, tallyByteAfter, tallyByte}
 use Rattle.transfer.specs.Sending.{WellFormedBlocks}
 use Rattle.transfer.proofs.BlockClaims.{hitBy, claims-ruled, claims-holds}
 use Rattle.transfer.proofs.BlockCounts.{sum-counts}
@@ -28,10 +28,10 @@ use Rattle.transfer.proofs.TallyStreams.{streamIn, proper-at}
 use Rattle.transfer.proofs.Judgement.{faultless}
 use Rattle.transfer.proofs.TallyInvariant.{intact-at, Invariant}
 use Rattle.transfer.proofs.TallyByteCases.{stream-now}
-use Rattle.transfer.proofs.TallyHeader.{new, claims-are, sum-is, sized, joins}
+use Rattle.transfer.proofs.TallyHeader.{new, claims-are, doubt-added, sum-is, sized, joins, doubt-joins}
 use Rattle.transfer.proofs.SendingBegunCut.{FirstOf, Part}
 use Rattle.transfer.proofs.SendingWellFormed.{Sendable}
-use Rattle.transfer.proofs.SendingBegun.{Underway, part-at, apart, room, counts-are, known-is, used-most, on-channel, used-below, one-more}
+use Rattle.transfer.proofs.SendingBegun.{Underway, part-at, apart, room, doubt-room, counts-are, known-is, used-most, on-channel, used-below, one-more}
 
 -- a header that has come is one that was sent
 first-sent : (F : ℕ) (done : List Block) (x : Block) (ys : List Block) → WellFormedBlocks F ys → FirstOf (done ++ (x ∷ [])) ys
@@ -127,10 +127,12 @@ module _ (F R : ℕ) (before : Pairs) (ruled : ObeyFrom 0 before) (n : ℕ) (all
       range-fits : isEodc head ≡ false → 0 < secondOf head
           → (thirdOf head + secondOf head ≤ F) × (overlaps (thirdOf head) (thirdOf head + secondOf head) (claimed before (t .streams)) ≡ false)
           × (size (join (thirdOf head) (thirdOf head + secondOf head) (claimed before (t .streams))) ≤ R)
+          × (isDoubtful head ≡ true → size (join (thirdOf head) (thirdOf head + secondOf head) (doubted (t .streams))) ≤ R)
       range-fits q q₀ = (
         omega (arith, size-is, fits .1 (omega (arith, size-is))),
         none-shares (thirdOf head) (thirdOf head + secondOf head) 0 (claimed before (t .streams)) (omega arith) (claims-ruled (blocksOf (t .streams)) before ruled) free,
         omega (arith, room F R before n all sent (next .streams) u′, ap size joined),
+        (λ b. omega (arith, doubt-room F R before n all sent (next .streams) u′, ap size (doubt-joined b))),
       )
         where
           size-is : payloadLength head ≡ secondOf head
@@ -139,13 +141,18 @@ module _ (F R : ℕ) (before : Pairs) (ruled : ObeyFrom 0 before) (n : ℕ) (all
           joined : claimed before (next .streams) ≡ join (thirdOf head) (thirdOf head + secondOf head) (claimed before (t .streams))
           joined = claims-are F R before [] ruled t c bs done r b i z k is d y v g ∙ joins F R before [] ruled t c bs done r b i z k is d y v g q q₀
 
+          doubt-joined : isDoubtful head ≡ true → doubted (next .streams) ≡ join (thirdOf head) (thirdOf head + secondOf head) (doubted (t .streams))
+          doubt-joined w =
+              doubt-added F R before [] ruled t c bs done r b i z k is d y v g ∙ doubt-joins F R before [] ruled t c bs done r b i z k is d y v g q q₀
+              ∙ ap (λ x. cond x (join (thirdOf head) (thirdOf head + secondOf head) (doubted (t .streams))) (doubted (t .streams))) w
+
           free : (p : ℕ) → inRange (thirdOf head) (thirdOf head + secondOf head) p + contains p (claimed before (t .streams)) ≤ 1
           free p =
               omega (arith, claims-holds p (blocksOf (t .streams)) before ruled, apart F R before n all sent (next .streams) u′ p, added (hitBy p), ap (λ l. inRange (thirdOf head) (thirdOf head + l) p) size-is)
 
     -- the judgement of the header that the byte makes whole
     abbrev judged : ℕ
-    judged = requestFault R (claimed before (t .streams)) (requestOf F (knownCount (t .streams)) (usedIn (t .streams)) (partialHeader bs ++ b ∷ []))
+    judged = requestFault R (claimed before (t .streams)) (doubted (t .streams)) (requestOf F (knownCount (t .streams)) (usedIn (t .streams)) (partialHeader bs ++ b ∷ []))
 
     no-header-fault : Shape bs → length (partialHeader bs) ≡ heldLimit → judged ≡ 0
     unfolding partialHeaderBy
@@ -156,7 +163,7 @@ module _ (F R : ℕ) (before : Pairs) (ruled : ObeyFrom 0 before) (n : ℕ) (all
         let over-is : partialHeader bs ≡ r = ap partialHeader g ∙ cuts-header done r d l .1 in
         let y′ : length r ≡ heldLimit = ap length (sym over-is) ∙ y in
         rw over-is
-        (faultless F R (knownCount (t .streams)) (usedIn (t .streams)) (claimed before (t .streams)) (r ++ b ∷ []) (fits done r d y′ v g .0) (count-fits done r d y′ v g) (range-fits done r d y′ v g))
+        (faultless F R (knownCount (t .streams)) (usedIn (t .streams)) (claimed before (t .streams)) (doubted (t .streams)) (r ++ b ∷ []) (fits done r d y′ v g .0) (count-fits done r d y′ v g) (range-fits done r d y′ v g))
 
     -- ---- any byte
 

@@ -14,12 +14,13 @@ use Rattle.ledger.specs.Ledger.{pairsOf, laidOut}
 use Rattle.eblock.specs.Header.{secondOf, thirdOf}
 use Rattle.transfer.specs.Channel.{channelCount, heldLimit, unused, header, stateAt, putState, putFault}
 use Rattle.transfer.specs.Transfer.{usedOf, World, withTransfer}
-use Rattle.transfer.specs.Header.{HeaderRequest, counts, claims, nothing, faulty, requestOf, claimFault}
+use Rattle.transfer.specs.Header.{isDoubtful, HeaderRequest, counts, claims, nothing, faulty, requestOf, claimFault}
 use Rattle.transfer.specs.Judgement.{HeaderAsks, for-count, for-nothing, for-claim}
 use Rattle.transfer.specs.Receive.{continues, stops, notTaken, stopWithFault, applyRequest, takeByte, isNonEmpty, isEnded}
 use Rattle.transfer.specs.Block.{Block, block, cut, cutBy, partialHeader, partialHeaderBy, countsIn, claimsIn, withPayloads, blockBytes}
-use Rattle.transfer.specs.Tally.{Tally, Stream, intact, faulted, taken, allButLast, accepted, blocksOf, countsOf, knownCount, claimed, oneIf, usedIn, streamAt, withStream, tallyWithFault, keepBytes, applyJudgement, requestFault, tallyByteAfter as tallyByteOn, tallyByte as tallyByteOf}
+use Rattle.transfer.specs.Tally.{Tally, Stream, intact, faulted, taken, allButLast, accepted, blocksOf, countsOf, knownCount, claimed, doubted, oneIf, usedIn, streamAt, withStream, tallyWithFault, keepBytes, applyJudgement, requestFault, tallyByteAfter as tallyByteOn, tallyByte as tallyByteOf}
 use Rattle.transfer.proofs.BlockClaims.{claims-ruled}
+use Rattle.transfer.proofs.BlockDoubts.{doubtsIn, doubts-ruled}
 use Rattle.transfer.proofs.BlockCut.{Done, cuts-header, cuts-payload}
 use Rattle.transfer.specs.StateFrom.{stateFrom}
 use Rattle.transfer.proofs.StateFrom.{allButLast-last}
@@ -33,7 +34,7 @@ use Rattle.transfer.proofs.ReceiveBytes.{byte-unused, byte-held, byte-j
 use Rattle.transfer.proofs.TallyInvariant.{Count, unknown, announced, intact-at, Invariant, stays, used-same, same-blocks, kept-fault, kept-spoilt}
 use Rattle.transfer.proofs.TallyByteCases.{Follows, both-stop, both-leave, world-is, isSome-append, goes-on}
 use Rattle.transfer.proofs.TallyPayloadByte.{fills}
-use Rattle.transfer.proofs.TallyHeader.{pairs-are, accepts-count, accepts-nothing, accepts-claim}
+use Rattle.transfer.proofs.TallyHeader.{pairs-are, doubts-are, accepts-count, accepts-nothing, accepts-claim}
 
 module _ (F R : ℕ) (before : Pairs) (file : List ℕ) (ruled : ObeyFrom 0 before) where
   -- ---- a header's 17th byte
@@ -63,7 +64,7 @@ module _ (F R : ℕ) (before : Pairs) (file : List ℕ) (ruled : ObeyFrom 0 befo
         (world-is
         (ap (λ s. putFault s n c) (ap (putState (transferOf F R t) c) cleared ∙ put-is F R t c (faulted (bs ++ b ∷ [])) (i .proper) (omega (arith, i .number)) (ap (λ m. getD (countsIn m) 0 0) same))
         ∙ fault-is F R (withStream t c (faulted (bs ++ b ∷ []))) n c)
-        (ap (λ m. withPayloads m file) (sym same)) (ap (λ m. laidOut R (claimsIn m before)) (sym same))))
+        (ap (λ m. withPayloads m file) (sym same)) (ap (λ m. laidOut R (claimsIn m before)) (sym same)) (ap (λ m. laidOut R (doubtsIn m)) (sym same))))
         (kept-spoilt F R before t c (bs ++ b ∷ []) n i k (subst Done (sym gone) d, isSome-append bs b) (gone ∙ sym was) (ap (λ s. oneIf (isNonEmpty (taken s))) e ∙ ap oneIf u) a (omega arith))
         (stays same)
       where
@@ -74,29 +75,34 @@ module _ (F R : ℕ) (before : Pairs) (file : List ℕ) (ruled : ObeyFrom 0 befo
         same = same-blocks t c (faulted (bs ++ b ∷ [])) (omega (arith, i .number)) (gone ∙ sym was)
 
     heeded : (a : HeaderRequest) → HeaderAsks F (knownCount (t .streams)) (usedIn (t .streams)) head a
-        → Follows F R before file t c (applyRequest (worldOf F R before file t) c head a) (applyJudgement t c (bs ++ b ∷ []) (requestFault R (claimed before (t .streams)) a))
+        → Follows F R before file t c (applyRequest (worldOf F R before file t) c head a) (applyJudgement t c (bs ++ b ∷ []) (requestFault R (claimed before (t .streams)) (doubted (t .streams)) a))
     unfolding applyRequest applyJudgement requestFault worldOf transferOf
     heeded (faulty zero) a = absurd (omega (arith, in-range F (knownCount (t .streams)) (usedIn (t .streams)) head (faulty zero) a .0))
     heeded (faulty (suc n)) a = let m = in-range F (knownCount (t .streams)) (usedIn (t .streams)) head (faulty (suc n)) a in spoils (suc n) (m .0) (m .1)
     heeded (counts n) (for-count f₀ q k₀ n₀ n₁ n₂) = accepts-count F R before file ruled t c bs done r b i z k e d y u g f₀ q k₀ n₀ n₁ n₂
     heeded nothing (for-nothing f₀ q q₀) = accepts-nothing F R before file ruled t c bs done r b i z k e d y u g f₀ q q₀
-    heeded (claims s f) (for-claim f₀ q q₀ q₁) = go (claimFault R (claimed before (t .streams)) (thirdOf head) (thirdOf head + secondOf head)) refl
+    heeded (claims s f doubt) (for-claim f₀ q q₀ q₁) = go (asJudged (claimed before (t .streams)) (doubted (t .streams))) refl
       where
-        by-ledger : claimFault R (pairsOf (worldOf F R before file t .lent .ledger)) (thirdOf head) (thirdOf head + secondOf head)
-            ≡ claimFault R (claimed before (t .streams)) (thirdOf head) (thirdOf head + secondOf head)
-        by-ledger = ap (λ ps. claimFault R ps (thirdOf head) (thirdOf head + secondOf head)) (pairs-are F R before file ruled t i)
+        asJudged : Pairs → Pairs → ℕ
+        asJudged ps ds = claimFault R ps ds (thirdOf head) (thirdOf head + secondOf head) (isDoubtful head)
 
-        go : (n : ℕ) → claimFault R (claimed before (t .streams)) (thirdOf head) (thirdOf head + secondOf head) ≡ n
-            → Follows F R before file t c (applyRequest (worldOf F R before file t) c head (claims (thirdOf head) (thirdOf head + secondOf head))) (applyJudgement t c (bs ++ b ∷ []) n)
+        by-ledgers : asJudged (pairsOf (worldOf F R before file t .lent .claimed)) (pairsOf (worldOf F R before file t .lent .doubtful)) ≡ asJudged (claimed before (t .streams)) (doubted (t .streams))
+        by-ledgers = rw (pairs-are F R before file ruled t i, doubts-are F R before file ruled t i)
+
+        ruled-now : ObeyFrom 0 (claimed before (t .streams))
+        ruled-now = claims-ruled (blocksOf (t .streams)) before ruled
+
+        go : (n : ℕ) → asJudged (claimed before (t .streams)) (doubted (t .streams)) ≡ n
+            → Follows F R before file t c (applyRequest (worldOf F R before file t) c head (claims (thirdOf head) (thirdOf head + secondOf head) (isDoubtful head))) (applyJudgement t c (bs ++ b ∷ []) n)
         go zero w =
-            let a = claim-accepted R (claimed before (t .streams)) (thirdOf head) (thirdOf head + secondOf head) (omega arith) (claims-ruled (blocksOf (t .streams)) before ruled) w in
-            rw (claim-opens (worldOf F R before file t) c head (thirdOf head) (thirdOf head + secondOf head) (by-ledger ∙ w))
-            (accepts-claim F R before file ruled t c bs done r b i z k e d y u g f₀ q q₀ q₁ (a .0) (a .1))
+            let a = claim-accepted R (claimed before (t .streams)) (doubted (t .streams)) (thirdOf head) (thirdOf head + secondOf head) (isDoubtful head) (omega arith) ruled-now (doubts-ruled (blocksOf (t .streams))) w in
+            rw (claim-opens (worldOf F R before file t) c head (thirdOf head) (thirdOf head + secondOf head) (isDoubtful head) (by-ledgers ∙ w))
+            (accepts-claim F R before file ruled t c bs done r b i z k e d y u g f₀ q q₀ q₁ (a .0) (a .1) (a .2))
         go (suc n) w =
-            rw (claim-faulty (worldOf F R before file t) c head (thirdOf head) (thirdOf head + secondOf head) n (by-ledger ∙ w))
-            (numbered (claim-numbered R (claimed before (t .streams)) (thirdOf head) (thirdOf head + secondOf head) (omega arith) (claims-ruled (blocksOf (t .streams)) before ruled)))
+            rw (claim-faulty (worldOf F R before file t) c head (thirdOf head) (thirdOf head + secondOf head) (isDoubtful head) n (by-ledgers ∙ w))
+            (numbered (claim-numbered R (claimed before (t .streams)) (doubted (t .streams)) (thirdOf head) (thirdOf head + secondOf head) (isDoubtful head) (omega arith) ruled-now (doubts-ruled (blocksOf (t .streams)))))
           where
-            numbered : Numbered (claimFault R (claimed before (t .streams)) (thirdOf head) (thirdOf head + secondOf head))
+            numbered : Numbered (asJudged (claimed before (t .streams)) (doubted (t .streams)))
                 → Follows F R before file t c (stopWithFault (worldOf F R before file t) c (suc n)) (stops (tallyWithFault (withStream t c (faulted (bs ++ b ∷ []))) (suc n) c))
             numbered (inl l) = absurd (omega (arith, w))
             numbered (inr l) = spoils (suc n) (omega (arith, w, l .0)) (omega (arith, w, l .1))

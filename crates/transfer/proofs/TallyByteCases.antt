@@ -31,8 +31,8 @@ pub data Follows (F R : ℕ) (before : Pairs) (file : List ℕ) (t₀ : Tally) (
   both-leave : (t : Tally) → y ≡ notTaken t → x ≡ notTaken (worldOf F R before file t) → Invariant F R before t → Grows (blocksOf (t₀ .streams)) (blocksOf (t .streams))
       → Follows F R before file t₀ c x y
 
-pub world-is : {t u : Transfer} {f g l m : List ℕ} → t ≡ u → f ≡ g → l ≡ m → world t f l ≡ world u g m
-world-is p q r = λ i. world (p i) (q i) (r i)
+pub world-is : {t u : Transfer} {f g l m d e : List ℕ} → t ≡ u → f ≡ g → l ≡ m → d ≡ e → world t f l d ≡ world u g m e
+world-is p q r s = λ i. world (p i) (q i) (r i) (s i)
 
 pub isSome-append : (bs : List ℕ) (b : ℕ) → isNonEmpty (bs ++ b ∷ []) ≡ true
 isSome-append [] b = refl
@@ -92,7 +92,7 @@ module _ (F R : ℕ) (before : Pairs) (file : List ℕ) where
       let h′ : c < length (t .streams) = omega (arith, i .number) in
       let b : blocksOf (set (t .streams) c (intact bs)) ≡ blocksOf (t .streams) = same-blocks t c (intact bs) h′ e in
       both-go (withStream t c (intact bs)) (rw (ends-by bs o x v ∙ y))
-      (ap continues (world-is (ap (putState (transferOf F R t) c) (sym v) ∙ put-is F R t c (intact bs) (i .proper) h′ (rw b)) (rw b) (rw b)))
+      (ap continues (world-is (ap (putState (transferOf F R t) c) (sym v) ∙ put-is F R t c (intact bs) (i .proper) h′ (rw b)) (rw b) (rw b) (rw b)))
       (kept-same F R before t c (intact bs) i h o (λ q. intact-set (t .streams) c bs (i .clean q)) e u) (stays b) z
       (ap (λ s. isEnded (stateFrom s)) (stream-now t c (intact bs) h′) ∙ ap isEnded v ∙ y)
 

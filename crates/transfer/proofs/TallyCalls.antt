@@ -9,15 +9,19 @@ use native.Mathlib.Decide.{decLt}
 use borrow.Author.Tests.{lt-ltb, leb-false}
 use lib.Dec.{leb, ltb, eqb}
 use lib.ListN.{length}
-use Rattle.ledger.specs.Pairs.{Pairs, ObeyFrom}
+use Rattle.ledger.specs.Pairs.{Pairs, size, ObeyFrom}
+use Rattle.ledger.specs.Ledger.{laidOut}
+use Rattle.ledger.proofs.LedgerLayout.{pairsOf-laidOut}
+use Rattle.ledger.proofs.LedgerEntries.{has-pair-size}
 use Rattle.transfer.specs.Channel.{channelCount, stateAt}
-use Rattle.transfer.specs.Transfer.{World, guess, result, broken, allEnded, verdictOf}
+use Rattle.transfer.specs.Transfer.{World, Verdict, guess, result, suspect, broken, allEnded, isDoubted, verdictOf}
 use Rattle.transfer.specs.Receive.{Outcome, takeByte, Answer, refused, takeBytes, isGuess, isEnded, isNonEmpty, refusalOf, receiveOf}
 use Rattle.transfer.specs.Fit.{pairLimit}
 use Rattle.transfer.specs.Calls.{Call, receive, callOf, foldCalls}
 use Rattle.transfer.proofs.ReceivePieces.{bytes-goes, bytes-stops, bytes-leaves}
+use Rattle.transfer.proofs.BlockDoubts.{doubts-ruled}
 use Rattle.transfer.specs.Block.{Block, hasEnded}
-use Rattle.transfer.specs.Tally.{Tally, taken, accepted, blocksOf, countsOf, knownCount, usedIn, endedIn, tallyVerdict, streamAt, tallyByte as tallyByteOf, tallyRefusal as tallyRefusalOf, tallyCall as tallyCallOf}
+use Rattle.transfer.specs.Tally.{Tally, taken, accepted, blocksOf, countsOf, knownCount, doubted, usedIn, endedIn, tallyVerdict, streamAt, tallyByte as tallyByteOf, tallyRefusal as tallyRefusalOf, tallyCall as tallyCallOf}
 use Rattle.transfer.specs.StateFrom.{stateFrom}
 use Rattle.transfer.proofs.ChannelBytes.{kind, kind-ended}
 use Rattle.transfer.proofs.TallyStreams.{proper-at}
@@ -44,13 +48,22 @@ pub record Same (F R : ℕ) (before : Pairs) (file : List ℕ) (t : Tally) (A : 
 
 -- ---- the verdict
 
+-- the doubtful ledger has a used pair where a range is doubtful
+doubted-is : (F R : ℕ) (before : Pairs) (file : List ℕ) (t : Tally) → Invariant F R before t → isDoubted (worldOf F R before file t) ≡ ltb 0 (size (doubted (t .streams)))
+unfolding isDoubted worldOf
+doubted-is F R before file t i =
+    has-pair-size (laidOut R (doubted (t .streams))) ∙ ap (λ ps. ltb 0 (size ps)) (pairsOf-laidOut R 0 (doubted (t .streams)) (doubts-ruled (blocksOf (t .streams))) (i .doubt-room))
+
 pub verdict-is : (F R : ℕ) (before : Pairs) (file : List ℕ) (t : Tally) → Invariant F R before t → verdictOf (worldOf F R before file t) ≡ tallyVerdict t
-unfolding verdictOf allEnded tallyVerdict worldOf
-verdict-is F R before file t i = rw (ended-is F R t (i .proper)) (unfold transferOf in go (i .count))
+unfolding verdictOf allEnded tallyVerdict
+verdict-is F R before file t i = rw (doubted-is F R before file t i) (unfold worldOf in rw (ended-is F R t (i .proper)) (unfold transferOf in go (i .count)))
   where
+    last : Verdict
+    last = cond (ltb 0 (size (doubted (t .streams)))) suspect result
+
     go : Count (countsOf (t .streams)) (usedIn (t .streams))
-        → cond (ltb 0 (t .fault)) broken (cond (ltb 0 (knownCount (t .streams)) && eqb (endedIn (t .streams)) (knownCount (t .streams))) result guess)
-        ≡ cond (ltb 0 (t .fault)) broken (cond (eqb (length (countsOf (t .streams))) 1 && eqb (endedIn (t .streams)) (knownCount (t .streams))) result guess)
+        → cond (ltb 0 (t .fault)) broken (cond (ltb 0 (knownCount (t .streams)) && eqb (endedIn (t .streams)) (knownCount (t .streams))) last guess)
+        ≡ cond (ltb 0 (t .fault)) broken (cond (eqb (length (countsOf (t .streams))) 1 && eqb (endedIn (t .streams)) (knownCount (t .streams))) last guess)
     go (unknown x) = rw x
     go (announced n x x₀ x₁ x₂) = rw (x, lt-ltb 0 n x₀)
 

@@ -13,7 +13,7 @@ use Rattle.transfer.specs.Receive.{isNonEmpty, isEnded}
 use Rattle.eblock.specs.Descriptor.{faultOf}
 use Rattle.eblock.specs.Header.{countLimit, descriptorOf}
 use Rattle.transfer.specs.Block.{Block, hasEnded}
-use Rattle.transfer.specs.Tally.{Tally, Stream, intact, faulted, taken, accepted, blocksOf, countsOf, claimed, oneIf, usedIn, endedIn, streamAt, withStream, tallyWithFault}
+use Rattle.transfer.specs.Tally.{Tally, Stream, intact, faulted, taken, accepted, blocksOf, countsOf, claimed, doubted, oneIf, usedIn, endedIn, streamAt, withStream, tallyWithFault}
 use Rattle.transfer.proofs.BlockClaims.{sum-append, cover}
 use Rattle.transfer.proofs.BlockPayloads.{longer}
 use Rattle.transfer.specs.StateFrom.{stateFrom}
@@ -56,6 +56,7 @@ pub record Invariant (F R : ℕ) (before : Pairs) (t : Tally) : Type 0 where
   pub apart : (q : ℕ) → cover q (blocksOf (t .streams)) + contains q before ≤ 1
   pub ends : endsAtMost F (claimed before (t .streams)) ≡ true
   pub room : size (claimed before (t .streams)) ≤ R
+  pub doubt-room : size (doubted (t .streams)) ≤ R
   pub count : Count (countsOf (t .streams)) (usedIn (t .streams))
   pub fault : Fault (t .fault) (t .on)
   -- no accepted header has a fault of its descriptor
@@ -107,7 +108,7 @@ module _ (F R : ℕ) (before : Pairs) where
   -- with a fault
   pub kept-fault : (t : Tally) (k c : ℕ) → Invariant F R before t → 11 ≤ k → k ≤ 19 → c < channelCount → Invariant F R before (tallyWithFault t k c)
   kept-fault t k c i h g q =
-      record { number = i .number; proper = i .proper; clean = λ z. absurd (omega arith); apart = i .apart; ends = i .ends; room = i .room; count = i .count; fault = fault-of h g q; headers = i .headers }
+      record { number = i .number; proper = i .proper; clean = λ z. absurd (omega arith); apart = i .apart; ends = i .ends; room = i .room; doubt-room = i .doubt-room; count = i .count; fault = fault-of h g q; headers = i .headers }
 
   -- where a channel's bytes change and no block does
   pub kept-same : (t : Tally) (c : ℕ) (s : Stream) → Invariant F R before t → c < channelCount → Proper s → (t .fault ≡ 0 → AllSound (set (t .streams) c s)) → accepted s ≡ accepted (streamAt t c)
@@ -121,6 +122,7 @@ module _ (F R : ℕ) (before : Pairs) where
         apart = λ q. rw b (i .apart q);
         ends = rw b (i .ends);
         room = rw b (i .room);
+        doubt-room = rw b (i .doubt-room);
         count = rw b u;
         fault = i .fault;
         headers = rw b (i .headers);
@@ -140,6 +142,7 @@ module _ (F R : ℕ) (before : Pairs) where
         apart = λ q. rw b (i .apart q);
         ends = rw b (i .ends);
         room = rw b (i .room);
+        doubt-room = rw b (i .doubt-room);
         count = rw (b, v) (i .count);
         fault = fault-of g g′ h;
         headers = rw b (i .headers);

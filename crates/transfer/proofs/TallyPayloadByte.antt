@@ -13,8 +13,9 @@ use Rattle.transfer.specs.Transfer.{sum, world}
 use Rattle.transfer.specs.Header.{endsChannel, payloadLength}
 use Rattle.transfer.specs.Receive.{storePayloadByte, isNonEmpty}
 use Rattle.transfer.specs.Block.{Block, block, cut, countsIn, claimsIn, withPayloads, blockBytes}
-use Rattle.transfer.specs.Tally.{Tally, intact, taken, accepted, blocksOf, countsOf, claimed, oneIf, usedIn, streamAt, withStream, keepBytes}
+use Rattle.transfer.specs.Tally.{Tally, intact, taken, accepted, blocksOf, countsOf, claimed, doubted, oneIf, usedIn, streamAt, withStream, keepBytes}
 use Rattle.transfer.proofs.BlockClaims.{hitBy, cover, claims-same}
+use Rattle.transfer.proofs.BlockDoubts.{doubtsIn, doubts-same}
 use Rattle.transfer.proofs.BlockCounts.{counts-same}
 use Rattle.transfer.proofs.BlockPayloads.{Bodies, bodies-left, withPayloads-extend}
 use Rattle.transfer.proofs.BlockCut.{Done, cuts-payload}
@@ -32,8 +33,8 @@ module _ (F R : ℕ) (before : Pairs) (file : List ℕ) where
   fills t c bs done h p b i z k e d y q u g =
       rw left-is
       (opens-on F R before file t c (bs ++ b ∷ []) i z k (new .shape) kept (adds-byte front (block h p) (r .back) b now then)
-      (world (transferOf F R t) (set (withPayloads (blocksOf (t .streams)) file) (thirdOf h + length p) b) (laidOut R (claimed before (t .streams))))
-      (world-is (put-is F R t c (intact (bs ++ b ∷ [])) (i .proper) h′ (ap (λ cs. getD cs 0 0) same-counts)) (sym one-store) (ap (laidOut R) (sym same-claims)))
+      (world (transferOf F R t) (set (withPayloads (blocksOf (t .streams)) file) (thirdOf h + length p) b) (laidOut R (claimed before (t .streams))) (laidOut R (doubted (t .streams))))
+      (world-is (put-is F R t c (intact (bs ++ b ∷ [])) (i .proper) h′ (ap (λ cs. getD cs 0 0) same-counts)) (sym one-store) (ap (laidOut R) (sym same-claims)) (ap (laidOut R) (sym same-doubts)))
       (suc (thirdOf h + length p)) (payloadLength h - suc (length p)) (endsChannel h) looks)
     where
       h′ : c < length (t .streams)
@@ -84,6 +85,9 @@ module _ (F R : ℕ) (before : Pairs) (file : List ℕ) where
       same-claims : claimed before (set (t .streams) c (intact (bs ++ b ∷ []))) ≡ claimed before (t .streams)
       same-claims = ap (λ m. claimsIn m before) then ∙ claims-same front (block h (p ++ b ∷ [])) (block h p) (r .back) before refl ∙ ap (λ m. claimsIn m before) (sym now)
 
+      same-doubts : doubted (set (t .streams) c (intact (bs ++ b ∷ []))) ≡ doubted (t .streams)
+      same-doubts = ap doubtsIn then ∙ doubts-same front (block h (p ++ b ∷ [])) (block h p) (r .back) refl ∙ ap doubtsIn (sym now)
+
       same-cover : (o : ℕ) → cover o (blocksOf (set (t .streams) c (intact (bs ++ b ∷ [])))) ≡ cover o (blocksOf (t .streams))
       same-cover o = ap (cover o) then ∙ sum-same (hitBy o) front (block h (p ++ b ∷ [])) (block h p) (r .back) refl ∙ ap (cover o) (sym now)
 
@@ -109,6 +113,7 @@ module _ (F R : ℕ) (before : Pairs) (file : List ℕ) where
             apart = λ o. rw (same-cover o) (i .apart o);
             ends = rw same-claims (i .ends);
             room = rw same-claims (i .room);
+            doubt-room = rw same-doubts (i .doubt-room);
             count = rw (same-counts, same-used) (i .count);
             fault = i .fault;
             headers = ap (sum headerFault) then ∙ sum-same headerFault front (block h (p ++ b ∷ [])) (block h p) (r .back) refl ∙ ap (sum headerFault) (sym now) ∙ i .headers;

@@ -16,12 +16,12 @@ use Rattle.transfer.specs.Transfer.{sum, oneIfEnded, oneIfActive, endedO
 use Rattle.transfer.specs.Receive.{isNonEmpty, isEnded}
 use Rattle.transfer.proofs.ChannelReadBack.{length-heldBytes, read-back}
 use Rattle.transfer.specs.Block.{withPayloads}
-use Rattle.transfer.specs.Tally.{Tally, Stream, intact, taken, accepted, blocksOf, knownCount, claimed, oneIf, usedIn, endedIn, streamAt, withStream, tallyWithFault}
+use Rattle.transfer.specs.Tally.{Tally, Stream, intact, taken, accepted, blocksOf, knownCount, claimed, doubted, oneIf, usedIn, endedIn, streamAt, withStream, tallyWithFault}
 use Rattle.transfer.specs.StateFrom.{stateFrom}
 use Rattle.transfer.proofs.ChannelBytes.{Proper, kind, kind-stands, kind-used, kind-ended}
 use Rattle.transfer.proofs.TallyStreams.{AllProper}
 
--- ---- the transfer, the file and the ledger of a tally
+-- ---- the transfer, the file and the ledgers of a tally
 
 unfoldable pub rowOf : Stream → Channel
 rowOf s = encodeState (stateFrom s)
@@ -35,7 +35,7 @@ transferOf F R t =
     record { len = F; pairs = R; count = knownCount (t .streams); fault = t .fault; on = t .on; heads = headsOf (t .streams); channels = map rowOf (t .streams) }
 
 unfoldable pub worldOf : ℕ → ℕ → Pairs → List ℕ → Tally → World
-worldOf F R before file t = world (transferOf F R t) (withPayloads (blocksOf (t .streams)) file) (laidOut R (claimed before (t .streams)))
+worldOf F R before file t = world (transferOf F R t) (withPayloads (blocksOf (t .streams)) file) (laidOut R (claimed before (t .streams))) (laidOut R (doubted (t .streams)))
 
 -- ---- held bytes
 

@@ -1,4 +1,4 @@
--- What holds after every list of receive calls: demand 3 but for its last sentence, a field for each sentence.
+-- What holds after every list of receive calls: demand 3 but for its last sentence, a field for each sentence (document 01; document 02, Item 3).
 use Prim.Native.Nat.{ℕ, _+_, _*_, _/_, _%_, _≤_, _<_}
 use mathlib.Core.Path.{_≡_}
 use mathlib.Core.Logic.{_↔_, _⊎_}
@@ -8,17 +8,18 @@ use lib.ListN.{length, getD, take, drop}
 use Rattle.ledger.specs.Pairs.{Pairs, none, total, contains}
 use Rattle.ledger.specs.Ledger.{capacity, obeys, laidOut, Contains}
 use Rattle.transfer.specs.Channel.{stateAt}
-use Rattle.transfer.specs.Transfer.{endedOf, World, guess, result, broken, verdictOf, storedOf, startRefusal}
+use Rattle.transfer.specs.Transfer.{sum, endedOf, World, guess, result, suspect, broken, verdictOf, storedOf, doubtOf, startRefusal}
 use Rattle.transfer.specs.Receive.{Answer}
 use Rattle.transfer.specs.Fit.{fits}
 use Rattle.transfer.specs.Calls.{Call, foldCalls, startedWorld, answersOf, after}
-use Rattle.transfer.specs.Block.{Block, placeOf, sizeOf, claimsIn, withPayloads, bytesIn}
+use Rattle.transfer.specs.Block.{Block, placeOf, sizeOf, claimsIn, doubtfulIn, withPayloads, bytesIn}
 use Rattle.transfer.specs.Tally.{Tally, blocksOf, countsOf, knownCount, endedIn, empty, streamAt, tallyCall}
 use Rattle.transfer.specs.StateFrom.{stateFrom}
 
--- the world w is what an accepted start leaves, with a file and a ledger of R pairs that holds these ranges: none, until a transfer can be resumed
+-- the world w is what an accepted start leaves, with a file and ledgers of R pairs, the claimed one with these ranges: none, until a transfer can be
+-- resumed
 pub data StartedWith : World → List ℕ → ℕ → Pairs → Type 0 where
-  fresh-start : (file ledger : List ℕ) → startRefusal ledger ≡ 0 → StartedWith (startedWorld file ledger) file (capacity ledger) none
+  fresh-start : (file claimed doubtful : List ℕ) → startRefusal claimed doubtful ≡ 0 → StartedWith (startedWorld file claimed doubtful) file (capacity claimed) none
 
 -- the tally of the same list, and its answers
 abbrev pub tallyOf : ℕ → ℕ → Pairs → List Call → Tally
@@ -46,6 +47,10 @@ abbrev pub ClaimsPlace : ℕ → List Block → Type 0
 ClaimsPlace p [] = ⊥
 ClaimsPlace p (x ∷ xs) = ((placeOf x ≤ p) × (p < placeOf x + sizeOf x)) ⊎ ClaimsPlace p xs
 
+-- a place is doubtful: one of the blocks with bit 32 claims it
+abbrev pub HasDoubt : Tally → Type 0
+HasDoubt t = (p : ℕ) × ClaimsPlace p (doubtfulIn (blocksOf (t .streams)))
+
 -- the ledger of R pairs with what these blocks claim and what was claimed before
 pub record LedgerIs (R : ℕ) (before : Pairs) (ledger : List ℕ) (xs : List Block) : Type 0 where
   pub is : ledger ≡ laidOut R (claimsIn xs before)
@@ -59,8 +64,9 @@ pub record LedgerIs (R : ℕ) (before : Pairs) (ledger : List ℕ) (xs : List Bl
 pub record AfterList (R : ℕ) (before : Pairs) (file : List ℕ) (w : World) (t : Tally) : Type 0 where
   -- BROKEN exactly when a fault has come
   pub broken-is : (verdictOf w ≡ broken) ↔ (0 < t .fault)
-  -- otherwise RESULT exactly when one count n is known and n channels have ended
-  pub result-is : (verdictOf w ≡ result) ↔ ((t .fault ≡ 0) × Complete t)
+  -- otherwise, exactly when one count n is known and n channels have ended: SUSPECT where a place is doubtful, RESULT where none is
+  pub suspect-is : (verdictOf w ≡ suspect) ↔ ((t .fault ≡ 0) × Complete t × HasDoubt t)
+  pub result-is : (verdictOf w ≡ result) ↔ ((t .fault ≡ 0) × Complete t × (HasDoubt t → ⊥))
   -- otherwise GUESS
   pub guess-is : (verdictOf w ≡ guess) ↔ ((t .fault ≡ 0) × (Complete t → ⊥))
   -- the file is the starting file with every payload byte taken at its place: each place that one names lies in the file and has it, any other has
@@ -71,27 +77,33 @@ pub record AfterList (R : ℕ) (before : Pairs) (file : List ℕ) (w : World) (t
   pub file-is : w .lent .file ≡ withPayloads (blocksOf (t .streams)) file
   -- the byte count is their number, and that of the bytes in the ranges held from the beginning, 0 until a transfer can be resumed
   pub bytes-are : storedOf w ≡ bytesIn (blocksOf (t .streams)) + total before
-  -- the fault's number and channel, the count, the number of channels that have ended and the ledger are the tally's
+  -- the doubtful bytes are those of the payloads with bit 32, arrived or not
+  pub doubt-is : doubtOf w ≡ sum sizeOf (doubtfulIn (blocksOf (t .streams)))
+  -- the fault's number and channel, the count, the number of channels that have ended and both ledgers are the tally's
   pub fault-is : (w .t .fault ≡ t .fault) × (w .t .on ≡ t .on)
   pub count-is : w .t .count ≡ knownCount (t .streams)
   pub ended-is : endedOf (w .t) ≡ endedIn (t .streams)
-  pub ledger-is : LedgerIs R before (w .lent .ledger) (blocksOf (t .streams))
+  pub claimed-is : LedgerIs R before (w .lent .claimed) (blocksOf (t .streams))
+  pub doubtful-is : LedgerIs R none (w .lent .doubtful) (doubtfulIn (blocksOf (t .streams)))
   -- each channel's state is that of its bytes; after a fault in its header nothing is held of that
   pub channels-are : (c : ℕ) → c < 64 → stateAt (w .t) c ≡ stateFrom (streamAt t c)
-  -- from RESULT on every accepted payload is whole in the file
+  -- from RESULT or SUSPECT on every accepted payload is whole in the file
   pub payloads-in-file : Complete t → PayloadsInFile (w .lent .file) (blocksOf (t .streams))
-  -- transfer, file and ledger fit
+  -- transfer, file and ledgers fit
   pub fits-still : fits w ≡ true
 
 pub record Unchanged (v w : World) : Type 0 where
   pub verdict : verdictOf w ≡ verdictOf v
   pub file : w .lent .file ≡ v .lent .file
-  pub ledger : w .lent .ledger ≡ v .lent .ledger
+  pub claimed : w .lent .claimed ≡ v .lent .claimed
+  pub doubtful : w .lent .doubtful ≡ v .lent .doubtful
   pub bytes : storedOf w ≡ storedOf v
+  pub doubt : doubtOf w ≡ doubtOf v
 
 pub record EveryList : Type 0 where
-  -- every file and every ledger of an even length, up to 8,192 entries, begins
-  pub begins : (file ledger : List ℕ) → length ledger % 2 ≡ 0 → length ledger ≤ 8192 → StartedWith (startedWorld file ledger) file (length ledger / 2) none
+  -- every file and any two ledgers of one length, even and up to 8,192 entries, begin
+  pub begins : (file claimed doubtful : List ℕ) → length claimed % 2 ≡ 0 → length claimed ≤ 8192 → length doubtful ≡ length claimed
+      → StartedWith (startedWorld file claimed doubtful) file (length claimed / 2) none
   pub answers-are : (w : World) (file : List ℕ) (R : ℕ) (before : Pairs) → StartedWith w file R before → (ks : List Call) → answersOf w ks ≡ tallyAnswers (length file) R before ks
   pub after-list : (w : World) (file : List ℕ) (R : ℕ) (before : Pairs) → StartedWith w file R before → (ks : List Call)
       → AfterList R before file (after w ks) (tallyOf (length file) R before ks)
@@ -100,6 +112,6 @@ pub record EveryList : Type 0 where
       → HasByte p v (blocksOf (tallyOf (length file) R before ks .streams)) → HasByte p v (blocksOf (tallyOf (length file) R before (ks ++ more) .streams))
   pub counted : (w : World) (file : List ℕ) (R : ℕ) (before : Pairs) → StartedWith w file R before → (ks more : List Call)
       → storedOf (after w ks) ≤ storedOf (after w (ks ++ more))
-  -- from RESULT on no receive call changes verdict, file, ledger or byte count
+  -- from RESULT or SUSPECT on no receive call changes verdict, file, a ledger or a byte count
   pub final : (w : World) (file : List ℕ) (R : ℕ) (before : Pairs) → StartedWith w file R before → (ks : List Call) → Complete (tallyOf (length file) R before ks) → (more : List Call)
       → Unchanged (after w ks) (after w (ks ++ more))

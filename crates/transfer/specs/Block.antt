@@ -1,4 +1,4 @@
--- A channel's bytes cut into blocks (document 01, "The tally").
+-- A channel's bytes cut into blocks (document 01, "The tally"; document 02, Item 3).
 use Prim.Native.Nat.{ℕ, zero, suc, _+_}
 use mathlib.Core.Bool.{Bool, false, cond, _&&_, _||_}
 use mathlib.Core.List.{List, [], _∷_, _++_}
@@ -8,7 +8,7 @@ use lib.Seq.{sets}
 use Rattle.ledger.specs.Pairs.{Pairs, join}
 use Rattle.eblock.specs.Header.{headerLength, thirdOf}
 use Rattle.transfer.specs.Transfer.{sum}
-use Rattle.transfer.specs.Header.{isEodc, endsChannel, payloadLength}
+use Rattle.transfer.specs.Header.{isEodc, endsChannel, isDoubtful, payloadLength}
 
 -- 17 header bytes, and the payload bytes that have come
 pub record Block : Type 0 where
@@ -70,6 +70,11 @@ addClaim x ps = cond (eqb (sizeOf x) 0) ps (join (placeOf x) (placeOf x + sizeOf
 unfoldable pub claimsIn : List Block → Pairs → Pairs
 claimsIn [] ps = ps
 claimsIn (x ∷ xs) ps = addClaim x (claimsIn xs ps)
+
+-- those of them that have bit 32
+unfoldable pub doubtfulIn : List Block → List Block
+doubtfulIn [] = []
+doubtfulIn (x ∷ xs) = cond (isDoubtful (x .head)) (x ∷ doubtfulIn xs) (doubtfulIn xs)
 
 -- a block with bit 8 that is whole ends its channel
 unfoldable pub isCompleteEnd : Block → Bool

@@ -1,4 +1,4 @@
--- Lists of calls: each gets transfer, file and ledger as the last left them.
+-- Lists of calls: each gets transfer, file and ledgers as the last left them.
 use Prim.Native.Nat.{ℕ}
 use mathlib.Core.List.{List, [], _∷_}
 use lib.ListN.{length}
@@ -20,9 +20,10 @@ foldCalls f w (k ∷ ks) =
     let r = foldCalls f (a .1) ks in
     (a .0 ∷ r .0, r .1)
 
--- what start leaves of a lent ledger, with a file of the length that it was told
-unfoldable pub startedWorld : List ℕ → List ℕ → World
-startedWorld file claimed = world (startOf (length file) claimed) file (startAfter claimed)
+-- what start leaves of two lent ledgers, with a file of the length that it was told
+unfoldable pub startedWorld : List ℕ → List ℕ → List ℕ → World
+startedWorld file claimed doubtful =
+    world (startOf (length file) claimed doubtful) file (startAfter claimed doubtful claimed) (startAfter claimed doubtful doubtful)
 
 abbrev pub answersOf : World → List Call → List Answer
 answersOf w ks = foldCalls callOf w ks .0

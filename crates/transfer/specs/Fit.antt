@@ -1,10 +1,10 @@
--- FIT (document 01's word): whether transfer, file and ledger belong together.
+-- FIT (document 01's word; document 02, Item 3): whether transfer, file and ledgers belong together.
 use Prim.Native.Nat.{ℕ, zero, suc, _+_, _*_}
 use mathlib.Core.Bool.{Bool, true, false, cond, _&&_, _||_}
 use mathlib.Core.List.{List, [], _∷_}
 use lib.Dec.{leb, ltb, eqb}
 use lib.ListN.{length, take, drop}
-use Rattle.ledger.specs.Pairs.{Pairs, inside, endsAtMost}
+use Rattle.ledger.specs.Pairs.{Pairs, inside, allInside, endsAtMost}
 use Rattle.ledger.specs.Ledger.{allZero, obeys, pairsOf}
 use Rattle.eblock.specs.Header.{countLimit}
 use Rattle.transfer.specs.declared.state.Channel.{Channel}
@@ -65,9 +65,9 @@ faultFits t = cond (eqb (t .fault) 0) (eqb (t .on) 0) (leb 11 (t .fault) && (leb
 
 -- ---- the whole
 
--- all but the file's length: what the screen line tests
-unfoldable pub fitsWithoutFile : Transfer → List ℕ → Bool
-fitsWithoutFile t claimed =
+-- the transfer and the claimed ledger
+unfoldable pub claimedFits : Transfer → List ℕ → Bool
+claimedFits t claimed =
     leb (t .pairs) pairLimit
     && (eqb (length claimed) (2 * t .pairs)
     && (obeys claimed
@@ -79,5 +79,13 @@ fitsWithoutFile t claimed =
     && (countFits t
     && faultFits t))))))))
 
+-- the doubtful ledger beside it: as long, by the ledger rule, and with no range that a claimed one does not enclose
+unfoldable pub doubtfulFits : ℕ → List ℕ → List ℕ → Bool
+doubtfulFits R claimed doubtful = eqb (length doubtful) (2 * R) && (obeys doubtful && allInside (pairsOf doubtful) (pairsOf claimed))
+
+-- all but the file's length: what the screen line tests
+unfoldable pub fitsWithoutFile : Transfer → List ℕ → List ℕ → Bool
+fitsWithoutFile t claimed doubtful = claimedFits t claimed && doubtfulFits (t .pairs) claimed doubtful
+
 unfoldable pub fits : World → Bool
-fits w = eqb (length (w .lent .file)) (w .t .len) && fitsWithoutFile (w .t) (w .lent .ledger)
+fits w = eqb (length (w .lent .file)) (w .t .len) && fitsWithoutFile (w .t) (w .lent .claimed) (w .lent .doubtful)

@@ -10,7 +10,7 @@ use Rattle.ledger.specs.Ledgers.{Obeys}
 use Rattle.transfer.specs.declared.state.Channel.{Channel}
 use Rattle.transfer.specs.declared.state.Transfer.{Transfer}
 use Rattle.transfer.specs.Channel.{ended, channelAt, stateAt}
-use Rattle.transfer.specs.Transfer.{sum, endedOf, usedOf, World, world}
+use Rattle.transfer.specs.Transfer.{sum, endedOf, usedOf, World, world, isDoubted, doubtOf}
 use Rattle.transfer.specs.Receive.{afterByte, takeByte, takeBytes}
 use Rattle.transfer.specs.Calls.{Call, callOf}
 use Rattle.transfer.specs.Fit.{fitsWithoutFile, fits}
@@ -36,11 +36,16 @@ FaultSays t = ((t .fault ≡ 0) × (t .on ≡ 0)) ⊎ ((11 ≤ t .fault) × (t .
 pub record Fit (w : World) : Type 0 where
   -- the file has F bytes
   pub file : length (w .lent .file) ≡ w .t .len
-  -- the ledger has 2R entries, R at most 4,096, and obeys its rule, with no end above F
-  pub entries : length (w .lent .ledger) ≡ 2 * w .t .pairs
+  -- the claimed ledger has 2R entries, R at most 4,096, and obeys its rule, with no end above F
+  pub entries : length (w .lent .claimed) ≡ 2 * w .t .pairs
   pub pairs : w .t .pairs ≤ 4096
-  pub rule : Obeys (w .t .pairs) (w .lent .ledger)
-  pub ends : (i : ℕ) → getD (w .lent .ledger) (2 * i + 1) 0 ≤ w .t .len
+  pub rule : Obeys (w .t .pairs) (w .lent .claimed)
+  pub ends : (i : ℕ) → getD (w .lent .claimed) (2 * i + 1) 0 ≤ w .t .len
+  -- the doubtful ledger is as long, obeys the ledger rule, and has no range that a claimed one does not enclose (document 02, Item 3)
+  pub doubtful-entries : length (w .lent .doubtful) ≡ 2 * w .t .pairs
+  pub doubtful-rule : Obeys (w .t .pairs) (w .lent .doubtful)
+  pub doubtful-inside : (i : ℕ) → 0 < getD (w .lent .doubtful) (2 * i + 1) 0
+      → (j : ℕ) × (getD (w .lent .claimed) (2 * j) 0 ≤ getD (w .lent .doubtful) (2 * i) 0) × (getD (w .lent .doubtful) (2 * i + 1) 0 ≤ getD (w .lent .claimed) (2 * j + 1) 0)
   -- there are 64 channels with 16 held bytes each, and their states are those of the struct
   pub channels : length (w .t .channels) ≡ 64
   pub heads : length (w .t .heads) ≡ 1024
@@ -48,7 +53,7 @@ pub record Fit (w : World) : Type 0 where
   -- each payload has 1 or more bytes left, inside one claimed range
   pub left : (c : ℕ) → c < 64 → InPayload (channelAt (w .t) c) → 0 < channelAt (w .t) c .left
   pub inside : (c : ℕ) → c < 64 → InPayload (channelAt (w .t) c)
-      → (i : ℕ) × (getD (w .lent .ledger) (2 * i) 0 ≤ channelAt (w .t) c .next) × (channelAt (w .t) c .next + channelAt (w .t) c .left ≤ getD (w .lent .ledger) (2 * i + 1) 0)
+      → (i : ℕ) × (getD (w .lent .claimed) (2 * i) 0 ≤ channelAt (w .t) c .next) × (channelAt (w .t) c .next + channelAt (w .t) c .left ≤ getD (w .lent .claimed) (2 * i + 1) 0)
   -- no two such rests share a byte
   pub apart : (c d p : ℕ) → c < d → d < 64 → Awaits (channelAt (w .t) c) p → Awaits (channelAt (w .t) d) p → ⊥
   -- no header holds more than 16 bytes
@@ -66,8 +71,11 @@ EndsBelowCount w v c = stateAt (w .t) c ≢ ended → stateAt (v .t) c ≡ ended
 
 pub record Fitting : Type 0 where
   -- FIT without the file, which the screen line tests: with every file of F bytes they fit
-  pub without-file : (t : Transfer) (claimed : List ℕ) → (fitsWithoutFile t claimed ≡ true) ↔ ((file : List ℕ) → length file ≡ t .len → Fit (world t file claimed))
+  pub without-file : (t : Transfer) (claimed doubtful : List ℕ)
+      → (fitsWithoutFile t claimed doubtful ≡ true) ↔ ((file : List ℕ) → length file ≡ t .len → Fit (world t file claimed doubtful))
   pub says : (w : World) → (fits w ≡ true) ↔ Fit w
+  -- a doubtful range is there exactly where doubtful bytes are
+  pub doubted-is : (w : World) → Fit w → (isDoubted w ≡ true) ↔ (0 < doubtOf w)
   -- used are the channels not unused
   pub used-are : (w : World) → Fit w → usedOf (w .t) ≡ sum (λ (k : Channel). cond (eqb (k .state) 0) 0 1) (w .t .channels)
   -- every byte on every channel keeps it, in any world that fits, and so does every call

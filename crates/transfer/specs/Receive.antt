@@ -1,4 +1,4 @@
--- Receive (document 01, "One transfer"): a call is its piece's bytes taken one after the other.
+-- Receive (document 01, "One transfer"; document 02, Item 3): a call is its piece's bytes taken one after the other.
 use Prim.Native.Nat.{ℕ, zero, suc}
 use mathlib.Core.Bool.{Bool, true, false, cond, _&&_, not}
 use mathlib.Core.List.{List, [], _∷_, _++_}
@@ -7,7 +7,7 @@ use lib.ListN.{length, set}
 use Rattle.ledger.specs.Pairs.{join}
 use Rattle.ledger.specs.Ledger.{pairsOf, laidOut}
 use Rattle.transfer.specs.Channel.{channelCount, heldLimit, State, unused, header, payload, ended, stateAt, putState, putFault, putCount}
-use Rattle.transfer.specs.Transfer.{usedOf, World, withTransfer, Verdict, guess, result, broken, verdictOf}
+use Rattle.transfer.specs.Transfer.{usedOf, World, world, withTransfer, Verdict, guess, result, suspect, broken, verdictOf}
 use Rattle.transfer.specs.Header.{endsChannel, payloadLength, HeaderRequest, counts, claims, nothing, faulty, requestOf, claimFault}
 use Rattle.transfer.specs.Fit.{fits}
 
@@ -24,7 +24,7 @@ afterByte (notTaken w) = w
 
 -- ---- a fault, and the beginning of a payload
 
--- a fault stops the call and leaves the channel in a header of which nothing is held; file, ledger, count and the other channels stay
+-- a fault stops the call and leaves the channel in a header of which nothing is held; file, ledgers, count and the other channels stay
 unfoldable pub stopWithFault : World → ℕ → ℕ → Outcome World
 stopWithFault w c k = stops (withTransfer w (putFault (putState (w .t) c (header [])) k c))
 
@@ -36,17 +36,22 @@ expectPayload w c p (suc n) e = continues (withTransfer w (putState (w .t) c (pa
 
 -- ---- a header's 17th byte
 
-unfoldable pub claimRange : World → ℕ → ℕ → World
-claimRange w s e =
-    record { t = w .t; lent = record { file = w .lent .file; ledger = laidOut (w .t .pairs) (join s e (pairsOf (w .lent .ledger))) } }
+-- a ledger of R pairs with the range from s to e
+unfoldable pub withRange : ℕ → ℕ → ℕ → List ℕ → List ℕ
+withRange R s e ledger = laidOut R (join s e (pairsOf ledger))
+
+-- the range is claimed, and in both ledgers where it is doubtful
+unfoldable pub claimRange : World → ℕ → ℕ → Bool → World
+claimRange w s e doubt =
+    world (w .t) (w .lent .file) (withRange (w .t .pairs) s e (w .lent .claimed)) (cond doubt (withRange (w .t .pairs) s e (w .lent .doubtful)) (w .lent .doubtful))
 
 unfoldable pub applyRequest : World → ℕ → List ℕ → HeaderRequest → Outcome World
 applyRequest w c h (faulty k) = stopWithFault w c k
 applyRequest w c h (counts n) = expectPayload (withTransfer w (putCount (w .t) n)) c 0 0 (endsChannel h)
 applyRequest w c h nothing = expectPayload w c 0 0 (endsChannel h)
-applyRequest w c h (claims s e) =
-    let k = claimFault (w .t .pairs) (pairsOf (w .lent .ledger)) s e in
-    cond (ltb 0 k) (stopWithFault w c k) (expectPayload (claimRange w s e) c s (payloadLength h) (endsChannel h))
+applyRequest w c h (claims s e doubt) =
+    let k = claimFault (w .t .pairs) (pairsOf (w .lent .claimed)) (pairsOf (w .lent .doubtful)) s e doubt in
+    cond (ltb 0 k) (stopWithFault w c k) (expectPayload (claimRange w s e doubt) c s (payloadLength h) (endsChannel h))
 
 unfoldable pub applyHeader : World → ℕ → List ℕ → Outcome World
 applyHeader w c h = applyRequest w c h (requestOf (w .t .len) (w .t .count) (usedOf (w .t)) h)
@@ -61,7 +66,7 @@ takeHeaderByte w c h b =
 -- of a payload: p the next place, n bytes left
 unfoldable pub storePayloadByte : World → ℕ → ℕ → ℕ → Bool → ℕ → Outcome World
 storePayloadByte w c p zero e b = notTaken w
-storePayloadByte w c p (suc n) e b = expectPayload (record { t = w .t; lent = record { file = set (w .lent .file) p b; ledger = w .lent .ledger } }) c (suc p) n e
+storePayloadByte w c p (suc n) e b = expectPayload (world (w .t) (set (w .lent .file) p b) (w .lent .claimed) (w .lent .doubtful)) c (suc p) n e
 
 -- the first byte of an unused channel is not taken while n is known and used is n: fault 19
 unfoldable pub takeByteIn : State → World → ℕ → ℕ → Outcome World
@@ -88,6 +93,7 @@ takeBytes f w (b ∷ bs) k = elim (f w b) [ continues v ↦ takeBytes f v bs (su
 abbrev pub isGuess : Verdict → Bool
 isGuess guess = true
 isGuess result = false
+isGuess suspect = false
 isGuess broken = false
 
 abbrev pub isEnded : State → Bool

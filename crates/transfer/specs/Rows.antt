@@ -11,7 +11,7 @@ use Rattle.transfer.specs.Calls.{Call, callOf, answersOf, after}
 
 -- the premises carry the order of the numbers
 pub record Rows : Type 1 where
-  -- 1: transfer, file and ledger don't fit
+  -- 1: transfer, file and ledgers don't fit
   pub row-1 : (w : World) (c : ℕ) (piece : List ℕ) → fits w ≡ false → receiveOf w c piece ≡ (refused 1, w)
   -- 2: there is no such channel
   pub row-2 : (w : World) (c : ℕ) (piece : List ℕ) → fits w ≡ true → 64 ≤ c → receiveOf w c piece ≡ (refused 2, w)

@@ -1,17 +1,17 @@
--- The tally (document 01's word): fed only F, R, the ranges held from the beginning, and each call's channel number and piece, it keeps each channel's
+-- The tally (document 01's word; document 02, Item 3): fed only F, R, the ranges held from the beginning, and each call's channel number and piece, it keeps each channel's
 -- taken bytes and any fault. `before` are those ranges: none, until a transfer can be resumed.
 use Prim.Native.Nat.{ℕ, zero, suc}
 use mathlib.Core.Bool.{Bool, true, false, cond, _&&_, not}
 use mathlib.Core.List.{List, [], _∷_, _++_}
 use lib.Dec.{leb, ltb, eqb}
 use lib.ListN.{length, getD, set, replicate}
-use Rattle.ledger.specs.Pairs.{Pairs}
+use Rattle.ledger.specs.Pairs.{Pairs, none, size}
 use Rattle.transfer.specs.Channel.{channelCount, heldLimit}
-use Rattle.transfer.specs.Transfer.{sum, Verdict, guess, result, broken}
+use Rattle.transfer.specs.Transfer.{sum, Verdict, guess, result, suspect, broken}
 use Rattle.transfer.specs.Header.{HeaderRequest, counts, claims, nothing, faulty, requestOf, claimFault}
 use Rattle.transfer.specs.Receive.{Outcome, continues, stops, notTaken, Answer, refused, takeBytes, isGuess, isNonEmpty}
 use Rattle.transfer.specs.Calls.{Call, receive}
-use Rattle.transfer.specs.Block.{Block, cut, partialHeader, countsIn, claimsIn, hasEnded}
+use Rattle.transfer.specs.Block.{Block, cut, partialHeader, countsIn, claimsIn, doubtfulIn, hasEnded}
 
 -- ---- one channel: its taken bytes; faulted where the last header of them was judged a fault
 
@@ -59,6 +59,10 @@ knownCount ss = getD (countsOf ss) 0 0
 abbrev pub claimed : Pairs → List Stream → Pairs
 claimed before ss = claimsIn (blocksOf ss) before
 
+-- the ranges of these that have bit 32
+abbrev pub doubted : List Stream → Pairs
+doubted ss = claimsIn (doubtfulIn (blocksOf ss)) none
+
 abbrev pub oneIf : Bool → ℕ
 oneIf true = 1
 oneIf false = 0
@@ -69,10 +73,13 @@ usedIn ss = sum (λ (s : Stream). oneIf (isNonEmpty (taken s))) ss
 abbrev pub endedIn : List Stream → ℕ
 endedIn ss = sum (λ (s : Stream). oneIf (hasEnded (accepted s))) ss
 
--- BROKEN where there is a fault, else RESULT where the accepted blocks hold one count and as many channels have ended, else GUESS
+-- BROKEN where there is a fault; else, where the accepted blocks hold one count and as many channels have ended, SUSPECT if a range is doubtful and
+-- RESULT if none is; else GUESS
 unfoldable pub tallyVerdict : Tally → Verdict
 tallyVerdict t =
-    cond (ltb 0 (t .fault)) broken (cond (eqb (length (countsOf (countedStreams t))) 1 && eqb (endedIn (countedStreams t)) (knownCount (countedStreams t))) result guess)
+    cond (ltb 0 (t .fault)) broken
+    (cond (eqb (length (countsOf (countedStreams t))) 1 && eqb (endedIn (countedStreams t)) (knownCount (countedStreams t)))
+    (cond (ltb 0 (size (doubted (countedStreams t)))) suspect result) guess)
 
 unfoldable pub empty : Tally
 empty = record { streams = replicate channelCount (intact []); fault = 0; on = 0 }
@@ -100,18 +107,18 @@ applyJudgement t c bs zero = keepBytes t c bs
 applyJudgement t c bs (suc k) = stops (tallyWithFault (withStream t c (faulted bs)) (suc k) c)
 
 -- the fault of what a header asks for, 0 where it has none
-unfoldable pub requestFault : ℕ → Pairs → HeaderRequest → ℕ
-requestFault R ps (faulty k) = k
-requestFault R ps (counts n) = 0
-requestFault R ps nothing = 0
-requestFault R ps (claims s e) = claimFault R ps s e
+unfoldable pub requestFault : ℕ → Pairs → Pairs → HeaderRequest → ℕ
+requestFault R ps ds (faulty k) = k
+requestFault R ps ds (counts n) = 0
+requestFault R ps ds nothing = 0
+requestFault R ps ds (claims s e doubt) = claimFault R ps ds s e doubt
 
 -- one byte on channel c, whose bytes so far are bs
 unfoldable pub tallyByteAfter : ℕ → ℕ → Pairs → Tally → ℕ → List ℕ → ℕ → Outcome Tally
 tallyByteAfter F R before t c bs b =
     cond (not (isNonEmpty bs) && (ltb 0 (knownCount (countedStreams t)) && eqb (usedIn (countedStreams t)) (knownCount (countedStreams t)))) (notTaken (tallyWithFault t 19 c))
     (cond (eqb (length (partialHeader bs)) heldLimit)
-    (applyJudgement t c (bs ++ (b ∷ [])) (requestFault R (claimed before (countedStreams t)) (requestOf F (knownCount (countedStreams t)) (usedIn (countedStreams t)) (partialHeader bs ++ (b ∷ [])))))
+    (applyJudgement t c (bs ++ (b ∷ [])) (requestFault R (claimed before (countedStreams t)) (doubted (countedStreams t)) (requestOf F (knownCount (countedStreams t)) (usedIn (countedStreams t)) (partialHeader bs ++ (b ∷ [])))))
     (keepBytes t c (bs ++ (b ∷ []))))
 
 unfoldable pub tallyByte : ℕ → ℕ → Pairs → Tally → ℕ → ℕ → Outcome Tally

@@ -21,7 +21,7 @@ pub struct Channel {
 pub struct Transfer {
     // The file's length, F.
     pub len: u64,
-    // The ledger's pairs, R.
+    // The pairs of each ledger, R.
     pub pairs: u64,
     // The number of end markers that the sender announced, 0 while it is unknown.
     pub count: u64,

@@ -1,18 +1,20 @@
 // The verdict of a transfer.
 use counts::count;
+use ledger::rule;
 use transfer::state::Transfer;
 ghost use mathlib.Core.Path.{_≡_};
 ghost use mathlib.Core.Bool.{cond, not, _||_};
 ghost use mathlib.Core.List.{List};
 ghost use Prim.Native.Nat.{ℕ, _+_, _<_};
 ghost use lib.Dec.{ltb, eqb};
-ghost use Rattle.transfer.specs.Transfer.{world, guess, result, broken, verdictOf};
+ghost use Rattle.transfer.specs.Transfer.{world, guess, result, suspect, broken, verdictOf};
 ghost use Rattle.verdicts.specs.Verdict.{toVerdict, countReached};
 
-// The three words of the screen.
+// The four words of the screen.
 pub enum Verdict {
     Guess,
     Result,
+    Suspect,
     Broken,
 }
 
@@ -36,7 +38,7 @@ pub fn is_guess(fault: u64, count: u64, ended: u64) -> bool
     !count_reached(count, ended)
 }
 
-// How many channels other than this one have to have ended for RESULT, this one being in that state.
+// How many channels other than this one have to have ended for RESULT or SUSPECT, this one being in that state.
 fn others_needed(count: u64, state: u8) -> u64
     requires { ⌜ 0 < count ⌝ }
     ensures { λ r. ⌜ r + cond (eqb state 4) 1 0 ≡ count ⌝ }
@@ -47,9 +49,19 @@ fn others_needed(count: u64, state: u8) -> u64
     count
 }
 
-// The verdict by the fault, the count, and how many channels have ended beside one in that state.
-pub fn of(fault: u64, count: u64, others: u64, state: u8) -> Verdict
-    ensures { λ r. ⌜ toVerdict r ≡ cond (ltb 0 fault) broken (cond (countReached count (others + cond (eqb state 4) 1 0)) result guess) ⌝ }
+// The last word, where something is doubtful or not.
+fn last_word(doubted: bool) -> Verdict
+    ensures { λ r. ⌜ toVerdict r ≡ cond doubted suspect result ⌝ }
+{
+    if doubted {
+        return Verdict::Suspect;
+    }
+    Verdict::Result
+}
+
+// The verdict by the fault, the count, how many channels have ended beside one in that state, and whether something is doubtful.
+pub fn of(fault: u64, count: u64, others: u64, state: u8, doubted: bool) -> Verdict
+    ensures { λ r. ⌜ toVerdict r ≡ cond (ltb 0 fault) broken (cond (countReached count (others + cond (eqb state 4) 1 0)) (cond doubted suspect result) guess) ⌝ }
 {
     if 0 < fault {
         return Verdict::Broken;
@@ -58,14 +70,21 @@ pub fn of(fault: u64, count: u64, others: u64, state: u8) -> Verdict
         return Verdict::Guess;
     }
     if others == others_needed(count, state) {
-        return Verdict::Result;
+        return last_word(doubted);
     }
     Verdict::Guess
 }
 
-// BROKEN where there is a fault, else RESULT where a count is known and as many channels have ended, else GUESS.
-pub fn of_transfer(t: Transfer) -> Verdict
-    ensures { λ r. ⌜ ((file ledger : List ℕ) → toVerdict r ≡ verdictOf (world t file ledger)) ⌝ }
+// BROKEN where there is a fault; else, where a count is known and as many channels have ended, SUSPECT if the doubtful ledger has a used pair and
+// RESULT if not; else GUESS.
+pub fn of_transfer(t: Transfer, doubtful: &[u64]) -> Verdict
+    ensures { λ r. ⌜ ((file claimed : List ℕ) → toVerdict r ≡ verdictOf (world t file claimed (now (doubtful .entry)))) ⌝ }
 {
-    of(t.fault, t.count, count::ended(t), 0)
+    of(
+        t.fault,
+        t.count,
+        count::ended(t),
+        0,
+        rule::has_pair(doubtful),
+    )
 }

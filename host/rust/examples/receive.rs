@@ -3,26 +3,28 @@
 //!     cargo run --example receive -- ../../recordings/gs-p8-100-b1.rec
 
 use cobnutter::recording::{requests, Request};
-use cobnutter::{Refusal, Transfer, Verdict};
+use cobnutter::{ranges, Ledgers, Refusal, Transfer, Verdict};
 use std::error::Error;
 
-/// One transfer, into a file in memory, which is the sender's only where the word is RESULT.
+/// One transfer, into a file in memory, which is the sender's only where the word is RESULT or SUSPECT.
 fn receive(
     len: u64,
     entries: u64,
     arriving: &[(u64, &[u8])],
-) -> Result<(Verdict, Vec<u8>), Refusal> {
+) -> Result<(Verdict, Vec<u8>, Ledgers), Refusal> {
     let mut file = vec![0; len as usize];
-    let mut ledger = vec![0; entries as usize];
-    let mut transfer = Transfer::start(len, &mut ledger)?;
+    let mut ledgers = Ledgers::new(entries as usize / 2);
+    let mut transfer = Transfer::start(len, &mut ledgers)?;
+    let mut word = Verdict::Guess;
     for (channel, piece) in arriving {
-        let received = transfer.receive(*channel, piece, &mut file, &mut ledger)?;
-        print!("{}", transfer.screen_line(&ledger)?);
-        if received.verdict != Verdict::Guess {
+        let received = transfer.receive(*channel, piece, &mut file, &mut ledgers)?;
+        print!("{}", transfer.screen_line(&ledgers)?);
+        word = received.verdict;
+        if word != Verdict::Guess {
             break;
         }
     }
-    Ok((transfer.verdict(), file))
+    Ok((word, file, ledgers))
 }
 
 fn pieces<'a>(requests: &[Request<'a>]) -> Vec<(u64, &'a [u8])> {
@@ -40,9 +42,15 @@ fn main() -> Result<(), Box<dyn Error>> {
     let is_piece = |request: &Request| matches!(request, Request::Piece { .. });
     for transfer in requests.chunk_by(|_, next| is_piece(next)) {
         if let Request::Start { len, entries } = transfer[0] {
-            match receive(len, entries, &pieces(transfer))? {
-                (Verdict::Result, file) => println!("received: a file of {} bytes", file.len()),
-                (word, _) => println!("not received: {word}"),
+            let (word, file, ledgers) = receive(len, entries, &pieces(transfer))?;
+            match word {
+                Verdict::Result => println!("received: a file of {} bytes", file.len()),
+                Verdict::Suspect => println!(
+                    "received: a file of {} bytes, of which the sender suspects {}",
+                    file.len(),
+                    ranges::write(ledgers.doubtful())?
+                ),
+                Verdict::Guess | Verdict::Broken => println!("not received: {word}"),
             }
         }
     }

@@ -3,7 +3,7 @@
 //!
 //!     cargo run --example send
 
-use cobnutter::{Sender, Transfer, Verdict};
+use cobnutter::{Ledgers, Sender, Transfer, Verdict};
 use std::error::Error;
 use std::io::{Read, Write};
 use std::net::{SocketAddr, TcpListener, TcpStream};
@@ -61,25 +61,27 @@ fn accept_all(listener: &TcpListener) -> Outcome<Vec<(u64, TcpStream)>> {
 fn receive(mut connections: Vec<(u64, TcpStream)>) -> Outcome<(Verdict, Vec<u8>)> {
     let mut random = Random(1);
     let mut file = vec![0; FILE.len()];
-    let mut ledger = vec![0; 2 * FILE.len().div_ceil(SIZE as usize)];
-    let mut transfer = Transfer::start(file.len() as u64, &mut ledger)?;
+    let mut ledgers = Ledgers::new(FILE.len().div_ceil(SIZE as usize));
+    let mut transfer = Transfer::start(file.len() as u64, &mut ledgers)?;
+    let mut word = Verdict::Guess;
     let mut shown = String::new();
-    while transfer.verdict() == Verdict::Guess && !connections.is_empty() {
+    while word == Verdict::Guess && !connections.is_empty() {
         let at = random.below(connections.len());
         let (channel, connection) = &mut connections[at];
         let mut piece = vec![0; 1 + random.below(LONGEST_PIECE)];
         let length = connection.read(&mut piece)?;
-        transfer.receive(*channel, &piece[..length], &mut file, &mut ledger)?;
+        let received = transfer.receive(*channel, &piece[..length], &mut file, &mut ledgers)?;
+        word = received.verdict;
         if length == 0 {
             connections.swap_remove(at);
         }
-        let line = transfer.screen_line(&ledger)?;
+        let line = transfer.screen_line(&ledgers)?;
         if line != shown {
             print!("{line}");
             shown = line;
         }
     }
-    Ok((transfer.verdict(), file))
+    Ok((word, file))
 }
 
 fn main() -> Outcome<()> {

@@ -1,19 +1,19 @@
 //! Both sides of GridFTP's extended block mode (MODE E), receiving and sending, over functions that are proved to
 //! answer as defined.
 //!
-//! A host opens the sockets and owns all memory: the file, a *ledger* of ranges, and the pieces of bytes as they arrive.
-//! [`Transfer`] says where each byte of a piece goes, puts it there, and shows one of three words ([`Verdict`]).
+//! A host opens the sockets and owns all memory: the file, two *ledgers* of ranges ([`Ledgers`]), and the pieces of bytes as
+//! they arrive. [`Transfer`] says where each byte of a piece goes, puts it there, and shows one of four words ([`Verdict`]).
 //!
 //! ```
 //! # fn arriving() -> Vec<(u64, Vec<u8>)> { Vec::new() }
-//! use cobnutter::{Transfer, Verdict};
+//! use cobnutter::{Ledgers, Transfer, Verdict};
 //!
 //! let mut file = vec![0; 100];
-//! let mut ledger = vec![0; 2 * 16]; // up to 16 ranges at a time
-//! let mut transfer = Transfer::start(file.len() as u64, &mut ledger)?;
+//! let mut ledgers = Ledgers::new(16); // up to 16 ranges at a time, in each
+//! let mut transfer = Transfer::start(file.len() as u64, &mut ledgers)?;
 //! for (channel, piece) in arriving() {
-//!     let received = transfer.receive(channel, &piece, &mut file, &mut ledger)?;
-//!     print!("{}", transfer.screen_line(&ledger)?);
+//!     let received = transfer.receive(channel, &piece, &mut file, &mut ledgers)?;
+//!     print!("{}", transfer.screen_line(&ledgers)?);
 //!     if received.verdict != Verdict::Guess {
 //!         break;
 //!     }
@@ -46,12 +46,14 @@
 //! - A channel is a number below 64 that the host gives to a data connection. The pieces of one channel come in order.
 //! - Where a channel ends, `taken` may be less than the piece: the rest belongs to the next transfer on that connection.
 //! - A peer's fault is no [`Refusal`]: the call succeeds, and the verdict is [`Verdict::Broken`] from then on.
-//! - [`Transfer::receive`] tests that transfer, file and ledger belong together, and refuses with 1 where they do not;
-//!   [`Transfer::screen_line`] tests the same without the file. [`Transfer::verdict`] and [`Transfer::stored`] test nothing.
+//! - [`Transfer::receive`] tests that transfer, file and ledgers belong together, and refuses with 1 where they do not;
+//!   [`Transfer::screen_line`] and [`Transfer::shown`] test the same without the file.
 //! - A sender counts the connections of each listener apart, so a host keeps one transfer for each listener.
 //! - A cached connection that the sender closes (a first byte of 4) is not fed into the next transfer.
-//! - [`Verdict::Result`] says that all the sender counted is here. Whether that fills the file, the host sees by
-//!   [`Transfer::stored`].
+//! - [`Verdict::Result`] and [`Verdict::Suspect`] say that all the sender counted is here. Whether that fills the file, the
+//!   host sees by [`Shown::bytes`].
+//! - [`Verdict::Suspect`] says besides that the sender suspects some of it of errors; [`Ledgers::doubtful`] says which
+//!   bytes.
 //!
 //! What a host that sends has to know:
 //!
@@ -67,6 +69,7 @@
 
 pub mod header;
 pub mod hosts;
+mod ledgers;
 pub mod line;
 pub mod ranges;
 pub mod raw;
@@ -75,12 +78,15 @@ mod refusal;
 pub mod reply;
 pub mod saved;
 mod sender;
+mod shown;
 mod transfer;
 mod verdict;
 mod written;
 
+pub use ledgers::Ledgers;
 pub use refusal::{meaning, Refusal};
 pub use sender::Sender;
+pub use shown::Shown;
 pub use transfer::{Received, Transfer};
 pub use verdict::Verdict;
 
@@ -90,5 +96,5 @@ pub const CHANNELS: u64 = 64;
 /// The most bytes of the file in a block that is sent.
 pub const BLOCK_LIMIT: u64 = 65_536;
 
-/// The most entries of a ledger.
+/// The most entries of a ledger, two for each range.
 pub const LEDGER_LIMIT: usize = 8192;

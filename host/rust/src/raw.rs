@@ -2,9 +2,10 @@
 //!
 //! In every answer `refused` is the number of the refusal, 0 where there is none, and a field that means nothing in a case
 //! is 0. A slice is a pointer and a length. No two slices of one call may overlap, and a pointer is never null, not even
-//! with the length 0; [`slice::as_ptr`] of a Rust slice is never null.
+//! with the length 0; [`slice::as_ptr`] of a Rust slice is never null. `cob2_` names what lent one ledger in the first
+//! version of the library and lends two now: a program that was built for that version does not link.
 
-/// One of a transfer's 64 channels.
+/// One of a transfer's 64 channels. Its fields are the library's own, as those of [`Transfer`] are.
 #[repr(C)]
 #[derive(Clone, Copy, Debug, Default, PartialEq, Eq)]
 pub struct Channel {
@@ -18,13 +19,14 @@ pub struct Channel {
     pub left: u64,
 }
 
-/// What a receiver remembers between calls.
+/// What a receiver remembers between calls. The fields are the library's own: a host holds a transfer and hands it on. They
+/// are listed because it goes by value. What they say is asked with [`cob_shown`].
 #[repr(C)]
 #[derive(Clone, Copy, Debug, PartialEq, Eq)]
 pub struct Transfer {
     /// The file's length, F.
     pub len: u64,
-    /// The ledger's pairs, R.
+    /// The pairs of each ledger, R.
     pub pairs: u64,
     /// The number of end markers that the sender announced; 0 while it is unknown.
     pub count: u64,
@@ -50,7 +52,28 @@ pub struct Received {
     pub transfer: Transfer,
     /// The bytes of the piece that were taken.
     pub taken: usize,
-    /// 0 GUESS, 1 RESULT, 2 BROKEN.
+    /// 0 GUESS, 1 RESULT, 2 BROKEN, 3 SUSPECT, also where the call is refused.
+    pub verdict: u8,
+    pub refused: u8,
+}
+
+/// What the screen line says.
+#[repr(C)]
+#[derive(Clone, Copy, Debug, PartialEq, Eq)]
+pub struct Shown {
+    /// The channels that have ended.
+    pub ended: u64,
+    /// The number of end markers that the sender announced; 0 while it is unknown.
+    pub count: u64,
+    /// The fault's number; 0 where there is none.
+    pub fault: u64,
+    /// The fault's channel; 0 where there is none.
+    pub on: u64,
+    /// The payload bytes stored since the start.
+    pub bytes: u64,
+    /// How many bytes the doubtful ranges hold, whatever the verdict is.
+    pub doubtful: u64,
+    /// 0 GUESS, 1 RESULT, 2 BROKEN, 3 SUSPECT.
     pub verdict: u8,
     pub refused: u8,
 }
@@ -147,27 +170,41 @@ pub struct Found {
 }
 
 extern "C" {
-    /// A fresh transfer for a file of `len` bytes; zeroes the ledger.
-    pub fn cob_start(len: u64, ledger: *mut u64, ledger_len: usize) -> Started;
+    /// A fresh transfer for a file of `len` bytes; zeroes both ledgers.
+    pub fn cob2_start(
+        len: u64,
+        claimed: *mut u64,
+        claimed_len: usize,
+        doubtful: *mut u64,
+        doubtful_len: usize,
+    ) -> Started;
     /// Takes a piece that arrived on a channel.
-    pub fn cob_receive(
+    pub fn cob2_receive(
         transfer: Transfer,
         channel: u64,
         piece: *const u8,
         piece_len: usize,
         file: *mut u8,
         file_len: usize,
-        ledger: *mut u64,
-        ledger_len: usize,
+        claimed: *mut u64,
+        claimed_len: usize,
+        doubtful: *mut u64,
+        doubtful_len: usize,
     ) -> Received;
-    /// 0 GUESS, 1 RESULT, 2 BROKEN.
-    pub fn cob_verdict(transfer: Transfer) -> u8;
-    /// The payload bytes stored since start.
-    pub fn cob_stored(transfer: Transfer, ledger: *const u64, ledger_len: usize) -> u64;
-    pub fn cob_screen_line(
+    /// The screen line as numbers.
+    pub fn cob_shown(
         transfer: Transfer,
-        ledger: *const u64,
-        ledger_len: usize,
+        claimed: *const u64,
+        claimed_len: usize,
+        doubtful: *const u64,
+        doubtful_len: usize,
+    ) -> Shown;
+    pub fn cob2_screen_line(
+        transfer: Transfer,
+        claimed: *const u64,
+        claimed_len: usize,
+        doubtful: *const u64,
+        doubtful_len: usize,
         out: *mut u8,
         out_len: usize,
     ) -> Written;

@@ -29,11 +29,11 @@ impl std::error::Error for Refusal {}
 /// What a number means, of a refusal or of a fault.
 pub fn meaning(number: u64) -> &'static str {
     match number {
-        1 => "transfer, file and ledger do not fit each other, or the ledger breaks its rule",
+        1 => "transfer, file and ledgers do not fit each other, or a ledger breaks its rule",
         2 => "the channel is 64 or above",
-        3 => "the transfer is over: its verdict is RESULT or BROKEN",
+        3 => "the transfer is over: its verdict is not GUESS",
         4 => "the channel has ended",
-        5 => "a ledger of an odd number of entries, or of more than 8,192",
+        5 => "ledgers of unequal lengths, of an odd number of entries, or of more than 8,192",
         11 => "a descriptor with an unknown bit",
         12 => "a descriptor that marks a record or a restart",
         13 => "a descriptor whose bits do not go together",
@@ -41,7 +41,7 @@ pub fn meaning(number: u64) -> &'static str {
         15 => "a count of end markers that is 0, above 64 or below the channels in use",
         16 => "a payload that runs past the end of the file",
         17 => "a payload that shares a byte with another",
-        18 => "a payload for which the ledger has no pair left",
+        18 => "a payload for which a ledger has no pair left",
         19 => "one channel more than the sender counted",
         21 => "a header that does not have 17 bytes",
         31 => "a line of more than 2,048 bytes",

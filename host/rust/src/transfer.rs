@@ -1,12 +1,12 @@
 use crate::raw;
 use crate::written::{text, written};
-use crate::{Refusal, Verdict};
+use crate::{Ledgers, Refusal, Shown, Verdict};
 
 /// More bytes than any screen line has.
-const SCREEN_LINE: usize = 64;
+const SCREEN_LINE: usize = 96;
 
-/// One transfer: what the receiver remembers between calls. The file and the ledger are lent to each call, and have to be
-/// the same ones each time.
+/// One transfer: what the receiver remembers between calls. The file and the ledgers are lent to each call, and have to
+/// be the same ones each time.
 #[derive(Clone, Debug, PartialEq, Eq)]
 pub struct Transfer {
     raw: raw::Transfer,
@@ -21,10 +21,19 @@ pub struct Received {
 }
 
 impl Transfer {
-    /// Begins a transfer into a file of `file_len` bytes, and zeroes the ledger. A ledger of 2R entries holds R ranges; it
-    /// has an even number of entries, at most 8,192, else the refusal is 5.
-    pub fn start(file_len: u64, ledger: &mut [u64]) -> Result<Transfer, Refusal> {
-        let answer = unsafe { raw::cob_start(file_len, ledger.as_mut_ptr(), ledger.len()) };
+    /// Begins a transfer into a file of `file_len` bytes, and zeroes the ledgers. They have the same number of entries, an
+    /// even one, at most 8,192, else the refusal is 5.
+    pub fn start(file_len: u64, ledgers: &mut Ledgers) -> Result<Transfer, Refusal> {
+        let (claimed, doubtful) = ledgers.lent_mut();
+        let answer = unsafe {
+            raw::cob2_start(
+                file_len,
+                claimed.as_mut_ptr(),
+                claimed.len(),
+                doubtful.as_mut_ptr(),
+                doubtful.len(),
+            )
+        };
         Refusal::unless(answer.refused, Transfer::from_raw(answer.transfer))
     }
 
@@ -35,18 +44,21 @@ impl Transfer {
         channel: u64,
         piece: &[u8],
         file: &mut [u8],
-        ledger: &mut [u64],
+        ledgers: &mut Ledgers,
     ) -> Result<Received, Refusal> {
+        let (claimed, doubtful) = ledgers.lent_mut();
         let answer = unsafe {
-            raw::cob_receive(
+            raw::cob2_receive(
                 self.raw,
                 channel,
                 piece.as_ptr(),
                 piece.len(),
                 file.as_mut_ptr(),
                 file.len(),
-                ledger.as_mut_ptr(),
-                ledger.len(),
+                claimed.as_mut_ptr(),
+                claimed.len(),
+                doubtful.as_mut_ptr(),
+                doubtful.len(),
             )
         };
         self.raw = answer.transfer;
@@ -57,23 +69,31 @@ impl Transfer {
         Refusal::unless(answer.refused, received)
     }
 
-    pub fn verdict(&self) -> Verdict {
-        Verdict::of(unsafe { raw::cob_verdict(self.raw) })
+    /// What the screen line says, as numbers. Refused with 1 where transfer and ledgers do not fit.
+    pub fn shown(&self, ledgers: &Ledgers) -> Result<Shown, Refusal> {
+        let (claimed, doubtful) = (ledgers.claimed(), ledgers.doubtful());
+        Shown::from_raw(unsafe {
+            raw::cob_shown(
+                self.raw,
+                claimed.as_ptr(),
+                claimed.len(),
+                doubtful.as_ptr(),
+                doubtful.len(),
+            )
+        })
     }
 
-    /// The payload bytes that were stored since start.
-    pub fn stored(&self, ledger: &[u64]) -> u64 {
-        unsafe { raw::cob_stored(self.raw, ledger.as_ptr(), ledger.len()) }
-    }
-
-    /// The line for the screen, which ends with LF.
-    pub fn screen_line(&self, ledger: &[u64]) -> Result<String, Refusal> {
+    /// The line for the screen, which ends with LF. Refused as [`Transfer::shown`] is.
+    pub fn screen_line(&self, ledgers: &Ledgers) -> Result<String, Refusal> {
+        let (claimed, doubtful) = (ledgers.claimed(), ledgers.doubtful());
         let out = vec![0; SCREEN_LINE];
         written(out, |out| unsafe {
-            raw::cob_screen_line(
+            raw::cob2_screen_line(
                 self.raw,
-                ledger.as_ptr(),
-                ledger.len(),
+                claimed.as_ptr(),
+                claimed.len(),
+                doubtful.as_ptr(),
+                doubtful.len(),
                 out.as_mut_ptr(),
                 out.len(),
             )
@@ -81,19 +101,11 @@ impl Transfer {
         .map(text)
     }
 
-    /// The number of the peer's fault and its channel; [`meaning`](crate::meaning) says it in words.
-    pub fn fault(&self) -> Option<(u64, u64)> {
-        match self.raw.fault {
-            0 => None,
-            number => Some((number, self.raw.on)),
-        }
-    }
-
     pub fn raw(&self) -> &raw::Transfer {
         &self.raw
     }
 
-    /// Any numbers are allowed: `receive` and `screen_line` refuse with 1 what does not fit.
+    /// Any numbers are allowed: each call refuses with 1 what does not fit.
     pub fn from_raw(raw: raw::Transfer) -> Transfer {
         Transfer { raw }
     }

@@ -5,9 +5,12 @@ use std::fmt;
 pub enum Verdict {
     /// More may come.
     Guess,
-    /// Every channel that the sender counted has ended, with no fault.
+    /// Every channel that the sender counted has ended, with no fault and no doubt.
     Result,
-    /// A peer's fault, or 18 where the ledger was lent too small; see [`Transfer::fault`](crate::Transfer::fault).
+    /// As final as [`Verdict::Result`], but the sender suspects some of the bytes of errors;
+    /// [`Ledgers::doubtful`](crate::Ledgers::doubtful) has their ranges.
+    Suspect,
+    /// A peer's fault, or 18 where the ledgers were lent too small; see [`Transfer::shown`](crate::Transfer::shown).
     Broken,
 }
 
@@ -16,6 +19,7 @@ impl Verdict {
         match number {
             0 => Verdict::Guess,
             1 => Verdict::Result,
+            3 => Verdict::Suspect,
             _ => Verdict::Broken,
         }
     }
@@ -26,6 +30,7 @@ impl fmt::Display for Verdict {
         f.pad(match self {
             Verdict::Guess => "GUESS",
             Verdict::Result => "RESULT",
+            Verdict::Suspect => "SUSPECT",
             Verdict::Broken => "BROKEN",
         })
     }

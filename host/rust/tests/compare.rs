@@ -11,6 +11,8 @@ mod buffers;
 mod crafted;
 #[path = "compare/deliveries.rs"]
 mod deliveries;
+#[path = "compare/doubtful.rs"]
+mod doubtful;
 #[path = "compare/examples.rs"]
 mod examples;
 #[path = "compare/forms.rs"]
@@ -42,8 +44,9 @@ const ROUNDS: u64 = 400;
 type Kind = fn(&Random, &mut Seen);
 
 /// Each with how often a round does it.
-const KINDS: [(Kind, usize); 14] = [
+const KINDS: [(Kind, usize); 15] = [
     (sessions::one, 2),
+    (sessions::few_pairs, 2),
     (sessions::cached, 1),
     (crafted::few_calls, 150),
     (crafted::start, 2),

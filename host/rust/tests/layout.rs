@@ -16,6 +16,7 @@ fn sizes_and_offsets() {
     layout!(Transfer, 2600, len 0, pairs 8, count 16, fault 24, on 32, heads 40, channels 1064);
     layout!(Started, 2608, transfer 0, refused 2600);
     layout!(Received, 2616, transfer 0, taken 2600, verdict 2608, refused 2609);
+    layout!(Shown, 56, ended 0, count 8, fault 16, on 24, bytes 32, doubtful 40, verdict 48, refused 49);
     layout!(Written, 16, length 0, refused 8);
     layout!(Sender, 536, len 0, count 8, size 16, given 24);
     layout!(Begun, 544, sender 0, refused 536);

@@ -1,23 +1,24 @@
 //! Every recording of the repository, received through the safe API: the lines that are expected of it are beside it.
 
 use cobnutter::recording::{requests, Request};
-use cobnutter::Transfer;
+use cobnutter::{Ledgers, Transfer};
 use std::fs;
 use std::path::{Path, PathBuf};
 
 struct Session {
     file: Vec<u8>,
-    ledger: Vec<u64>,
+    ledgers: Ledgers,
     transfer: Transfer,
 }
 
 impl Session {
     fn start(len: u64, entries: u64) -> Session {
-        let mut ledger = vec![7; entries as usize];
-        let transfer = Transfer::start(len, &mut ledger).unwrap();
+        let sevens = vec![7; entries as usize];
+        let mut ledgers = Ledgers::from_entries(sevens.clone(), sevens);
+        let transfer = Transfer::start(len, &mut ledgers).unwrap();
         Session {
             file: vec![0; len as usize],
-            ledger,
+            ledgers,
             transfer,
         }
     }
@@ -25,10 +26,11 @@ impl Session {
     fn piece(&mut self, channel: u64, bytes: &[u8]) -> String {
         let received = self
             .transfer
-            .receive(channel, bytes, &mut self.file, &mut self.ledger);
+            .receive(channel, bytes, &mut self.file, &mut self.ledgers);
         match received {
             Ok(r) => {
-                assert_eq!(r.verdict, self.transfer.verdict());
+                let shown = self.transfer.shown(&self.ledgers).unwrap();
+                assert_eq!(r.verdict, shown.verdict);
                 format!("TOOK {} {}", r.taken, r.verdict)
             }
             Err(refusal) => format!("REFUSED {}", refusal.number()),
@@ -36,7 +38,7 @@ impl Session {
     }
 
     fn screen(&self) -> String {
-        self.transfer.screen_line(&self.ledger).unwrap()
+        self.transfer.screen_line(&self.ledgers).unwrap()
     }
 }
 

@@ -4,7 +4,7 @@ use cobnutter::header::{self, Header};
 use cobnutter::line::{self, Verb};
 use cobnutter::reply::{self, Class};
 use cobnutter::{hosts, ranges, saved};
-use cobnutter::{meaning, Refusal, Sender, Transfer, Verdict};
+use cobnutter::{meaning, Ledgers, Refusal, Sender, Shown, Transfer, Verdict};
 use cobnutter::{BLOCK_LIMIT, CHANNELS, LEDGER_LIMIT};
 use std::net::{Ipv4Addr, SocketAddrV4};
 
@@ -143,45 +143,121 @@ fn full_ledgers() {
     assert_eq!(number(saved::write(&[0; LEDGER_LIMIT + 2])), 53);
 }
 
+fn block(descriptor: u8, offset: u64, payload: &[u8]) -> Vec<u8> {
+    let header = Header::Data {
+        descriptor,
+        length: payload.len() as u64,
+        offset,
+    };
+    [&header::write(header).unwrap(), payload].concat()
+}
+
 #[test]
 fn a_fault_and_refusals() {
-    let (mut file, mut ledger) = ([0; 8], [0; 2]);
-    assert_eq!(number(Transfer::start(8, &mut [0; 3])), 5);
-    let mut transfer = Transfer::start(8, &mut ledger).unwrap();
-    assert_eq!(transfer.fault(), None);
-    let block = |descriptor, length, offset| {
-        header::write(Header::Data {
-            descriptor,
-            length,
-            offset,
-        })
-        .unwrap()
+    let (mut file, mut ledgers) = ([0; 8], Ledgers::new(1));
+    for (claimed, doubtful) in [(3, 3), (2, 4)] {
+        let mut wrong = Ledgers::from_entries(vec![0; claimed], vec![0; doubtful]);
+        assert_eq!(number(Transfer::start(8, &mut wrong)), 5);
+    }
+    let mut transfer = Transfer::start(8, &mut ledgers).unwrap();
+    let shown = Shown {
+        verdict: Verdict::Guess,
+        ended: 0,
+        count: None,
+        fault: None,
+        bytes: 0,
+        doubtful: 0,
     };
-    let first = [&block(0, 4, 0)[..], b"plai"].concat();
+    assert_eq!(transfer.shown(&ledgers), Ok(shown));
+    let first = block(0, 0, b"plai");
     let before = transfer.clone();
     assert_eq!(
-        number(transfer.receive(0, &first, &mut file[1..], &mut ledger)),
+        number(transfer.receive(0, &first, &mut file[1..], &mut ledgers)),
         1
     );
     assert_eq!(
-        number(transfer.receive(CHANNELS, &first, &mut file, &mut ledger)),
+        number(transfer.receive(CHANNELS, &first, &mut file, &mut ledgers)),
         2
     );
     assert_eq!(transfer, before);
 
-    let received = transfer.receive(0, &first, &mut file, &mut ledger);
+    let received = transfer.receive(0, &first, &mut file, &mut ledgers);
     assert_eq!(received.unwrap().taken, 21);
     assert_eq!(file, *b"plai\0\0\0\0");
-    let received = transfer.receive(1, &block(0, 2, 3), &mut file, &mut ledger);
+    let received = transfer.receive(1, &block(0, 3, b"id"), &mut file, &mut ledgers);
     assert_eq!(received.unwrap().verdict, Verdict::Broken);
-    assert_eq!(transfer.fault(), Some((17, 1)));
-    assert_eq!(transfer.stored(&ledger), 4);
+    let shown = Shown {
+        verdict: Verdict::Broken,
+        fault: Some((17, 1)),
+        bytes: 4,
+        ..shown
+    };
+    assert_eq!(transfer.shown(&ledgers), Ok(shown));
     assert_eq!(
-        transfer.screen_line(&ledger).unwrap(),
+        transfer.screen_line(&ledgers).unwrap(),
         "BROKEN 17 on 1 bytes 4\n"
     );
-    assert_eq!(number(transfer.receive(0, b"", &mut file, &mut ledger)), 3);
-    assert_eq!(number(transfer.screen_line(&[4, 4])), 1);
+    assert_eq!(number(transfer.receive(0, b"", &mut file, &mut ledgers)), 3);
+    ledgers.claimed_mut()[0] = 4;
+    assert_eq!(number(transfer.screen_line(&ledgers)), 1);
+    assert_eq!(number(transfer.shown(&ledgers)), 1);
+}
+
+#[test]
+fn suspected_bytes() {
+    let (mut file, mut ledgers) = ([0; 8], Ledgers::new(2));
+    assert_eq!(
+        (ledgers.claimed(), ledgers.doubtful()),
+        (&[0; 4][..], &[0; 4][..])
+    );
+    let mut transfer = Transfer::start(8, &mut ledgers).unwrap();
+    let eodc = header::write(Header::Eodc {
+        descriptor: 72,
+        count: 2,
+    });
+    for (channel, piece, word, line) in [
+        (
+            0,
+            block(32, 0, b"pl"),
+            "GUESS",
+            "GUESS ended 0 of ? bytes 2\n",
+        ),
+        (
+            1,
+            block(8, 2, b"aid123"),
+            "GUESS",
+            "GUESS ended 1 of ? bytes 8\n",
+        ),
+        (
+            0,
+            eodc.unwrap().to_vec(),
+            "SUSPECT",
+            "SUSPECT ended 2 of 2 bytes 8 doubtful 2\n",
+        ),
+    ] {
+        let received = transfer.receive(channel, &piece, &mut file, &mut ledgers);
+        assert_eq!(received.unwrap().verdict.to_string(), word);
+        assert_eq!(transfer.screen_line(&ledgers).unwrap(), line);
+    }
+    assert_eq!(file, *b"plaid123");
+    assert_eq!(ranges::write(ledgers.claimed()).unwrap(), "0-7");
+    assert_eq!(ranges::write(ledgers.doubtful()).unwrap(), "0-1");
+    let shown = Shown {
+        verdict: Verdict::Suspect,
+        ended: 2,
+        count: Some(2),
+        fault: None,
+        bytes: 8,
+        doubtful: 2,
+    };
+    assert_eq!(transfer.shown(&ledgers), Ok(shown));
+    assert_eq!(number(transfer.receive(0, b"", &mut file, &mut ledgers)), 3);
+
+    ledgers.doubtful_mut()[1] = 9;
+    assert_eq!(number(transfer.shown(&ledgers)), 1);
+    assert_eq!(number(transfer.receive(0, b"", &mut file, &mut ledgers)), 1);
+    ledgers.doubtful_mut().fill(0);
+    assert_eq!(transfer.shown(&ledgers).unwrap().verdict, Verdict::Result);
 }
 
 #[test]

@@ -8,10 +8,11 @@ use Rattle.probe.proofs.run.Statement.{statement}
 use Rattle.probe.proofs.run.Tie as tie
 
 abbrev Inv-loop : tie.InvT-loop
-Inv-loop file₀ ledger₀ source₀ s₀ number₀ file ledger source s number = (length file ≡ length file₀) × (length ledger ≡ length ledger₀) × (length source ≡ length source₀)
+Inv-loop file₀ claimed₀ doubtful₀ source₀ s₀ number₀ file claimed doubtful source s number =
+    (length file ≡ length file₀) × (length claimed ≡ length claimed₀) × (length doubtful ≡ length doubtful₀) × (length source ≡ length source₀)
 
 abbrev μ-loop : tie.MeasureT-loop
-μ-loop file₀ ledger₀ source₀ s₀ number₀ file ledger source s number = 1099511627776 - number
+μ-loop file₀ claimed₀ doubtful₀ source₀ s₀ number₀ file claimed doubtful source s number = 1099511627776 - number
 
 first-requires : tie.Need-first-requires Inv-loop μ-loop
 first-requires c κs = search needs
@@ -31,6 +32,9 @@ same-length-2 c = search needs
 same-length-3 : tie.Need-same-length-3 Inv-loop μ-loop
 same-length-3 c = search needs
 
+same-length-4 : tie.Need-same-length-4 Inv-loop μ-loop
+same-length-4 c = search needs
+
 returns : tie.Need-returns Inv-loop μ-loop
 returns c = search needs
 
@@ -43,14 +47,17 @@ loop-less c = omega arith
 loop-again : tie.Need-loop-again Inv-loop μ-loop
 loop-again c = search needs
 
-same-length-4 : tie.Need-same-length-4 Inv-loop μ-loop
-same-length-4 c = search needs
-
 same-length-5 : tie.Need-same-length-5 Inv-loop μ-loop
 same-length-5 c = search needs
 
 same-length-6 : tie.Need-same-length-6 Inv-loop μ-loop
 same-length-6 c = search needs
+
+same-length-7 : tie.Need-same-length-7 Inv-loop μ-loop
+same-length-7 c = search needs
+
+same-length-8 : tie.Need-same-length-8 Inv-loop μ-loop
+same-length-8 c = search needs
 
 returns-2 : tie.Need-returns-2 Inv-loop μ-loop
 returns-2 c = search needs
@@ -67,11 +74,13 @@ run-spec =
     same-length
     same-length-2
     same-length-3
+    same-length-4
     returns
     add-number
     loop-less
     loop-again
-    same-length-4
     same-length-5
     same-length-6
+    same-length-7
+    same-length-8
     returns-2)

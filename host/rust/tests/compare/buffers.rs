@@ -26,8 +26,7 @@ pub fn read<T: Debug + PartialEq>(
     mine: impl FnOnce(&mut [u64]) -> Answer<T>,
     theirs: impl FnOnce(&mut [u64]) -> Answer<T>,
 ) -> Answer<T> {
-    let lent = (0..entries).map(|_| random.next()).collect();
-    same(lent, mine, theirs)
+    same(random.entries(entries), mine, theirs)
 }
 
 fn same<E: Clone + Debug + PartialEq, T: Debug + PartialEq>(

@@ -1,4 +1,4 @@
-//! Transfers that fit or nearly fit, made at once instead of by a list of calls, and calls at the ledger's edges.
+//! Transfers that fit or nearly fit, made at once instead of by a list of calls, and calls at the ledgers' edges.
 
 use super::both::{Both, Lent};
 use super::harm::harm;
@@ -24,18 +24,21 @@ pub fn few_calls(random: &Random, seen: &mut Seen) {
     }
 }
 
-/// A start over a ledger of any length; one that is refused leaves a transfer for an empty file and ledger.
+/// A start over ledgers of any lengths; one that is refused leaves a transfer for an empty file and empty ledgers.
 pub fn start(random: &Random, seen: &mut Seen) {
     let limit = random.between(MOST_ENTRIES - 2, MOST_ENTRIES + 2);
-    let entries = *random.pick(&[random.size(20), limit]);
+    let claimed = *random.pick(&[random.size(20), limit]);
+    let near = random.near(claimed as u64).min(limit as u64) as usize;
+    let doubtful = *random.pick(&[claimed, claimed, near, random.size(20)]);
     let len = random.size(100);
-    let mut both = Both::start(len, entries, random, seen);
+    let mut both = Both::start_apart(len, claimed, doubtful, random, seen);
     let _ = both.receive(0, &[0]);
     both.restart(random.wild());
     let _ = both.receive(0, &[0]);
     both.harm(|lent, _| {
         lent.file.clear();
-        lent.ledger.clear();
+        lent.claimed.clear();
+        lent.doubtful.clear();
     });
     let _ = both.receive(0, &[0]);
 }
@@ -61,29 +64,49 @@ fn lent(random: &Random) -> Lent {
     } else {
         (0, span)
     };
-    let entries = rising(from, len, random);
-    let room = *random.pick(&[0, 2, 4, random.size(MOST_ENTRIES)]);
-    let mut ledger = entries.clone();
-    ledger.resize((entries.len() + room / 2 * 2).min(MOST_ENTRIES), 0);
+    let mut claimed = rising(from, len, random);
+    let mut doubtful = inside(&claimed, random);
+    let used = claimed.len().max(doubtful.len());
+    let room = *random.pick(&[0, 0, 0, 2, random.size(MOST_ENTRIES)]);
+    let entries = (used + room / 2 * 2).min(MOST_ENTRIES);
+    claimed.resize(entries, 0);
+    doubtful.resize(entries, 0);
     let file = if far {
         Vec::new()
     } else {
         random.bytes(len as usize)
     };
-    let mut transfer = Transfer::fresh(len, ledger.len() as u64 / 2);
-    use_channels(&mut transfer, &ledger, random);
+    let mut transfer = Transfer::fresh(len, entries as u64 / 2);
+    use_channels(&mut transfer, &claimed, random);
     know_numbers(&mut transfer, random);
     Lent {
         transfer,
         file,
-        ledger,
+        claimed,
+        doubtful,
     }
+}
+
+/// Entries of a doubtful ledger: parts of all, some or none of the claimed ranges, or all of a range.
+fn inside(claimed: &[u64], random: &Random) -> Vec<u64> {
+    let doubt = *random.pick(&[1, 4, usize::MAX]);
+    let mut entries = Vec::new();
+    for &[start, end] in ledger::used(claimed) {
+        if random.one_in(doubt) {
+            match random.below(3) {
+                0 => entries.extend([start, end]),
+                _ => entries.extend(rising(start, end, random)),
+            }
+        }
+    }
+    entries.truncate(MOST_ENTRIES);
+    entries
 }
 
 /// Entries of a ledger between two places.
 pub fn rising(from: u64, to: u64, random: &Random) -> Vec<u64> {
     let most = *random.pick(&[random.size(40), random.size(MOST_ENTRIES), MOST_ENTRIES]);
-    let step = *random.pick(&[0, 2, 30, 600]);
+    let step = *random.pick(&[0, 2, 30, 600, 6_000]);
     let mut entries = Vec::new();
     let mut place = from.checked_add(random.size(3) as u64);
     while let Some(entry) = place.filter(|entry| *entry <= to && entries.len() < most) {
@@ -94,8 +117,8 @@ pub fn rising(from: u64, to: u64, random: &Random) -> Vec<u64> {
     entries
 }
 
-fn use_channels(transfer: &mut Transfer, ledger: &[u64], random: &Random) {
-    let mut free: Vec<[u64; 2]> = ledger::used(ledger).to_vec();
+fn use_channels(transfer: &mut Transfer, claimed: &[u64], random: &Random) {
+    let mut free: Vec<[u64; 2]> = ledger::used(claimed).to_vec();
     random.shuffle(&mut free);
     let idle = *random.pick(&[1, 2, 12]);
     for at in 0..CHANNELS {
@@ -104,7 +127,7 @@ fn use_channels(transfer: &mut Transfer, ledger: &[u64], random: &Random) {
             _ if random.one_in(idle) => {}
             (HEADER, _) => {
                 let held = random.size(HOLDS);
-                let header = wire(header(ledger, transfer.len, random));
+                let header = wire(header(claimed, transfer.len, random));
                 transfer.heads[at][..held].copy_from_slice(&header[..held]);
                 transfer.channels[at].state = state;
                 transfer.channels[at].held = held as u8;
@@ -144,8 +167,8 @@ fn know_numbers(transfer: &mut Transfer, random: &Random) {
 }
 
 /// A header whose range begins and stops near ends of claimed ranges.
-fn header(ledger: &[u64], len: u64, random: &Random) -> Header {
-    let used = ledger::used(ledger).as_flattened();
+fn header(claimed: &[u64], len: u64, random: &Random) -> Header {
+    let used = ledger::used(claimed).as_flattened();
     let edge = || match random.below(4) {
         0 => len,
         1 => random.size(len as usize) as u64,
@@ -172,13 +195,13 @@ fn header(ledger: &[u64], len: u64, random: &Random) -> Header {
 /// What the channel has under way, then a few blocks, cut anywhere.
 fn piece(lent: &Lent, channel: usize, random: &Random) -> Vec<u8> {
     let Lent {
-        transfer, ledger, ..
+        transfer, claimed, ..
     } = lent;
     let Channel { held, left, .. } = transfer.channels[channel];
     let mut piece = random.bytes(left.min(20_000) as usize);
     let mut skip = usize::from(held).min(LENGTH);
     for _ in 0..random.between(1, 3) {
-        let header = header(ledger, transfer.len, random);
+        let header = header(claimed, transfer.len, random);
         piece.extend(&wire(header)[skip..]);
         piece.extend(random.bytes(header.length.min(600) as usize));
         skip = 0;

@@ -5,7 +5,7 @@ use super::second::receiver::CHANNELS;
 use super::second::sender::MOST_SIZE;
 use super::seen::Seen;
 use super::senders::note_block;
-use cobnutter::{Sender, Transfer, Verdict};
+use cobnutter::{Ledgers, Sender, Transfer, Verdict};
 
 const LONGEST_FILE: usize = 3_000;
 const MOST_PAIRS: usize = 4_096;
@@ -79,23 +79,26 @@ fn disturb(sender: &mut Sender, file: &[u8], random: &Random) {
 fn deliver(sent: &[u8], mut streams: Vec<Vec<u8>>, pairs: usize, random: &Random) {
     let longest = *random.pick(&[20, 80, 600, 10_000]);
     let mut file = random.bytes(sent.len());
-    let mut ledger = vec![7; 2 * pairs.min(MOST_PAIRS)];
-    let mut transfer = Transfer::start(sent.len() as u64, &mut ledger).unwrap();
+    let entries = 2 * pairs.min(MOST_PAIRS);
+    let mut ledgers = Ledgers::from_entries(vec![7; entries], vec![7; entries]);
+    let mut transfer = Transfer::start(sent.len() as u64, &mut ledgers).unwrap();
     // The receiver numbers the connections as it likes.
     let mut channels: Vec<u64> = (0..CHANNELS as u64).collect();
     random.shuffle(&mut channels);
     let mut left: usize = streams.iter().map(Vec::len).sum();
     while left > 0 {
-        assert_eq!(transfer.verdict(), Verdict::Guess);
+        let shown = transfer.shown(&ledgers).unwrap();
+        assert_eq!(shown.verdict, Verdict::Guess);
         let at = random.below(streams.len());
         let stream = &mut streams[at];
         let length = random.size(longest.min(stream.len()));
         let piece: Vec<u8> = stream.drain(..length).collect();
-        let received = transfer.receive(channels[at], &piece, &mut file, &mut ledger);
+        let received = transfer.receive(channels[at], &piece, &mut file, &mut ledgers);
         assert_eq!(received.unwrap().taken, length);
         left -= length;
     }
-    assert_eq!(transfer.verdict(), Verdict::Result);
+    let shown = transfer.shown(&ledgers).unwrap();
+    assert_eq!(shown.verdict, Verdict::Result);
+    assert_eq!((shown.bytes, shown.doubtful), (sent.len() as u64, 0));
     assert!(file == sent, "the file is not what was sent");
-    assert_eq!(transfer.stored(&ledger), sent.len() as u64);
 }

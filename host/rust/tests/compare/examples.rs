@@ -8,16 +8,18 @@ use super::second::{control, ranges, saved, screen, Answer};
 struct World {
     transfer: Transfer,
     file: Vec<u8>,
-    ledger: Vec<u64>,
+    claimed: Vec<u64>,
+    doubtful: Vec<u64>,
 }
 
 impl World {
     fn start(len: usize) -> World {
-        let mut ledger = vec![7; 8];
+        let (mut claimed, mut doubtful) = (vec![7; 8], vec![7; 8]);
         World {
-            transfer: Transfer::start(len as u64, &mut ledger).unwrap(),
+            transfer: Transfer::start(len as u64, &mut claimed, &mut doubtful).unwrap(),
             file: vec![0; len],
-            ledger,
+            claimed,
+            doubtful,
         }
     }
 
@@ -30,12 +32,17 @@ impl World {
             place,
         };
         let piece = [&header.to_bytes(), payload.as_bytes()].concat();
-        self.transfer
-            .receive(channel, &piece, &mut self.file, &mut self.ledger)
+        self.transfer.receive(
+            channel,
+            &piece,
+            &mut self.file,
+            &mut self.claimed,
+            &mut self.doubtful,
+        )
     }
 
     fn screen_line(&self) -> String {
-        screen::line(&self.transfer, &self.ledger).unwrap()
+        screen::line(&self.transfer, &self.claimed, &self.doubtful).unwrap()
     }
 }
 
@@ -116,7 +123,7 @@ fn claims() {
     let mut world = World::start(8);
     world.send(0, [0, 4, 0], "").unwrap();
     world.send(1, [0, 2, 4], "").unwrap();
-    assert_eq!(world.ledger, [0, 6, 0, 0, 0, 0, 0, 0]);
+    assert_eq!(world.claimed, [0, 6, 0, 0, 0, 0, 0, 0]);
 }
 
 #[test]

@@ -6,16 +6,33 @@ use super::second::ledger;
 use super::second::receiver::{Channel, Transfer, CHANNELS, UNUSED};
 
 pub fn harm(lent: &mut Lent, random: &Random) {
-    match random.below(8) {
-        0 | 1 => harm_entry(&mut lent.ledger, random),
-        2 => harm_lengths(lent, random),
-        3 => harm_numbers(&mut lent.transfer, random),
-        4 => {
+    match random.below(11) {
+        0 | 1 => harm_entry(&mut lent.claimed, random),
+        2 => harm_entry(&mut lent.doubtful, random),
+        3 => lent.doubtful.fill(0),
+        4 => doubt_all(lent, random),
+        5 => harm_lengths(lent, random),
+        6 => harm_numbers(&mut lent.transfer, random),
+        7 => {
             lent.transfer.heads[any_channel(&lent.transfer, random)][random.below(16)] ^=
                 1 << random.below(8)
         }
-        5 => copy_channel(&mut lent.transfer, random),
+        8 => copy_channel(&mut lent.transfer, random),
         _ => harm_channel(&mut lent.transfer, random),
+    }
+}
+
+/// Every claimed range becomes doubtful, and one of them may reach out of itself by a byte.
+fn doubt_all(lent: &mut Lent, random: &Random) {
+    let Lent {
+        claimed, doubtful, ..
+    } = lent;
+    doubtful.clone_from(claimed);
+    let used = 2 * ledger::used(doubtful).len();
+    if used > 0 && !random.one_in(3) {
+        let at = random.below(used);
+        let outward = if at % 2 == 0 { u64::MAX } else { 1 };
+        doubtful[at] = doubtful[at].wrapping_add(outward);
     }
 }
 
@@ -29,13 +46,27 @@ pub fn harm_entry(ledger: &mut [u64], random: &Random) {
 }
 
 fn harm_lengths(lent: &mut Lent, random: &Random) {
-    let Lent { file, ledger, .. } = lent;
-    match random.below(4) {
+    let Lent {
+        file,
+        claimed,
+        doubtful,
+        ..
+    } = lent;
+    match random.below(5) {
         0 => file.resize(random.near(file.len() as u64).min(70_000) as usize, 0),
         1 => file.truncate(random.size(file.len())),
-        2 => ledger.resize(random.near(ledger.len() as u64).min(9_000) as usize, 0),
-        _ => ledger.truncate(random.size(ledger.len())),
+        2 => harm_length(claimed, random),
+        3 => harm_length(doubtful, random),
+        _ => {
+            harm_length(claimed, random);
+            doubtful.resize(claimed.len(), 0);
+        }
     }
+}
+
+fn harm_length(ledger: &mut Vec<u64>, random: &Random) {
+    let near = random.near(ledger.len() as u64).min(9_000) as usize;
+    ledger.resize(*random.pick(&[near, random.size(ledger.len())]), 0);
 }
 
 fn harm_numbers(transfer: &mut Transfer, random: &Random) {

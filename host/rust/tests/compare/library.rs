@@ -2,6 +2,7 @@
 
 use super::second::block::Header;
 use super::second::receiver::{Channel, Transfer, Verdict};
+use super::second::screen::Shown;
 use super::second::sender::Sender;
 use super::second::Answer;
 use cobnutter::raw;
@@ -53,53 +54,101 @@ pub fn to_raw(transfer: &Transfer) -> raw::Transfer {
 }
 
 fn to_verdict(number: u8) -> Verdict {
-    [Verdict::Guess, Verdict::Result, Verdict::Broken][usize::from(number)]
+    let words = [
+        Verdict::Guess,
+        Verdict::Result,
+        Verdict::Broken,
+        Verdict::Suspect,
+    ];
+    words[usize::from(number)]
 }
 
 /// The transfer is fresh, of F = 0 and R = 0, where the start is refused.
-pub fn start(len: u64, ledger: &mut [u64]) -> (Answer<()>, raw::Transfer) {
-    let started = unsafe { raw::cob_start(len, ledger.as_mut_ptr(), ledger.len()) };
+pub fn start(len: u64, claimed: &mut [u64], doubtful: &mut [u64]) -> (Answer<()>, raw::Transfer) {
+    let started = unsafe {
+        raw::cob2_start(
+            len,
+            claimed.as_mut_ptr(),
+            claimed.len(),
+            doubtful.as_mut_ptr(),
+            doubtful.len(),
+        )
+    };
     (unless(started.refused, ()), started.transfer)
 }
 
+/// The bytes taken, and the word, which a refused call names too.
 pub fn receive(
     transfer: &mut raw::Transfer,
     channel: u64,
     piece: &[u8],
     file: &mut [u8],
-    ledger: &mut [u64],
-) -> Answer<(Verdict, usize)> {
+    claimed: &mut [u64],
+    doubtful: &mut [u64],
+) -> (Answer<usize>, Verdict) {
     let received = unsafe {
-        raw::cob_receive(
+        raw::cob2_receive(
             *transfer,
             channel,
             piece.as_ptr(),
             piece.len(),
             file.as_mut_ptr(),
             file.len(),
-            ledger.as_mut_ptr(),
-            ledger.len(),
+            claimed.as_mut_ptr(),
+            claimed.len(),
+            doubtful.as_mut_ptr(),
+            doubtful.len(),
         )
     };
     *transfer = received.transfer;
     let taken = unless(received.refused, received.taken);
-    taken.map(|taken| (to_verdict(received.verdict), taken))
+    (taken, to_verdict(received.verdict))
 }
 
-pub fn verdict(transfer: &raw::Transfer) -> Verdict {
-    to_verdict(unsafe { raw::cob_verdict(*transfer) })
-}
-
-pub fn stored(transfer: &raw::Transfer, ledger: &[u64]) -> u64 {
-    unsafe { raw::cob_stored(*transfer, ledger.as_ptr(), ledger.len()) }
-}
-
-pub fn screen_line(transfer: &raw::Transfer, ledger: &[u64], out: &mut [u8]) -> Answer<usize> {
-    written(unsafe {
-        raw::cob_screen_line(
+pub fn shown(transfer: &raw::Transfer, claimed: &[u64], doubtful: &[u64]) -> Answer<Shown> {
+    let raw::Shown {
+        ended,
+        count,
+        fault,
+        on,
+        bytes,
+        doubtful,
+        verdict,
+        refused,
+    } = unsafe {
+        raw::cob_shown(
             *transfer,
-            ledger.as_ptr(),
-            ledger.len(),
+            claimed.as_ptr(),
+            claimed.len(),
+            doubtful.as_ptr(),
+            doubtful.len(),
+        )
+    };
+    let numbers = [ended, count, fault, on, bytes, doubtful, verdict.into()];
+    unless(refused, numbers).map(|_| Shown {
+        verdict: to_verdict(verdict),
+        ended,
+        count,
+        fault,
+        on,
+        bytes,
+        doubtful,
+    })
+}
+
+pub fn screen_line(
+    transfer: &raw::Transfer,
+    claimed: &[u64],
+    doubtful: &[u64],
+    out: &mut [u8],
+) -> Answer<usize> {
+    written(unsafe {
+        raw::cob2_screen_line(
+            *transfer,
+            claimed.as_ptr(),
+            claimed.len(),
+            doubtful.as_ptr(),
+            doubtful.len(),
             out.as_mut_ptr(),
             out.len(),
         )

@@ -26,6 +26,11 @@ impl Random {
         (0..count).map(|_| self.byte()).collect()
     }
 
+    /// For a ledger or list.
+    pub fn entries(&self, count: usize) -> Vec<u64> {
+        (0..count).map(|_| self.next()).collect()
+    }
+
     pub fn below(&self, bound: usize) -> usize {
         (self.next() % bound as u64) as usize
     }

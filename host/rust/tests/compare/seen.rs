@@ -1,13 +1,23 @@
-//! How often each entry gave each number of the papers' tables.
+//! How often each entry gave each number of the papers' tables, and how often each word and each kind of block came.
 
+use super::second::receiver::Verdict;
 use super::second::Answer;
 use std::collections::BTreeMap;
 
-/// 0 is an answer without refusal. A fault's number, and a sent block's descriptor, are counted in the same way.
-const ENTRIES: [(&str, &[u64]); 16] = [
+/// 0 is an answer without refusal. Faults and descriptors are counted by their numbers, words by the header's.
+const ENTRIES: [(&str, &[u64]); 24] = [
     ("start", &[0, 5]),
+    ("unequal start", &[5]),
     ("receive", &[0, 1, 2, 3, 4]),
+    ("word", &[0, 1, 2, 3]),
     ("fault", &[11, 12, 13, 14, 15, 16, 17, 18, 19]),
+    // Where the doubtful ledger lacks a pair too.
+    ("17 over 18", &[17]),
+    ("18 lacks", &[CLAIMED, DOUBTFUL, CLAIMED + DOUBTFUL]),
+    ("doubtful unfit", &[LENGTH, RULE, OUTSIDE]),
+    ("payload", &[0, 8, 12, 32, 40, 44]),
+    ("no payload", &[0, 8, 12, 32, 40, 44, 64, 72, 76]),
+    ("shown", &[0, 1]),
     ("screen line", &[0, 1, 55]),
     ("header read", &[0, 11, 12, 13, 15, 21]),
     ("header write", &[0, 11, 12, 13, 15, 55]),
@@ -23,13 +33,45 @@ const ENTRIES: [(&str, &[u64]); 16] = [
     ("sent block", &[0, 8, 72]),
 ];
 
+/// Of an 18: which ledger lacks a pair.
+pub const CLAIMED: u64 = 1;
+pub const DOUBTFUL: u64 = 2;
+
+/// Why a doubtful ledger does not fit where all else does.
+pub const LENGTH: u64 = 1;
+pub const RULE: u64 = 2;
+pub const OUTSIDE: u64 = 3;
+
 #[derive(Default)]
 pub struct Seen(BTreeMap<(&'static str, u64), u64>);
 
 impl Seen {
     pub fn note<T>(&mut self, entry: &'static str, answer: &Answer<T>) {
-        let number = answer.as_ref().err().copied().unwrap_or(0);
+        self.note_number(entry, answer.as_ref().err().copied().unwrap_or(0));
+    }
+
+    pub fn note_number(&mut self, entry: &'static str, number: u64) {
         *self.0.entry((entry, number)).or_default() += 1;
+    }
+
+    pub fn note_word(&mut self, verdict: Verdict) {
+        let number = match verdict {
+            Verdict::Guess => 0,
+            Verdict::Result => 1,
+            Verdict::Broken => 2,
+            Verdict::Suspect => 3,
+        };
+        self.note_number("word", number);
+    }
+
+    /// Of a sending that came to its end, so it was accepted.
+    pub fn note_block(&mut self, descriptor: u8, payload: &[u8]) {
+        let entry = if payload.is_empty() {
+            "no payload"
+        } else {
+            "payload"
+        };
+        self.note_number(entry, descriptor.into());
     }
 
     fn count(&self, entry: &'static str, number: u64) -> u64 {
@@ -42,7 +84,7 @@ impl Seen {
                 .iter()
                 .map(|number| format!("{number}: {}", self.count(entry, *number)))
                 .collect();
-            println!("{entry:13}{}", counts.join(", "));
+            println!("{entry:15}{}", counts.join(", "));
         }
     }
 

@@ -5,7 +5,6 @@ use super::library;
 use super::random::Random;
 use super::second::receiver::CHANNELS;
 use super::second::sender::{Sender, MOST_SIZE};
-use super::second::Answer;
 use super::seen::Seen;
 use cobnutter::raw;
 
@@ -70,8 +69,7 @@ impl Both {
 
 /// Counts a written block by its descriptor.
 pub fn note_block(block: &[u8], seen: &mut Seen) {
-    let descriptor: Answer<()> = Err(block[0].into());
-    seen.note("sent block", &descriptor);
+    seen.note_number("sent block", block[0].into());
 }
 
 /// Calls of any kind on a sender, which may be made up.

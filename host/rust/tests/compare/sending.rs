@@ -50,13 +50,14 @@ impl Block {
         }
     }
 
-    /// Gives it one of the descriptors that its place in the channel allows.
-    fn describe(&mut self, last: bool, random: &Random) {
-        self.header.descriptor = *match (self.header.is_eodc(), last) {
-            (false, false) => random.pick(&[0, 32]),
-            (false, true) => random.pick(&[8, 12, 40, 44]),
-            (true, false) => &64,
-            (true, true) => random.pick(&[72, 76]),
+    /// Gives it one of the descriptors that its place in the channel allows. One data block in `doubt` gets bit 32.
+    fn describe(&mut self, last: bool, doubt: usize, random: &Random) {
+        let suspected = if random.one_in(doubt) { 32 } else { 0 };
+        self.header.descriptor = match (self.header.is_eodc(), last) {
+            (false, false) => suspected,
+            (false, true) => random.pick(&[8, 12]) | suspected,
+            (true, false) => 64,
+            (true, true) => *random.pick(&[72, 76]),
         };
     }
 }
@@ -84,7 +85,8 @@ impl Sending {
     pub fn well_formed(random: &Random) -> Sending {
         let len = random.size(LONGEST_FILE);
         let mut lanes = empty_lanes(random);
-        let mut payloads = payloads(len, random);
+        let left_out = *random.pick(&[2, 5, usize::MAX]);
+        let mut payloads = payloads(len, random.size(300), left_out, random);
         let pairs = payloads.len() + random.size(40);
         random.shuffle(&mut payloads);
         let empties = random.size(12);
@@ -94,16 +96,24 @@ impl Sending {
         }
         let eodc = Block::eodc(lanes.len() as u64, random);
         insert(&mut lanes, eodc, random);
-        for lane in &mut lanes {
-            if lane.blocks.is_empty() {
-                lane.blocks.push(Block::empty(random));
-            }
-            let last = lane.blocks.len() - 1;
-            for (at, block) in lane.blocks.iter_mut().enumerate() {
-                block.describe(at == last, random);
-            }
-        }
+        describe(&mut lanes, random);
         Sending { len, pairs, lanes }
+    }
+
+    /// One channel that goes through the file once, and few pairs: claimed ranges mostly become one, doubtful ones do not.
+    pub fn in_order(random: &Random) -> Sending {
+        let len = random.size(LONGEST_FILE);
+        let left_out = *random.pick(&[40, usize::MAX]);
+        let mut blocks = payloads(len, random.between(2, 40), left_out, random);
+        blocks.push(Block::eodc(1, random));
+        let channel = random.below(CHANNELS) as u64;
+        let mut lanes = vec![Lane { channel, blocks }];
+        describe(&mut lanes, random);
+        Sending {
+            len,
+            pairs: random.size(6),
+            lanes,
+        }
     }
 
     /// Does one thing that a sender must not do, or that only chance makes harmless.
@@ -130,6 +140,10 @@ impl Sending {
         }
     }
 
+    pub fn blocks(&self) -> impl Iterator<Item = &Block> {
+        self.lanes.iter().flat_map(|lane| &lane.blocks)
+    }
+
     fn any_block(&mut self, random: &Random) -> &mut Block {
         let lane = random.below(self.lanes.len());
         let at = random.below(self.lanes[lane].blocks.len());
@@ -139,6 +153,20 @@ impl Sending {
     fn eodc(&mut self) -> &mut Block {
         let mut blocks = self.lanes.iter_mut().flat_map(|lane| &mut lane.blocks);
         blocks.find(|block| block.header.is_eodc()).unwrap()
+    }
+}
+
+/// Gives all blocks their descriptors. The sender suspects all of them, many, few or none.
+fn describe(lanes: &mut [Lane], random: &Random) {
+    let doubt = *random.pick(&[1, 2, 30, usize::MAX]);
+    for lane in lanes {
+        if lane.blocks.is_empty() {
+            lane.blocks.push(Block::empty(random));
+        }
+        let last = lane.blocks.len() - 1;
+        for (at, block) in lane.blocks.iter_mut().enumerate() {
+            block.describe(at == last, doubt, random);
+        }
     }
 }
 
@@ -171,14 +199,12 @@ fn empty_lanes(random: &Random) -> Vec<Lane> {
         .collect()
 }
 
-/// Payloads side by side, some left out.
-fn payloads(len: usize, random: &Random) -> Vec<Block> {
-    let cuts = random.size(300);
+/// Payloads side by side from so many cuts, one in `left_out` left out.
+fn payloads(len: usize, cuts: usize, left_out: usize, random: &Random) -> Vec<Block> {
     let mut cuts: Vec<usize> = (0..cuts).map(|_| random.between(0, len)).collect();
     cuts.extend([0, len]);
     cuts.sort();
     cuts.dedup();
-    let left_out = *random.pick(&[2, 5, usize::MAX]);
     let mut payloads = Vec::new();
     for cut in cuts.windows(2) {
         if !random.one_in(left_out) {

@@ -5,7 +5,7 @@ use super::harm::harm;
 use super::random::Random;
 use super::second::receiver::{Verdict, CHANNELS, ENDED};
 use super::seen::Seen;
-use super::sending::{Lane, Sending};
+use super::sending::{Block, Lane, Sending};
 use cobnutter::recording::{requests, Request};
 
 /// What is still to come on a channel.
@@ -52,6 +52,15 @@ pub fn one(random: &Random, seen: &mut Seen) {
     call_after_the_end(&mut both, &streams);
 }
 
+/// A sending with few pairs, which may be too few.
+pub fn few_pairs(random: &Random, seen: &mut Seen) {
+    let sending = Sending::in_order(random);
+    let mut streams: Vec<Stream> = sending.lanes.iter().map(Stream::of).collect();
+    let mut both = Both::start(sending.len, 2 * sending.pairs, random, seen);
+    feed(&mut both, &mut streams);
+    call_after_the_end(&mut both, &streams);
+}
+
 /// Two sendings, the first one's channels carrying on with the second.
 pub fn cached(random: &Random, seen: &mut Seen) {
     let (first, second) = (Sending::well_formed(random), Sending::well_formed(random));
@@ -85,21 +94,33 @@ pub fn recorded(bytes: &[u8], random: &Random, seen: &mut Seen) -> Option<()> {
     Some(())
 }
 
-/// Feeds a well-formed sending: it ends with RESULT, all payloads in their places and nothing else changed.
+/// Feeds a well-formed sending: it ends with RESULT, or with SUSPECT where a payload that is not empty has bit 32, all
+/// payloads in their places and nothing else changed.
 fn deliver(both: &mut Both, streams: &mut [Stream], sending: &Sending) {
     let mut expected = both.lent().file.clone();
-    let mut stored = 0;
+    let (mut stored, mut doubtful) = (0, 0);
     feed(both, streams);
-    let blocks = sending.lanes.iter().flat_map(|lane| &lane.blocks);
-    for block in blocks.filter(|block| !block.payload.is_empty()) {
-        let place = block.header.place as usize;
-        expected[place..][..block.payload.len()].copy_from_slice(&block.payload);
-        stored += block.payload.len() as u64;
+    for Block { header, payload } in sending.blocks() {
+        if !payload.is_empty() {
+            expected[header.place as usize..][..payload.len()].copy_from_slice(payload);
+        }
+        let length = payload.len() as u64;
+        stored += length;
+        doubtful += if header.is_suspect() { length } else { 0 };
+        both.seen.note_block(header.descriptor, payload);
     }
-    let lent = both.lent();
-    assert_eq!(both.verdict(), Verdict::Result);
-    assert!(lent.file == expected, "the file is not what was sent");
-    assert_eq!(lent.transfer.stored(&lent.ledger), stored);
+    let shown = both.shown().unwrap();
+    let last = if doubtful == 0 {
+        Verdict::Result
+    } else {
+        Verdict::Suspect
+    };
+    assert_eq!(shown.verdict, last);
+    assert_eq!((shown.bytes, shown.doubtful), (stored, doubtful));
+    assert!(
+        both.lent().file == expected,
+        "the file is not what was sent"
+    );
 }
 
 fn flip(streams: &mut [Stream], random: &Random) {

@@ -5,6 +5,7 @@ use super::{put, Answer};
 pub const LENGTH: usize = 17;
 
 const EODC: u8 = 64;
+const SUSPECT: u8 = 32;
 const EOD: u8 = 8;
 
 #[derive(Clone, Copy, Debug, PartialEq, Eq)]
@@ -45,6 +46,11 @@ impl Header {
     /// Whether the channel ends with this block.
     pub fn is_last(&self) -> bool {
         self.descriptor & EOD != 0
+    }
+
+    /// Whether the sender doubts this block's payload.
+    pub fn is_suspect(&self) -> bool {
+        self.descriptor & SUSPECT != 0
     }
 
     pub fn judge_descriptor(&self) -> Answer<()> {

@@ -6,19 +6,20 @@ use super::receiver::{
 };
 
 impl Transfer {
-    pub fn fits(&self, ledger: &[u64]) -> bool {
-        self.ledger_fits(ledger)
+    pub fn fits(&self, claimed: &[u64], doubtful: &[u64]) -> bool {
+        self.claimed_fits(claimed)
+            && doubtful_fits(claimed, doubtful)
             && self.channels_fit()
-            && self.rests_fit(ledger)
+            && self.rests_fit(claimed)
             && self.count_fits()
             && self.fault_fits()
     }
 
-    fn ledger_fits(&self, ledger: &[u64]) -> bool {
-        ledger::is_sized(ledger)
-            && ledger.len() as u64 / 2 == self.pairs
-            && ledger::obeys(ledger)
-            && ledger::used(ledger)
+    fn claimed_fits(&self, claimed: &[u64]) -> bool {
+        ledger::is_sized(claimed)
+            && claimed.len() as u64 / 2 == self.pairs
+            && ledger::obeys(claimed)
+            && ledger::used(claimed)
                 .last()
                 .is_none_or(|pair| pair[1] <= self.len)
     }
@@ -29,7 +30,7 @@ impl Transfer {
     }
 
     /// Each payload's rest lies inside one claimed range, and no two share a byte.
-    fn rests_fit(&self, ledger: &[u64]) -> bool {
+    fn rests_fit(&self, claimed: &[u64]) -> bool {
         let mut rests = [(0, 0); CHANNELS];
         let payloads = self.channels.iter().filter(|channel| channel.left > 0);
         for (found, channel) in payloads.enumerate() {
@@ -40,7 +41,7 @@ impl Transfer {
             let apart = rests[..found]
                 .iter()
                 .all(|&(from, to)| end <= from || to <= start);
-            if !apart || !ledger::covers(ledger, start, end) {
+            if !apart || !ledger::covers(claimed, start, end) {
                 return false;
             }
             rests[found] = (start, end);
@@ -59,6 +60,15 @@ impl Transfer {
             _ => false,
         }
     }
+}
+
+/// As long as the claimed ledger, which fits, and each range inside one claimed range.
+fn doubtful_fits(claimed: &[u64], doubtful: &[u64]) -> bool {
+    doubtful.len() == claimed.len()
+        && ledger::obeys(doubtful)
+        && ledger::used(doubtful)
+            .iter()
+            .all(|&[start, end]| ledger::covers(claimed, start, end))
 }
 
 fn channel_fits(channel: &Channel, head: &[u8; HOLDS]) -> bool {

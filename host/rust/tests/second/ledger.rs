@@ -1,4 +1,5 @@
-//! "The ledger": claimed ranges as pairs (start, end) in ascending order, zeros after them.
+//! "The ledger": ranges as pairs (start, end) in ascending order, zeros after them. A transfer has two of one length,
+//! of claimed ranges and of doubtful ones.
 
 use super::Answer;
 
@@ -34,15 +35,12 @@ pub fn to_write(ledger: &[u64]) -> Answer<&[[u64; 2]]> {
     Ok(used(ledger))
 }
 
-/// Saturates, for a ledger that breaks its rule.
-pub fn claimed(ledger: &[u64]) -> u64 {
-    let (pairs, _) = ledger.as_chunks();
-    pairs.iter().fold(0, |sum: u64, [start, end]| {
-        sum.saturating_add(end.saturating_sub(*start))
-    })
+/// The bytes in all ranges of a ledger that obeys its rule: at most its last end, so the sum never wraps.
+pub(super) fn total(ledger: &[u64]) -> u64 {
+    used(ledger).iter().map(|[start, end]| end - start).sum()
 }
 
-/// Whether the places from `start` up to `end` lie inside one claimed range.
+/// Whether the places from `start` up to `end` lie inside one range of the ledger.
 pub fn covers(ledger: &[u64], start: u64, end: u64) -> bool {
     let pairs = used(ledger);
     let at = pairs.partition_point(|pair| pair[1] <= start);
@@ -51,8 +49,9 @@ pub fn covers(ledger: &[u64], start: u64, end: u64) -> bool {
         .is_some_and(|pair| pair[0] <= start && end <= pair[1])
 }
 
-/// Claims the places from `start` up to `end`, or refuses by "One transfer": 17, then 18.
-pub fn claim(ledger: &mut [u64], start: u64, end: u64) -> Answer<()> {
+/// Where the places from `start` up to `end` go: how many pairs stand before them, and whether they join the pair on
+/// their left and the one on their right. Refuses by "One transfer": 17, then 18.
+fn place(ledger: &[u64], start: u64, end: u64) -> Answer<(usize, bool, bool)> {
     let pairs = used(ledger);
     let at = pairs.partition_point(|pair| pair[1] <= start);
     if at < pairs.len() && pairs[at][0] < end {
@@ -60,7 +59,21 @@ pub fn claim(ledger: &mut [u64], start: u64, end: u64) -> Answer<()> {
     }
     let joins_left = at > 0 && pairs[at - 1][1] == start;
     let joins_right = at < pairs.len() && pairs[at][0] == end;
-    let (here, stop) = (2 * at, 2 * pairs.len());
+    if !joins_left && !joins_right && 2 * pairs.len() == ledger.len() {
+        return Err(18);
+    }
+    Ok((at, joins_left, joins_right))
+}
+
+/// What `claim` would answer, with nothing changed.
+pub fn judge(ledger: &[u64], start: u64, end: u64) -> Answer<()> {
+    place(ledger, start, end).map(|_| ())
+}
+
+/// Claims the places from `start` up to `end`; refused, the ledger stays as it was.
+pub fn claim(ledger: &mut [u64], start: u64, end: u64) -> Answer<()> {
+    let (at, joins_left, joins_right) = place(ledger, start, end)?;
+    let (here, stop) = (2 * at, 2 * used(ledger).len());
     match (joins_left, joins_right) {
         (true, true) => {
             ledger.copy_within(here + 1..stop, here - 1);
@@ -68,7 +81,6 @@ pub fn claim(ledger: &mut [u64], start: u64, end: u64) -> Answer<()> {
         }
         (true, false) => ledger[here - 1] = end,
         (false, true) => ledger[here] = start,
-        (false, false) if stop == ledger.len() => return Err(18),
         (false, false) => {
             ledger.copy_within(here..stop, here + 2);
             ledger[here..here + 2].copy_from_slice(&[start, end]);

@@ -17,6 +17,8 @@ pub const ENDED: u8 = 4;
 pub enum Verdict {
     Guess,
     Result,
+    /// Complete, with doubtful bytes.
+    Suspect,
     Broken,
 }
 
@@ -58,12 +60,13 @@ impl Transfer {
         }
     }
 
-    pub fn start(len: u64, ledger: &mut [u64]) -> Answer<Transfer> {
-        if !ledger::is_sized(ledger) {
+    pub fn start(len: u64, claimed: &mut [u64], doubtful: &mut [u64]) -> Answer<Transfer> {
+        if !ledger::is_sized(claimed) || doubtful.len() != claimed.len() {
             return Err(5);
         }
-        ledger.fill(0);
-        Ok(Transfer::fresh(len, ledger.len() as u64 / 2))
+        claimed.fill(0);
+        doubtful.fill(0);
+        Ok(Transfer::fresh(len, claimed.len() as u64 / 2))
     }
 
     /// Answers the verdict and how many bytes of the piece were taken.
@@ -72,15 +75,16 @@ impl Transfer {
         channel: u64,
         piece: &[u8],
         file: &mut [u8],
-        ledger: &mut [u64],
+        claimed: &mut [u64],
+        doubtful: &mut [u64],
     ) -> Answer<(Verdict, usize)> {
-        if file.len() as u64 != self.len || !self.fits(ledger) {
+        if file.len() as u64 != self.len || !self.fits(claimed, doubtful) {
             return Err(1);
         }
         if channel >= CHANNELS as u64 {
             return Err(2);
         }
-        if self.verdict() != Verdict::Guess {
+        if self.verdict(doubtful) != Verdict::Guess {
             return Err(3);
         }
         let at = channel as usize;
@@ -88,20 +92,23 @@ impl Transfer {
             return Err(4);
         }
         let mut rest = piece;
-        if let Err(fault) = self.take(at, &mut rest, file, ledger) {
+        if let Err(fault) = self.take(at, &mut rest, file, claimed, doubtful) {
             self.fault = fault;
             self.on = channel;
         }
-        Ok((self.verdict(), piece.len() - rest.len()))
+        Ok((self.verdict(doubtful), piece.len() - rest.len()))
     }
 
-    pub fn verdict(&self) -> Verdict {
+    /// The transfer keeps no doubt of its own: the doubtful ledger, as it stands, decides between the final words.
+    pub(super) fn verdict(&self, doubtful: &[u64]) -> Verdict {
         if self.fault != 0 {
             Verdict::Broken
-        } else if self.count != 0 && self.ended() == self.count {
+        } else if self.count == 0 || self.ended() != self.count {
+            Verdict::Guess
+        } else if ledger::used(doubtful).is_empty() {
             Verdict::Result
         } else {
-            Verdict::Guess
+            Verdict::Suspect
         }
     }
 
@@ -119,13 +126,10 @@ impl Transfer {
             .count() as u64
     }
 
-    /// Stored bytes. Sums saturate, for a transfer and ledger that do not fit.
-    pub fn stored(&self, ledger: &[u64]) -> u64 {
-        let left = self
-            .channels
-            .iter()
-            .fold(0, |sum: u64, channel| sum.saturating_add(channel.left));
-        ledger::claimed(ledger).saturating_sub(left)
+    /// Stored bytes of a transfer that fits: its rests are claimed and apart, so they are no more than the claims.
+    pub(super) fn stored(&self, claimed: &[u64]) -> u64 {
+        let left: u64 = self.channels.iter().map(|channel| channel.left).sum();
+        ledger::total(claimed) - left
     }
 
     /// Takes bytes from the front of `rest` until it is empty or the channel has ended. An `Err` is a peer's fault.
@@ -134,13 +138,14 @@ impl Transfer {
         at: usize,
         rest: &mut &[u8],
         file: &mut [u8],
-        ledger: &mut [u64],
+        claimed: &mut [u64],
+        doubtful: &mut [u64],
     ) -> Answer<()> {
         while !rest.is_empty() {
             match self.channels[at].state {
                 UNUSED if self.count != 0 && self.used() == self.count => return Err(19),
                 UNUSED => self.channels[at].state = HEADER,
-                HEADER => self.take_header(at, rest, ledger)?,
+                HEADER => self.take_header(at, rest, claimed, doubtful)?,
                 PAYLOAD | LAST_PAYLOAD => self.take_payload(at, rest, file),
                 _ => break,
             }
@@ -148,7 +153,13 @@ impl Transfer {
         Ok(())
     }
 
-    fn take_header(&mut self, at: usize, rest: &mut &[u8], ledger: &mut [u64]) -> Answer<()> {
+    fn take_header(
+        &mut self,
+        at: usize,
+        rest: &mut &[u8],
+        claimed: &mut [u64],
+        doubtful: &mut [u64],
+    ) -> Answer<()> {
         let held = usize::from(self.channels[at].held);
         let (now, later) = rest.split_at(rest.len().min(block::LENGTH - held));
         *rest = later;
@@ -163,15 +174,21 @@ impl Transfer {
         header[held..].copy_from_slice(now);
         self.heads[at] = [0; HOLDS];
         self.channels[at].held = 0;
-        self.accept(at, Header::from_bytes(&header), ledger)
+        self.accept(at, Header::from_bytes(&header), claimed, doubtful)
     }
 
-    fn accept(&mut self, at: usize, header: Header, ledger: &mut [u64]) -> Answer<()> {
+    fn accept(
+        &mut self,
+        at: usize,
+        header: Header,
+        claimed: &mut [u64],
+        doubtful: &mut [u64],
+    ) -> Answer<()> {
         header.judge_descriptor()?;
         if header.is_eodc() {
             self.learn_count(header.place)?;
         } else if header.length > 0 {
-            return self.open_payload(at, header, ledger);
+            return self.open_payload(at, header, claimed, doubtful);
         }
         if header.is_last() {
             self.end(at);
@@ -190,13 +207,25 @@ impl Transfer {
         Ok(())
     }
 
-    fn open_payload(&mut self, at: usize, header: Header, ledger: &mut [u64]) -> Answer<()> {
+    fn open_payload(
+        &mut self,
+        at: usize,
+        header: Header,
+        claimed: &mut [u64],
+        doubtful: &mut [u64],
+    ) -> Answer<()> {
         let end = header
             .place
             .checked_add(header.length)
             .filter(|end| *end <= self.len)
             .ok_or(16u64)?;
-        ledger::claim(ledger, header.place, end)?;
+        // Both are judged before either changes. Doubtful ranges lie inside claimed ones, so what shares no byte with
+        // these shares none with those: the doubtful ledger can only lack pairs.
+        ledger::judge(claimed, header.place, end)?;
+        if header.is_suspect() {
+            ledger::claim(doubtful, header.place, end)?;
+        }
+        ledger::claim(claimed, header.place, end)?;
         let state = if header.is_last() {
             LAST_PAYLOAD
         } else {

@@ -1,25 +1,67 @@
 //! "The screen line".
 
 use super::receiver::{Transfer, Verdict};
-use super::{put, Answer};
+use super::{ledger, put, Answer};
 
-pub fn line(transfer: &Transfer, ledger: &[u64]) -> Answer<String> {
-    if !transfer.fits(ledger) {
-        return Err(1);
-    }
-    let Transfer {
-        count, fault, on, ..
-    } = *transfer;
-    let ended = transfer.ended();
-    let word = match transfer.verdict() {
-        Verdict::Broken => format!("BROKEN {fault} on {on}"),
-        Verdict::Result => format!("RESULT ended {ended} of {count}"),
-        Verdict::Guess if count == 0 => format!("GUESS ended {ended} of ?"),
-        Verdict::Guess => format!("GUESS ended {ended} of {count}"),
-    };
-    Ok(format!("{word} bytes {}\n", transfer.stored(ledger)))
+/// The line as numbers, those included that its word leaves out.
+#[derive(Clone, Copy, Debug, PartialEq, Eq)]
+pub struct Shown {
+    pub verdict: Verdict,
+    /// Channels that have ended.
+    pub ended: u64,
+    /// End markers expected; 0 while unknown.
+    pub count: u64,
+    /// 0 while there is none.
+    pub fault: u64,
+    /// The channel of the fault.
+    pub on: u64,
+    /// Stored bytes.
+    pub bytes: u64,
+    /// Bytes in the doubtful ranges, whatever the word is.
+    pub doubtful: u64,
 }
 
-pub fn write(transfer: &Transfer, ledger: &[u64], out: &mut [u8]) -> Answer<usize> {
-    put(line(transfer, ledger)?.as_bytes(), out)
+pub fn shown(transfer: &Transfer, claimed: &[u64], doubtful: &[u64]) -> Result<Shown, u8> {
+    if !transfer.fits(claimed, doubtful) {
+        return Err(1);
+    }
+    Ok(Shown {
+        verdict: transfer.verdict(doubtful),
+        ended: transfer.ended(),
+        count: transfer.count,
+        fault: transfer.fault,
+        on: transfer.on,
+        bytes: transfer.stored(claimed),
+        doubtful: ledger::total(doubtful),
+    })
+}
+
+pub fn line(transfer: &Transfer, claimed: &[u64], doubtful: &[u64]) -> Answer<String> {
+    let Shown {
+        verdict,
+        ended,
+        count,
+        fault,
+        on,
+        bytes,
+        doubtful,
+    } = shown(transfer, claimed, doubtful)?;
+    Ok(match verdict {
+        Verdict::Broken => format!("BROKEN {fault} on {on} bytes {bytes}\n"),
+        Verdict::Suspect => {
+            format!("SUSPECT ended {ended} of {count} bytes {bytes} doubtful {doubtful}\n")
+        }
+        Verdict::Result => format!("RESULT ended {ended} of {count} bytes {bytes}\n"),
+        Verdict::Guess if count == 0 => format!("GUESS ended {ended} of ? bytes {bytes}\n"),
+        Verdict::Guess => format!("GUESS ended {ended} of {count} bytes {bytes}\n"),
+    })
+}
+
+pub fn write(
+    transfer: &Transfer,
+    claimed: &[u64],
+    doubtful: &[u64],
+    out: &mut [u8],
+) -> Answer<usize> {
+    put(line(transfer, claimed, doubtful)?.as_bytes(), out)
 }

@@ -19,33 +19,33 @@ with-state-requires : tie.Need-with-state-requires
 with-state-requires c κs = search needs
 
 returns : tie.Need-returns
-returns c t d file ledger a =
+returns c t d file claimed doubtful a =
     let p = c .before in
     let s = p .before .before in
     let x = s .args in
-    opens-payload (writeBack t d (x .x)) (writeBack t d (c .with-state .result)) d file ledger (x .next) (x .left) (x .last) (p .before .if1 .taken)
+    opens-payload (writeBack t d (x .x)) (writeBack t d (c .with-state .result)) d file claimed doubtful (x .next) (x .left) (x .last) (p .before .if1 .taken)
     (ap (writeBack t d) (c .with-state .ensures) ∙ ap (λ n. writeBack t d (withState (x .x) n (x .next) (x .left))) (p .payload-number .ensures) ∙ write-back-payload t d a (x .x) (sixteen s) (x .next) (x .left) (x .last))
 
 with-state-requires-2 : tie.Need-with-state-requires-2
 with-state-requires-2 c κs = search needs
 
 returns-2 : tie.Need-returns-2
-returns-2 c t d file ledger a =
+returns-2 c t d file claimed doubtful a =
     let l = c .before in
     let s = l .before .before in
     let x = s .args in
-    ends (writeBack t d (x .x)) (writeBack t d (c .with-state2 .result)) d file ledger (x .next) (x .left) (x .last) (omega (arith, l .before .if1 .left)) (l .if2 .taken)
+    ends (writeBack t d (x .x)) (writeBack t d (c .with-state2 .result)) d file claimed doubtful (x .next) (x .left) (x .last) (omega (arith, l .before .if1 .left)) (l .if2 .taken)
     (ap (writeBack t d) (c .with-state2 .ensures) ∙ write-back-ended t d a (x .x) (sixteen s))
 
 with-state-requires-3 : tie.Need-with-state-requires-3
 with-state-requires-3 c κs = search needs
 
 returns-3 : tie.Need-returns-3
-returns-3 c t d file ledger a =
+returns-3 c t d file claimed doubtful a =
     let l = c .before in
     let s = l .before .before in
     let x = s .args in
-    opens-header (writeBack t d (x .x)) (writeBack t d (c .with-state3 .result)) d file ledger (x .next) (x .left) (x .last) (omega (arith, l .before .if1 .left)) (l .if2 .left)
+    opens-header (writeBack t d (x .x)) (writeBack t d (c .with-state3 .result)) d file claimed doubtful (x .next) (x .left) (x .last) (omega (arith, l .before .if1 .left)) (l .if2 .left)
     (ap (writeBack t d) (c .with-state3 .ensures) ∙ write-back-header t d a (x .x) (sixteen s))
 
 pub expect-payload-spec : {M : Type 1} → statement M

@@ -13,18 +13,18 @@ returns : tie.Need-returns
 unfolding reportWithFile
 returns c =
     let f = c .before in
-    let x = f .before .before .before .args in
+    let x = f .before .before .before .before .args in
     c .unfit .ensures ∙ rw (ne-eqb (x .file) (x .t .len) (f .if1 .taken))
 
-fit-report-requires : tie.Need-fit-report-requires
-fit-report-requires c κs = search needs
+report-requires : tie.Need-report-requires
+report-requires c κs = search needs
 
 returns-2 : tie.Need-returns-2
 unfolding reportWithFile
 returns-2 c =
     let f = c .before in
-    let x = f .before .before .before .args in
-    c .fit-report .ensures ∙ rw (eq-eqb (x .file) (x .t .len) (f .if1 .left))
+    let x = f .before .before .before .before .args in
+    c .report .ensures ∙ rw (eq-eqb (x .file) (x .t .len) (f .if1 .left))
 
 pub report-with-file-spec : {M : Type 1} → statement M
-report-with-file-spec = tie.close (tie.spec unfit-requires returns fit-report-requires returns-2)
+report-with-file-spec = tie.close (tie.spec unfit-requires returns report-requires returns-2)

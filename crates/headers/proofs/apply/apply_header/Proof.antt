@@ -22,7 +22,7 @@ sixteen : (s : tie.Start) → length (s .args .x .bytes) ≡ 16
 sixteen s = search needs
 
 abbrev begun : tie.After-judge-header → tie.Start
-begun c = c .before .before .before .before .before
+begun c = c .before .before .before .before .before .before
 
 -- the request that the code has, by the numbers that it has
 asks : (c : tie.After-judge-header) (q : Request) → c .judge-header .result ≡ q → let x = begun c .args in toHeaderRequest q ≡ requestOf (x .o .len) (x .x .count) (x .o .used + 1) (x .head .now)
@@ -68,53 +68,57 @@ enum-known-start c = search needs
 
 claim-or-fault-requires : tie.Need-claim-or-fault-requires
 claim-or-fault-requires c κs =
-    let r = c .before .before in
+    let r = c .before .before .before in
     let a = r .before .before in
-    let b = begun a in
-    let x = b .args in
+    let x = begun a .args in
     let s = r .start .given .0 .0 in
     let e = r .start .given .0 .1 .0 in
-    range-asked (x .o .len) (x .x .count) (x .o .used + 1) (x .head .now) s e (asks a (Claims s e) (r .start .given .1)) .0
+    let b = r .start .given .0 .1 .1 .0 in
+    range-asked (x .o .len) (x .x .count) (x .o .used + 1) (x .head .now) s e b (asks a (Claims s e b) (r .start .given .1)) .0
 
 returns : tie.Need-returns
-returns c i o t file a n =
+returns c i o t file a n f =
     let r = c .before .before in
     let q = r .before .before in
     let x = begun q .args in
     let k = r .k .given .0 .0 in
-    leaves-fault (writeBack t (x .c) (x .x)) (writeBack t (x .c) (c .cleared-with-fault .result)) (x .c) file (x .ledger .now) k (ap (writeBack t (x .c)) (c .cleared-with-fault .ensures) ∙ write-back-fault t (x .c) (a .has) (x .x) (sixteen (begun q)) k)
-    ∙ apply-fault (writeBack t (x .c) (x .x)) file (x .ledger .now) (x .c) (x .head .now) k (asks-for q (Faulty k) (r .k .given .1) t a i)
+    leaves-fault (writeBack t (x .c) (x .x)) (writeBack t (x .c) (c .cleared-with-fault .result)) (x .c) file (x .claimed .now) (x .doubtful .now) k (ap (writeBack t (x .c)) (c .cleared-with-fault .ensures) ∙ write-back-fault t (x .c) (a .has) (x .x) (sixteen (begun q)) k)
+    ∙ apply-fault (writeBack t (x .c) (x .x)) file (x .claimed .now) (x .doubtful .now) (x .c) (x .head .now) k (asks-for q (Faulty k) (r .k .given .1) t a i)
 
 returns-2 : tie.Need-returns-2
 unfolding putCount writeBack
-returns-2 c i o t file a n =
+returns-2 c i o t file a n f =
     let r = c .before .before in
     let q = r .before .before in
     let x = begun q .args in
     let m = r .n .given .0 .0 in
-    apply-count (writeBack t (x .c) (x .x)) file (x .ledger .now) (x .c) (x .head .now) _ _ (q .before .before .has .ensures) m (asks-for q (Counts m) (r .n .given .1) t a i)
-    (c .expect-payload .ensures t (x .c) file (x .ledger .now) (a .has))
+    apply-count (writeBack t (x .c) (x .x)) file (x .claimed .now) (x .doubtful .now) (x .c) (x .head .now) _ _ (q .before .before .has .ensures) m (asks-for q (Counts m) (r .n .given .1) t a i)
+    (c .expect-payload .ensures t (x .c) file (x .claimed .now) (x .doubtful .now) (a .has))
 
 returns-3 : tie.Need-returns-3
-returns-3 c i o t file a n =
+returns-3 c i o t file a n f =
     let q = c .before .before .before in
     let x = begun q .args in
-    apply-nothing (writeBack t (x .c) (x .x)) file (x .ledger .now) (x .c) (x .head .now) _ _ (q .before .before .has .ensures) (asks-for q Nothing (c .before .enum-told .given .1) t a i)
-    (c .expect-payload2 .ensures t (x .c) file (x .ledger .now) (a .has))
+    apply-nothing (writeBack t (x .c) (x .x)) file (x .claimed .now) (x .doubtful .now) (x .c) (x .head .now) _ _ (q .before .before .has .ensures) (asks-for q Nothing (c .before .enum-told .given .1) t a i)
+    (c .expect-payload2 .ensures t (x .c) file (x .claimed .now) (x .doubtful .now) (a .has))
 
 same-length : tie.Need-same-length
 same-length c = search needs
 
+same-length-2 : tie.Need-same-length-2
+same-length-2 c = search needs
+
 returns-4 : tie.Need-returns-4
-returns-4 c i o t file a n =
-    let k = c .before .before in
-    let r = k .before .before .before in
+returns-4 c i o t file a n f =
+    let k = c .before .before .before .before in
+    let r = k .before .before .before .before in
     let q = r .before .before in
     let x = begun q .args in
     let s = r .start .given .0 .0 in
     let e = r .start .given .0 .1 .0 in
-    apply-claim (writeBack t (x .c) (x .x)) file (x .ledger .now) (x .c) (x .head .now) _ _ (q .before .before .has .ensures) s e (asks-for q (Claims s e) (r .start .given .1) t a i)
-    (k .claim-or-fault .ensures o t file (a .has) n)
+    let b = r .start .given .0 .1 .1 .0 in
+    apply-claim (writeBack t (x .c) (x .x)) file (x .claimed .now) (x .doubtful .now) (x .c) (x .head .now) _ _ (q .before .before .has .ensures) s e b (asks-for q (Claims s e b) (r .start .given .1) t a i)
+    (k .claim-or-fault .ensures o t file (a .has) n f)
 
 pub apply-header-spec : {M : Type 1} → statement M
 apply-header-spec =
@@ -136,4 +140,5 @@ apply-header-spec =
     returns-2
     returns-3
     same-length
+    same-length-2
     returns-4)

@@ -74,16 +74,20 @@ part-read-end-2 c = search needs
 read-requires-2 : tie.Need-read-requires-2
 read-requires-2 c κs = search needs
 
+has-requires-2 : tie.Need-has-requires-2
+has-requires-2 c κs = search needs
+
 judge-payload-requires : tie.Need-judge-payload-requires
 judge-payload-requires c κs = search needs
 
 returns-3 : tie.Need-returns-3
 unfolding requestOf
 returns-3 c =
-    let e = c .before .before .before in
+    let d = c .before in
+    let e = d .before .before .before in
     let h = e .before in
     let r = h .before in
-    c .judge-payload .ensures ∙ rw (no-fault (r .before .before), sym (h .has .ensures) ∙ e .if2 .left, third-is r, second-is (c .before))
+    c .judge-payload .ensures ∙ rw (no-fault (r .before .before), sym (h .has .ensures) ∙ e .if2 .left, third-is r, second-is (d .before), d .has2 .ensures)
 
 pub judge-header-spec : {M : Type 1} → statement M
 judge-header-spec =
@@ -103,5 +107,6 @@ judge-header-spec =
     part-read-start-2
     part-read-end-2
     read-requires-2
+    has-requires-2
     judge-payload-requires
     returns-3)

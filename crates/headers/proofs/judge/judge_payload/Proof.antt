@@ -5,7 +5,7 @@ use mathlib.Core.Bool.{false}
 use native.Mathlib.Omega.{arith}
 use borrow.Author.Needs.{needs}
 use borrow.Author.Tests.{lt-ltb, le-ltb, leb-true, leb-false, ne-eqb, not-true, not-false}
-use lib.Dec.{ltb, eqb}
+use lib.Dec.{eqb}
 use Rattle.headers.proofs.judge.judge_payload.Statement.{statement}
 use Rattle.headers.proofs.judge.judge_payload.Tie as tie
 
@@ -28,11 +28,11 @@ sum-at-most-requires c κs = search needs
 returns-2 : tie.Need-returns-2
 returns-2 c = let x = c .before .before .before .args in rw (some (c .before .before), lt-ltb (x .len) (x .offset + x .length) (past c))
 
-add-t6 : tie.Need-add-t6
-add-t6 c = let x = c .before .before .before .args in omega (arith, inside c)
+add-t7 : tie.Need-add-t7
+add-t7 c = let x = c .before .before .before .args in omega (arith, inside c)
 
 returns-3 : tie.Need-returns-3
 returns-3 c = let x = c .before .before .before .args in rw (some (c .before .before), le-ltb (x .len) (x .offset + x .length) (inside c))
 
 pub judge-payload-spec : {M : Type 1} → statement M
-judge-payload-spec = tie.close (tie.spec returns sum-at-most-requires returns-2 add-t6 returns-3)
+judge-payload-spec = tie.close (tie.spec returns sum-at-most-requires returns-2 add-t7 returns-3)

@@ -45,17 +45,17 @@ returns c =
     let x = s .args in
     let m = n .lesser .result in (
       n .lesser .ensures,
-      λ t d ledger a e.
-          let w = world (writeBack t d (x .x)) (x .file .now) ledger in
+      λ t d claimed doubtful a e.
+          let w = world (writeBack t d (x .x)) (x .file .now) claimed doubtful in
           let k = write-back-at t d a (x .x) in
-          let b : x .x .state < 4 = storing-below (channelOf (x .x)) (stage-of-channel t d a (x .x) (x .file .now) ledger e) (s .pre .2) in
+          let b : x .x .state < 4 = storing-below (channelOf (x .x)) (stage-of-channel t d a (x .x) (x .file .now) claimed doubtful e) (s .pre .2) in
           let r = rest-inside w d (a .below) e (omega (arith, s .pre .1, ap (λ z. z .state) k)) (omega (arith, b, ap (λ z. z .state) k)) in
           let i : x .x .next + x .x .left ≤ length (x .file .now) = omega (arith, r, ap (λ z. z .next) k, ap (λ z. z .left) k) in
           let q : p .wrapping-add-u64 .result ≡ x .x .next + m = omega (arith, p .wrapping-add-u64 .ensures, n .lesser .ensures, i, file-fits (n .before)) in
           stored-run-of (writeBack t d (x .x)) (x .file .now) _ d (channelOf (x .x)) k (x .piece .now) m (a .below) (s .pre .0) (s .pre .1) b i (n .lesser .ensures)
           (y .store .ensures ∙ stored-is-written (x .x .next) m (x .piece .now) (x .file .now) (omega (arith, n .lesser .ensures)) (omega (arith, n .lesser .ensures, i)))
           (writeBack t d (o .expect-payload .result .channel)) (o .expect-payload .result .continues)
-          (λ f l. o .expect-payload .ensures t d f l a ∙ ap (λ z. expectPayload (world (writeBack t d (x .x)) f l) d z (x .x .left - m) (eqb (x .x .state) 3)) q) ledger e,
+          (λ f l u. o .expect-payload .ensures t d f l u a ∙ ap (λ z. expectPayload (world (writeBack t d (x .x)) f l u) d z (x .x .left - m) (eqb (x .x .state) 3)) q) claimed doubtful e,
     )
 
 pub payload-run-spec : {M : Type 1} → statement M

@@ -1,48 +1,64 @@
 -- `line::put_line`.
+use mathlib.Core.List.{_++_}
 use native.Mathlib.Omega.{arith}
-use Rattle.answers.proofs.WritesAt.{writesAt-append}
-use Rattle.screen.specs.Screen.{frontTextOf, bytesWord, lineFeed, bytesText, lineText}
-use Rattle.screen.proofs.Screen.{length-lineText}
 use borrow.Author.Needs.{needs}
+use Rattle.octets.specs.Decimal.{decimal}
+use Rattle.answers.proofs.WritesAt.{writesAt-append}
+use Rattle.verdicts.specs.Verdict.{toVerdict}
+use Rattle.screen.specs.Screen.{bytesWord, frontTextOf, bytesText, tailTextOf, lineText}
+use Rattle.screen.proofs.Screen.{length-lineText}
 use Rattle.screen.proofs.line.put_line.Statement.{statement}
 use Rattle.screen.proofs.line.put_line.Tie as tie
 
 put-front-requires : tie.Need-put-front-requires
 put-front-requires c κs =
-    let x = c .before .before .args in
-    let n = x .n in
-    omega (arith, length-lineText (x .v) (n .fault) (n .on) (n .ended) (n .count) (n .bytes))
+    let n = c .before .before .args .n in
+    omega (arith, length-lineText (toVerdict (n .verdict)) (n .fault) (n .on) (n .ended) (n .count) (n .bytes) (n .doubtful))
 
-slice-aggregate-put-between : tie.Need-slice-aggregate-put-between
-slice-aggregate-put-between c = search needs
+slice-aggregate-put-word : tie.Need-slice-aggregate-put-word
+slice-aggregate-put-word c = search needs
 
-slice-aggregate-put-between-2 : tie.Need-slice-aggregate-put-between-2
-slice-aggregate-put-between-2 c = search needs
+put-word-requires : tie.Need-put-word-requires
+put-word-requires c κs =
+    let n = c .before .before .before .before .before .before .before .args .n in
+    omega (arith, length-lineText (toVerdict (n .verdict)) (n .fault) (n .on) (n .ended) (n .count) (n .bytes) (n .doubtful))
 
-put-between-requires : tie.Need-put-between-requires
-put-between-requires c κs =
-    let x = c .before .before .before .before .before .before .before .before .args in
-    let n = x .n in
-    omega (arith, length-lineText (x .v) (n .fault) (n .on) (n .ended) (n .count) (n .bytes))
+put-number-requires : tie.Need-put-number-requires
+put-number-requires c κs =
+    let n = c .before .before .before .before .before .before .before .before .before .before .before .args .n in
+    omega (arith, length-lineText (toVerdict (n .verdict)) (n .fault) (n .on) (n .ended) (n .count) (n .bytes) (n .doubtful))
+
+put-tail-requires : tie.Need-put-tail-requires
+put-tail-requires c κs =
+    let n = c .before .before .before .before .before .before .before .before .before .before .before .before .before .before .before .args .n in
+    omega (arith, length-lineText (toVerdict (n .verdict)) (n .fault) (n .on) (n .ended) (n .count) (n .bytes) (n .doubtful))
 
 same-length : tie.Need-same-length
 same-length c = search needs
 
 returns : tie.Need-returns
-unfolding lineText bytesText bytesWord lineFeed
+unfolding lineText bytesText bytesWord
 returns c =
-    let b = c .before .before in
-    let f = b .before .before .before .before .before .before in
+    let t = c .before .before in
+    let d = t .before .before .before .before in
+    let w = d .before .before .before .before in
+    let f = w .before .before .before .before .before in
     let x = f .before .before .before .args in
-    writesAt-append (x .out .now) _ _ (frontTextOf (x .v) (x .n)) (bytesText (x .n .bytes)) 0 _ _ (f .put-front .ensures) (b .put-between .ensures)
+    let front = f .put-front .last .0 in
+    let bytes = d .put-number .last .0 in
+    writesAt-append (x .out .now) bytes (t .put-tail .last .0) (frontTextOf (x .n) ++ bytesText (x .n .bytes)) (tailTextOf (x .n)) 0 (d .put-number .result) _
+    (writesAt-append (x .out .now) front bytes (frontTextOf (x .n)) (bytesText (x .n .bytes)) 0 (f .put-front .result) (d .put-number .result) (f .put-front .ensures)
+    (writesAt-append front (w .put-word .last .0) bytes bytesWord (decimal (x .n .bytes)) (f .put-front .result) (w .put-word .result) (d .put-number .result) (w .put-word .ensures) (d .put-number .ensures)))
+    (t .put-tail .ensures)
 
 pub put-line-spec : {M : Type 1} → statement M
 put-line-spec =
     tie.close
     (tie.spec
     put-front-requires
-    slice-aggregate-put-between
-    slice-aggregate-put-between-2
-    put-between-requires
+    slice-aggregate-put-word
+    put-word-requires
+    put-number-requires
+    put-tail-requires
     same-length
     returns)

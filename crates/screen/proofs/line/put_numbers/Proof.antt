@@ -5,20 +5,21 @@ use lib.ListN.{length, take}
 use lib.Seq.{length-take-le}
 use borrow.Author.Needs.{needs}
 use Rattle.answers.proofs.WritesAt.{writesAt-first}
+use Rattle.verdicts.specs.Verdict.{toVerdict}
 use Rattle.screen.specs.Screen.{lineTextOf}
 use Rattle.screen.proofs.Screen.{line-most}
 use Rattle.screen.proofs.line.put_numbers.Statement.{statement}
 use Rattle.screen.proofs.line.put_numbers.Tie as tie
 
 -- every number is one of 64 bits, so that the line fits
-fits : (c : tie.After-line) → length (lineTextOf (c .before .before .args .v) (c .before .before .args .n)) ≤ 85
+fits : (c : tie.After-line) → length (lineTextOf (c .before .before .args .n)) ≤ 116
 fits c =
     let x = c .before .before .args in
-    line-most (x .v) (x .n .fault) (x .n .on) (x .n .ended) (x .n .count) (x .n .bytes) (search needs) (search needs) (search needs) (search needs) (search needs)
+    line-most (x .n .fault) (x .n .on) (x .n .ended) (x .n .count) (x .n .bytes) (x .n .doubtful) (search needs) (search needs) (search needs) (search needs) (search needs) (search needs) (toVerdict (x .n .verdict))
 
 -- the line is the first bytes of the array
 first : (c : tie.After-put-line) → let x = c .before .before .before .args in
-    (c .put-line .result ≤ length (c .put-line .last .0)) × (take (c .put-line .result) (c .put-line .last .0) ≡ lineTextOf (x .v) (x .n))
+    (c .put-line .result ≤ length (c .put-line .last .0)) × (take (c .put-line .result) (c .put-line .last .0) ≡ lineTextOf (x .n))
 first c = writesAt-first _ _ _ _ (fits (c .before)) (c .put-line .ensures)
 
 slice-aggregate-put-line : tie.Need-slice-aggregate-put-line

@@ -2,6 +2,7 @@
 use Prim.Native.Nat.{_+_, _<_}
 use mathlib.Core.Bool.{cond}
 use native.Mathlib.Omega.{arith}
+use borrow.Author.Needs.{needs}
 use borrow.Author.Tests.{lt-ltb, le-ltb, eq-eqb, ne-eqb}
 use lib.Dec.{eqb}
 use Rattle.verdicts.proofs.verdict.of.Statement.{statement}
@@ -16,13 +17,17 @@ returns-2 c = rw (le-ltb 0 (c .before .before .args .fault) (c .before .if1 .lef
 others-needed-requires : tie.Need-others-needed-requires
 others-needed-requires c κs = omega (arith, c .if2 .left)
 
+last-word-requires : tie.Need-last-word-requires
+last-word-requires c κs = search needs
+
 returns-3 : tie.Need-returns-3
 returns-3 c =
-    let v = c .before in
+    let f = c .before in
+    let v = f .before in
     let e = v .before in
     let x = e .before .before .args in
     let h : 0 < x .count = omega (arith, e .if2 .left) in
-    rw (le-ltb 0 (x .fault) (e .before .if1 .left), lt-ltb 0 (x .count) h, eq-eqb (x .others + cond (eqb (x .state) 4) 1 0) (x .count) (omega (arith, v .others-needed .ensures, c .if3 .taken)))
+    rw (le-ltb 0 (x .fault) (e .before .if1 .left), lt-ltb 0 (x .count) h, eq-eqb (x .others + cond (eqb (x .state) 4) 1 0) (x .count) (omega (arith, v .others-needed .ensures, f .if3 .taken))) (c .last-word .ensures)
 
 returns-4 : tie.Need-returns-4
 returns-4 c =
@@ -35,4 +40,4 @@ returns-4 c =
     rw (le-ltb 0 (x .fault) (e .before .if1 .left), lt-ltb 0 (x .count) h, ne-eqb (x .others + cond (eqb (x .state) 4) 1 0) (x .count) (λ q. l (omega (arith, d, q))))
 
 pub of-spec : {M : Type 1} → statement M
-of-spec = tie.close (tie.spec returns returns-2 others-needed-requires returns-3 returns-4)
+of-spec = tie.close (tie.spec returns returns-2 others-needed-requires last-word-requires returns-3 returns-4)

@@ -20,17 +20,17 @@ none : (n : ℕ) → n ≤ 0 → n ≡ 0
 none n h = omega arith
 
 abbrev begun : tie.After-refusal → tie.Start
-begun r = r .before .before .before .before .before .before .before .before .before
+begun r = r .before .before .before .before .before .before .before .before .before .before .before
 
 abbrev given : tie.After-refusal → World
-given r = let x = begun r .args in world (x .self .transfer) (x .file .now) (x .ledger .now)
+given r = let x = begun r .args in world (x .self .transfer) (x .file .now) (x .claimed .now) (x .doubtful .now)
 
 number-is : (r : tie.After-refusal) → let x = begun r .args in r .refusal .result ≡ refusalOf (given r) (x .channel) (x .piece .now)
 number-is r =
     let x = begun r .args in
     let t = x .self .transfer in
     let p = r .before .before in
-    r .refusal .ensures t (x .file .now) (x .ledger .now) (x .piece .now) (p .before .report-with-file .ensures) refl refl (λ h. ap (λ i. channelAt t i .state) (p .channel-index .ensures .1 h)) (some-is (x .piece .now))
+    r .refusal .ensures t (x .file .now) (x .claimed .now) (x .doubtful .now) (x .piece .now) (p .before .report-with-file .ensures) refl refl (λ h. ap (λ i. channelAt t i .state) (p .channel-index .ensures .1 h)) (some-is (x .piece .now))
 
 -- ---- a call that is not refused
 
@@ -61,36 +61,42 @@ refused-requires c κs = search needs
 same-length : tie.Need-same-length
 same-length c = search needs
 
+same-length-2 : tie.Need-same-length-2
+same-length-2 c = search needs
+
 returns : tie.Need-returns
 returns c =
-    let r = c .before .before in
+    let r = c .before .before .before in
     let x = begun r .args in
     let e = c .refused .ensures in (
-      ap₂ (λ (a : Answer) (u : Transfer). (toAnswer a, world u (x .file .now) (x .ledger .now))) (e .1) (e .0)
-          ∙ is-refused (given r) (x .channel) (x .piece .now) (r .refusal .result) (number-is r) (c .before .if1 .taken),
-      e .2 (x .file .now) (x .ledger .now) ∙ ap (λ u. verdictOf (world u (x .file .now) (x .ledger .now))) (sym (e .0)),
+      ap₂ (λ (a : Answer) (u : Transfer). (toAnswer a, world u (x .file .now) (x .claimed .now) (x .doubtful .now))) (e .1) (e .0)
+          ∙ is-refused (given r) (x .channel) (x .piece .now) (r .refusal .result) (number-is r) (c .before .before .if1 .taken),
+      e .2 (x .file .now) (x .claimed .now) ∙ ap (λ u. verdictOf (world u (x .file .now) (x .claimed .now) (x .doubtful .now))) (sym (e .0)),
     )
 
 taken-requires : tie.Need-taken-requires
 taken-requires c κs =
-    let e = c .before .before in
+    let e = c .before .before .before in
     let r = e .before in
     let x = begun r .args in
     let i = r .before .before in
     let f = i .before .report-with-file .ensures in
-    let n = found-counts (x .self .transfer) (x .file .now) (x .ledger .now) (may e .0) in
+    let n = found-counts (x .self .transfer) (x .file .now) (x .claimed .now) (x .doubtful .now) (may e .0) in
     (i .channel-index .ensures .0, may e .0, ap (λ s. s .used) f ∙ n .0, ap (λ s. s .ended) f ∙ n .1)
-
-same-length-2 : tie.Need-same-length-2
-same-length-2 c = search needs
 
 same-length-3 : tie.Need-same-length-3
 same-length-3 c = search needs
 
+same-length-4 : tie.Need-same-length-4
+same-length-4 c = search needs
+
+same-length-5 : tie.Need-same-length-5
+same-length-5 c = search needs
+
 returns-2 : tie.Need-returns-2
 returns-2 c =
-    let k = c .before .before .before .before in
-    let e = k .before .before .before in
+    let k = c .before .before .before .before .before .before in
+    let e = k .before .before .before .before in
     let r = e .before in
     let x = begun r .args in (
       k .taken .ensures .0 ∙ ap (λ i. takeBytesOn i (given r) (x .piece .now) 0) (r .before .before .channel-index .ensures .1 (may e .1)) ∙ is-taken (given r) (x .channel) (x .piece .now) (not-refused-is e),
@@ -108,8 +114,10 @@ receive-spec =
     refusal-requires
     refused-requires
     same-length
+    same-length-2
     returns
     taken-requires
-    same-length-2
     same-length-3
+    same-length-4
+    same-length-5
     returns-2)
