@@ -136,7 +136,7 @@ typedef struct cob_started {
 typedef struct cob_received {
     cob_transfer transfer;
     size_t taken;    /* bytes of the piece */
-    uint8_t verdict; /* of the transfer beside it, also where the call is refused */
+    uint8_t verdict; /* by that transfer and the doubtful ledger, also where the call is refused */
     uint8_t refused;
 } cob_received;
 

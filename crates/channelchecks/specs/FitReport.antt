@@ -20,6 +20,6 @@ reportIf b t = cond b (record { fits = true; used = usedOf t; ended = endedOf t 
 abbrev pub channelsFitTogether : Transfer → List ℕ → Bool
 channelsFitTogether t claimed = channelsFit (pairsOf claimed) (t .channels) (t .heads) && restsApart (t .channels)
 
--- the ledger obeys its rule with no end above the file's length
+-- the claimed ledger obeys its rule with no end above the file's length
 abbrev pub ledgerFits : Transfer → List ℕ → Bool
 ledgerFits t claimed = obeys claimed && endsAtMost (t .len) (pairsOf claimed)

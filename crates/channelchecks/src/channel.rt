@@ -1,4 +1,4 @@
-// Whether one channel fits: its numbers, its held bytes and the ledger.
+// Whether one channel fits: its numbers, its held bytes and the claimed ledger.
 use crate::held;
 use crate::limits;
 use rangechecks::search;

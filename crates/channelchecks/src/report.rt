@@ -1,4 +1,4 @@
-// The channels against the ledger, with what is counted on the way.
+// The channels against the claimed ledger, with what is counted on the way.
 use crate::totals;
 use ledger::rule;
 use rangechecks::disjoint;

@@ -18,7 +18,7 @@ pub data Case : Type 0 where
   header : ℕ → ℕ → ℕ → List ℕ → Case
   -- a descriptor has this fault
   descriptor : ℕ → ℕ → Case
-  -- these calls, with a file of 8 bytes and a ledger of one pair, end with this fault, 0 being none, and leave this ledger
+  -- these calls, with a file of 8 bytes and ledgers of one pair, end with this fault, 0 being none, and leave this claimed ledger
   received : List Call → ℕ → List ℕ → Case
   -- a range list, read into a ledger of one pair, is answered with this number, 0 being accepted, and leaves this ledger
   ranges : List ℕ → ℕ → List ℕ → Case

@@ -76,7 +76,7 @@ width-some n = go (decLt n 10)
     go (yes h) = omega (arith, width-small n h)
     go (no h) = omega (arith, width-step n (omega arith))
 
-width-le : (w n : ℕ) → n < 10 ^ suc w → digitCount n ≤ suc w
+pub width-le : (w n : ℕ) → n < 10 ^ suc w → digitCount n ≤ suc w
 width-le zero n h = omega (arith, width-small n h)
 width-le (suc w) n h = go (decLt n (10 ^ suc w)) (width-le w n)
   where

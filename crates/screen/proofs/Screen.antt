@@ -1,5 +1,5 @@
 -- The screen line: its parts, how long it can be, and its number by FIT.
-use Prim.Native.Nat.{ℕ, zero, suc, _+_, _≤_, _<_}
+use Prim.Native.Nat.{ℕ, zero, suc, _+_, _*_, _^_, _≤_, _<_}
 use mathlib.Core.Path.{_≡_, refl, sym, ap, _∙_, subst}
 use mathlib.Core.Logic.{inl, inr}
 use mathlib.Core.List.{List, [], _∷_, _++_}
@@ -11,7 +11,7 @@ use types.Run.{OneOf}
 use lib.ListN.{length, getD, set, take, length-append}
 use lib.Seq.{sets, take-suc, length-take-le}
 use Rattle.octets.specs.Decimal.{decimal}
-use Rattle.octets.proofs.Decimals.{length-decimal, width-20}
+use Rattle.octets.proofs.Decimals.{length-decimal, width-some, width-le}
 use Rattle.answers.specs.Written.{roomRefusal}
 use Rattle.answers.proofs.WritesAt.{sets-append}
 use Rattle.transfer.specs.declared.state.Transfer.{Transfer}
@@ -100,33 +100,37 @@ pub length-lineText : (v : Verdict) (fault on ended count bytes doubt : ℕ)
 unfolding lineText bytesText bytesWord
 length-lineText v fault on ended count bytes doubt = simp length-append (omega arith)
 
-digits-most : (n : ℕ) → n < 18446744073709551616 → length (decimal n) ≤ 20
-digits-most n h = omega (arith, length-decimal n, width-20 n h)
+pub digits-most : (w n : ℕ) → n < 10 ^ suc w → length (decimal n) ≤ suc w
+digits-most w n h = omega (arith, length-decimal n, width-le w n h)
 
-count-most : (n : ℕ) → n < 18446744073709551616 → length (countText n) ≤ 20
-unfolding countText unknownWord
-count-most zero h = omega arith
-count-most (suc n) h = digits-most (suc n) h
-
--- of numbers of 64 bits
-module _ (fault on ended count bytes doubt : ℕ) (f : fault < 18446744073709551616) (o : on < 18446744073709551616) (e : ended < 18446744073709551616) (c : count < 18446744073709551616)
+-- of numbers of 64 bits that have at most w digits, but for the two of bytes
+module _ (w fault on ended count bytes doubt : ℕ) (f : length (decimal fault) ≤ w) (o : length (decimal on) ≤ w) (e : length (decimal ended) ≤ w) (c : length (decimal count) ≤ w)
     (b : bytes < 18446744073709551616) (d : doubt < 18446744073709551616) where
-  front-most : (v : Verdict) → length (frontText v fault on ended count) ≤ 58
+  -- an unknown count has one byte, as the number 0 has
+  count-most : length (countText count) ≤ w
+  unfolding countText unknownWord
+  count-most = go count c
+    where
+      go : (n : ℕ) → length (decimal n) ≤ w → length (countText n) ≤ w
+      go zero h = omega (arith, h, length-decimal 0, width-some 0)
+      go (suc n) h = h
+
+  front-most : (v : Verdict) → length (frontText v fault on ended count) ≤ 18 + 2 * w
   unfolding frontText guessWord resultWord suspectWord
-  front-most broken = omega (arith, length-brokenText fault on, digits-most fault f, digits-most on o)
-  front-most guess = omega (arith, length-append guessWord (endedText ended count), length-endedText ended count, digits-most ended e, count-most count c)
-  front-most result = omega (arith, length-append resultWord (endedText ended count), length-endedText ended count, digits-most ended e, count-most count c)
-  front-most suspect = omega (arith, length-append suspectWord (endedText ended count), length-endedText ended count, digits-most ended e, count-most count c)
+  front-most broken = omega (arith, length-brokenText fault on, f, o)
+  front-most guess = omega (arith, length-append guessWord (endedText ended count), length-endedText ended count, e, count-most)
+  front-most result = omega (arith, length-append resultWord (endedText ended count), length-endedText ended count, e, count-most)
+  front-most suspect = omega (arith, length-append suspectWord (endedText ended count), length-endedText ended count, e, count-most)
 
   tail-most : (v : Verdict) → length (tailText v doubt) ≤ 31
   unfolding tailText doubtfulWord lineFeed
   tail-most broken = omega arith
   tail-most guess = omega arith
   tail-most result = omega arith
-  tail-most suspect = omega (arith, length-between doubtfulWord (decimal doubt) lineFeed, digits-most doubt d)
+  tail-most suspect = omega (arith, length-between doubtfulWord (decimal doubt) lineFeed, digits-most 19 doubt (omega (arith, d)))
 
-  pub line-most : (v : Verdict) → length (lineText v fault on ended count bytes doubt) ≤ 116
-  line-most v = omega (arith, length-lineText v fault on ended count bytes doubt, front-most v, tail-most v, digits-most bytes b)
+  pub line-most : (v : Verdict) → length (lineText v fault on ended count bytes doubt) ≤ 76 + 2 * w
+  line-most v = omega (arith, length-lineText v fault on ended count bytes doubt, front-most v, tail-most v, digits-most 19 bytes (omega (arith, b)))
 
 -- ---- by FIT
 

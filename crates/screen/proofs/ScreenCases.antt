@@ -18,4 +18,4 @@ use Rattle.screen.specs.ScreenCases.{ScreenCases}
 
 pub screen-cases : ScreenCases
 unfolding fromLittleEndian fromBigEndian toLittleEndian toBigEndian has faultOf secondOf thirdOf headerBytes size total join overlaps inside allInside endsAtMost lengthWrong allZero obeysFrom obeys pairsOf hasPair laidOut stateCode heldLength nextPlace bytesLeft heldBytes encodeState decodeState stateAt putState putFault putCount sum endedOf usedOf leftOf allEnded isDoubted verdictOf storedOf doubtOf fresh lengthsWrong startOf startAfter payloadLength requestOf lacksPairs claimFault emptyFits headerFits payloadFits channelFits channelsFit apart apartFrom restsApart countFits faultFits claimedFits doubtfulFits fitsWithoutFile fits expectPayload stopWithFault withRange claimRange applyRequest applyHeader takeHeaderByte storePayloadByte takeByteIn takeByte takeBytes refusalOf receiveOf callOf foldCalls startedWorld digitCountBy digitCount inDigits decimal brokenWord onWord guessWord resultWord suspectWord endedWord ofWord unknownWord bytesWord doubtfulWord lineFeed countText brokenText endedText frontText bytesText tailText lineText lineOf roomRefusal writtenBy writtenAfter screenRefusal screenOf screenAfter
-screen-cases = ((refl, refl, refl, refl), ((refl, refl, refl, refl), ((refl, refl, refl, refl), ((refl, refl, refl, refl), ((refl, refl, refl, refl), ((refl, refl, refl, refl), ((refl, refl, refl, refl), tt)))))))
+screen-cases = ((refl, refl, refl, refl), ((refl, refl, refl, refl), ((refl, refl, refl, refl), ((refl, refl, refl, refl), ((refl, refl, refl, refl), ((refl, refl, refl, refl), ((refl, refl, refl, refl), ((refl, refl, refl, refl), tt))))))))

@@ -2,12 +2,29 @@
 use Prim.Native.Nat.{ℕ, _≤_, _<_}
 use mathlib.Core.Path.{_≡_}
 use mathlib.Core.Bool.{true, false}
-use mathlib.Core.List.{List}
-use lib.ListN.{length}
+use mathlib.Core.List.{List, [], _∷_}
+use lib.ListN.{length, replicate}
 use Rattle.answers.specs.Written.{Refuses, Writes}
+use Rattle.ledger.specs.Ledger.{largest}
 use Rattle.transfer.specs.declared.state.Transfer.{Transfer}
 use Rattle.transfer.specs.Fit.{fitsWithoutFile}
 use Rattle.screen.specs.Screen.{lineFor, screenOf, screenAfter}
+
+-- a transfer of the largest file, of which all bytes are claimed and doubtful, and 64 channels are counted and have ended
+abbrev pub fullest : Transfer
+fullest =
+    record {
+      len = largest;
+      pairs = 1;
+      count = 64;
+      fault = 0;
+      on = 0;
+      heads = replicate 1024 0;
+      channels = replicate 64 (record { state = 4; held = 0; next = 0; left = 0 });
+    }
+
+abbrev pub wholeFile : List ℕ
+wholeFile = 0 ∷ largest ∷ []
 
 -- the premises carry the order of the numbers
 pub record ScreenRows : Type 0 where
@@ -19,3 +36,6 @@ pub record ScreenRows : Type 0 where
   -- otherwise the line is written, and the bytes after it are unchanged
   pub row-written : (t : Transfer) (claimed doubtful out : List ℕ) → fitsWithoutFile t claimed doubtful ≡ true → length (lineFor t claimed doubtful) ≤ length out
       → Writes (screenOf t claimed doubtful out) (screenAfter t claimed doubtful out) out (lineFor t claimed doubtful) (length (lineFor t claimed doubtful))
+  -- no line has more than 80 bytes, so that with as many lent it is never refused by 55; and one has them
+  pub longest : (t : Transfer) (claimed doubtful : List ℕ) → t .len ≤ largest → fitsWithoutFile t claimed doubtful ≡ true → length (lineFor t claimed doubtful) ≤ 80
+  pub longest-is : (fitsWithoutFile fullest wholeFile wholeFile ≡ true) × (length (lineFor fullest wholeFile wholeFile) ≡ 80)

@@ -156,7 +156,7 @@ payloads-most file count size h =
     most true = omega arith
     most false = omega arith
 
--- for a file of that length and a ledger of R pairs that holds nothing before
+-- for a file of that length and ledgers of R pairs that hold nothing before
 pub well-formed : (file : List ℕ) (count size : ℕ) → 0 < count → count ≤ 64 → 0 < size → size ≤ 65536 → blockCount (length file) size ≤ 4096
     → (R : ℕ) → blockCount (length file) size ≤ R → WellFormed (length file) R none (sending file count size)
 unfolding contains pairCount

@@ -71,7 +71,7 @@ pub record CanEnd : Type 0 where
 
 -- ---- what the sending is
 
--- well-formed, for a receiver whose file has that length and whose ledger has a pair for each block
+-- well-formed, for a receiver whose file has that length and whose ledgers have a pair for each block
 pub record WellFormedSending : Type 0 where
   pub is : (file : List ℕ) (count size : ℕ) → beginRefusal count size ≡ 0 → blockCount (length file) size ≤ 4096 → (R : ℕ) → blockCount (length file) size ≤ R → WellFormed (length file) R none (sending file count size)
   -- no block has bit 32, so that it never ends with SUSPECT (document 02, Item 3)

@@ -63,7 +63,7 @@ payloadsHolding p xs = sum (λ (x : Block). inRange (placeOf x) (placeOf x + siz
 abbrev pub nonEmptyPayloads : List Block → ℕ
 nonEmptyPayloads xs = sum (λ (x : Block). cond (eqb (sizeOf x) 0) 0 1) xs
 
--- for a file of F bytes and a ledger of R pairs that holds these ranges before
+-- for a file of F bytes and ledgers of R pairs, of which the claimed one holds these ranges before
 pub record WellFormed (F R : ℕ) (before : Pairs) (s : List SentChannel) : Type 0 where
   -- n channels, 1 to 64, each once
   pub some : 0 < length s

@@ -75,8 +75,7 @@ pub fn of(fault: u64, count: u64, others: u64, state: u8, doubted: bool) -> Verd
     Verdict::Guess
 }
 
-// BROKEN where there is a fault; else, where a count is known and as many channels have ended, SUSPECT if the doubtful ledger has a used pair and
-// RESULT if not; else GUESS.
+// The verdict of a transfer that is lent this doubtful ledger.
 pub fn of_transfer(t: Transfer, doubtful: &[u64]) -> Verdict
     ensures { λ r. ⌜ ((file claimed : List ℕ) → toVerdict r ≡ verdictOf (world t file claimed (now (doubtful .entry)))) ⌝ }
 {

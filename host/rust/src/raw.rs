@@ -2,8 +2,8 @@
 //!
 //! In every answer `refused` is the number of the refusal, 0 where there is none, and a field that means nothing in a case
 //! is 0. A slice is a pointer and a length. No two slices of one call may overlap, and a pointer is never null, not even
-//! with the length 0; [`slice::as_ptr`] of a Rust slice is never null. `cob2_` names what lent one ledger in the first
-//! version of the library and lends two now: a program that was built for that version does not link.
+//! with the length 0; [`slice::as_ptr`] of a Rust slice is never null. A function named `cob2_` took one
+//! ledger in the first version of the library, and takes two now: a program that was built for that version does not link.
 
 /// One of a transfer's 64 channels. Its fields are the library's own, as those of [`Transfer`] are.
 #[repr(C)]

@@ -1,8 +1,8 @@
 //! Recorded transfers: what arrived on the data channels, piece by piece, in the order of arrival.
 //!
 //! A request is a four-byte length of all that follows it, a two-byte kind and a body; all numbers are little-endian.
-//! Kind 16 starts a transfer (the file's length, the entries of each of the two ledgers, 8 bytes each), kind 17 is a piece
-//! (the channel in one byte, then the bytes).
+//! Kind 16 starts a transfer (the file's length, then the number of entries that each ledger has; 8 bytes each), kind 17 is
+//! a piece (the channel in one byte, then the bytes).
 
 #[derive(Clone, Copy, Debug, PartialEq, Eq)]
 pub enum Request<'a> {

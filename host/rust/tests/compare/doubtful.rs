@@ -157,7 +157,7 @@ fn seventeen_before_eighteen() {
     }
 }
 
-/// With one pair: byte 0 with bit 32, byte 1 without, byte 2 with or without.
+/// One pair and three bytes in a row: the first is suspected and the second is not; the third one is tried both ways.
 #[test]
 fn eighteen_by_the_doubtful_ledger() {
     for third in [32, 0] {

@@ -1,21 +1,24 @@
 -- `line::put_numbers`.
 use Prim.Native.Nat.{_≤_}
 use mathlib.Core.Path.{_≡_, sym}
+use native.Mathlib.Omega.{arith}
 use lib.ListN.{length, take}
 use lib.Seq.{length-take-le}
 use borrow.Author.Needs.{needs}
 use Rattle.answers.proofs.WritesAt.{writesAt-first}
 use Rattle.verdicts.specs.Verdict.{toVerdict}
 use Rattle.screen.specs.Screen.{lineTextOf}
-use Rattle.screen.proofs.Screen.{line-most}
+use Rattle.screen.proofs.Screen.{digits-most, line-most}
 use Rattle.screen.proofs.line.put_numbers.Statement.{statement}
 use Rattle.screen.proofs.line.put_numbers.Tie as tie
 
 -- every number is one of 64 bits, so that the line fits
 fits : (c : tie.After-line) → length (lineTextOf (c .before .before .args .n)) ≤ 116
 fits c =
-    let x = c .before .before .args in
-    line-most (x .n .fault) (x .n .on) (x .n .ended) (x .n .count) (x .n .bytes) (x .n .doubtful) (search needs) (search needs) (search needs) (search needs) (search needs) (search needs) (toVerdict (x .n .verdict))
+    let n = c .before .before .args .n in
+    line-most 20 (n .fault) (n .on) (n .ended) (n .count) (n .bytes) (n .doubtful)
+    (digits-most 19 (n .fault) (omega arith)) (digits-most 19 (n .on) (omega arith)) (digits-most 19 (n .ended) (omega arith)) (digits-most 19 (n .count) (omega arith))
+    (search needs) (search needs) (toVerdict (n .verdict))
 
 -- the line is the first bytes of the array
 first : (c : tie.After-put-line) → let x = c .before .before .before .args in
