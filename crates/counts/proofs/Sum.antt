@@ -32,7 +32,7 @@ ended-le k = le-one (eqb (k .state) 4)
     le-one true = omega arith
     le-one false = omega arith
 
-ended-all : (ks : List Channel) → sum oneIfEnded ks ≤ length ks
+pub ended-all : (ks : List Channel) → sum oneIfEnded ks ≤ length ks
 unfolding sum
 ended-all [] = omega arith
 ended-all (k ∷ ks) = omega (arith, ended-le k, ended-all ks)

@@ -2,23 +2,22 @@
 use Prim.Native.Nat.{ℕ, _^_, _≤_, _<_}
 use mathlib.Core.Path.{_≡_, refl, _∙_}
 use mathlib.Core.Logic.{inl, inr}
-use mathlib.Core.Bool.{Bool, true, false, cond}
-use mathlib.Core.List.{List, [], _∷_}
+use mathlib.Core.Bool.{true}
+use mathlib.Core.List.{List, []}
 use native.Mathlib.Omega.{arith}
-use lib.Dec.{eqb}
 use lib.ListN.{length, replicate}
 use Rattle.octets.specs.Decimal.{digitCountBy, digitCount, inDigits, decimal}
 use Rattle.octets.specs.Digits.{toLittleEndian, toBigEndian}
 use Rattle.answers.specs.Written.{Refuses}
 use Rattle.answers.proofs.WrittenBy.{room-short, room-enough, refuses, writes}
-use Rattle.ledger.specs.Pairs.{size, total, join, overlaps, inside, allInside, endsAtMost}
-use Rattle.ledger.specs.Ledger.{largest, lengthWrong, allZero, obeysFrom, obeys, pairsOf, hasPair}
-use Rattle.transfer.specs.declared.state.Channel.{Channel}
+use Rattle.ledger.specs.Pairs.{total, inside, allInside, endsAtMost}
+use Rattle.ledger.specs.Ledger.{largest, allZero, obeysFrom, obeys, pairsOf, hasPair}
 use Rattle.transfer.specs.declared.state.Transfer.{Transfer}
-use Rattle.transfer.specs.Transfer.{sum, oneIfEnded, endedOf, usedOf, leftOf, World, world, allEnded, isDoubted, verdictOf, storedOf, doubtOf}
-use Rattle.transfer.specs.Fit.{emptyFits, headerFits, payloadFits, channelFits, channelsFit, apart, apartFrom, restsApart, countFits, faultFits, claimedFits, doubtfulFits, fitsWithoutFile}
+use Rattle.transfer.specs.Transfer.{sum, endedOf, usedOf, leftOf, World, world, allEnded, isDoubted, verdictOf, storedOf, doubtOf}
+use Rattle.transfer.specs.Fit.{emptyFits, channelFits, channelsFit, apart, apartFrom, restsApart, countFits, faultFits, claimedFits, doubtfulFits, fitsWithoutFile}
 use Rattle.transfer.specs.Fitting.{CountSays, FaultSays}
 use Rattle.transfer.proofs.FitByChannel.{Together}
+use Rattle.counts.proofs.Sum.{ended-all}
 use Rattle.runs.proofs.Runs.{fits-some}
 use Rattle.receiver.proofs.Shown.{claimed-most, doubtful-most}
 use Rattle.screen.specs.Screen.{suspectWord, endedWord, ofWord, bytesWord, doubtfulWord, lineFeed, countText, endedText, frontText, bytesText, tailText, lineText, lineOf, lineFor, screenRefusal, screenOf, screenAfter}
@@ -30,15 +29,6 @@ unfolding screenOf screenAfter
 refused t claimed doubtful out k e h = refuses (screenRefusal t claimed doubtful out) _ (lineFor t claimed doubtful) out k e h
 
 -- ---- how long it can be
-
-sum-ended : (ks : List Channel) → sum oneIfEnded ks ≤ length ks
-unfolding sum
-sum-ended [] = omega arith
-sum-ended (k ∷ ks) = omega (arith, sum-ended ks, at-most-1 (eqb (k .state) 4))
-  where
-    at-most-1 : (b : Bool) → cond b 1 0 ≤ 1
-    at-most-1 true = omega arith
-    at-most-1 false = omega arith
 
 line-80 : (t : Transfer) (claimed doubtful : List ℕ) → t .len ≤ largest → fitsWithoutFile t claimed doubtful ≡ true → length (lineFor t claimed doubtful) ≤ 80
 unfolding lineOf
@@ -62,7 +52,7 @@ line-80 t claimed doubtful s f =
     counts (inr (a, b, c)) = omega (arith, b)
 
     ended-few : endedOf t < 10 ^ 2
-    ended-few = unfold endedOf in omega (arith, sum-ended (t .channels), g .channels)
+    ended-few = unfold endedOf in omega (arith, ended-all (t .channels), g .channels)
 
     stored-small : storedOf w < 18446744073709551616
     stored-small = unfold storedOf in omega (arith, claimed-most t claimed doubtful f, s)
@@ -71,7 +61,7 @@ line-80 t claimed doubtful s f =
     doubt-small = unfold doubtOf in omega (arith, doubtful-most t claimed doubtful f, s)
 
 full-80 : (fitsWithoutFile fullest wholeFile wholeFile ≡ true) × (length (lineFor fullest wholeFile wholeFile) ≡ 80)
-unfolding size total join overlaps inside allInside endsAtMost lengthWrong allZero obeysFrom obeys pairsOf hasPair sum endedOf usedOf leftOf allEnded isDoubted verdictOf storedOf doubtOf emptyFits headerFits payloadFits channelFits channelsFit apart apartFrom restsApart countFits faultFits claimedFits doubtfulFits fitsWithoutFile digitCountBy digitCount inDigits decimal toLittleEndian toBigEndian suspectWord endedWord ofWord bytesWord doubtfulWord lineFeed countText endedText frontText bytesText tailText lineText lineOf
+unfolding total inside allInside endsAtMost allZero obeysFrom obeys pairsOf hasPair sum endedOf usedOf leftOf allEnded isDoubted verdictOf storedOf doubtOf emptyFits channelFits channelsFit apart apartFrom restsApart countFits faultFits claimedFits doubtfulFits fitsWithoutFile digitCountBy digitCount inDigits decimal toLittleEndian toBigEndian suspectWord endedWord ofWord bytesWord doubtfulWord lineFeed countText endedText frontText bytesText tailText lineText lineOf
 full-80 = (refl, refl)
 
 pub screen-rows : ScreenRows
