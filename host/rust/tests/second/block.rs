@@ -43,14 +43,14 @@ impl Header {
         self.descriptor & EODC != 0
     }
 
+    /// Whether the sender suspects errors in the payload.
+    pub fn is_suspect(&self) -> bool {
+        self.descriptor & SUSPECT != 0
+    }
+
     /// Whether the channel ends with this block.
     pub fn is_last(&self) -> bool {
         self.descriptor & EOD != 0
-    }
-
-    /// Whether the sender doubts this block's payload.
-    pub fn is_suspect(&self) -> bool {
-        self.descriptor & SUSPECT != 0
     }
 
     pub fn judge_descriptor(&self) -> Answer<()> {

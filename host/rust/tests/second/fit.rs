@@ -62,7 +62,7 @@ impl Transfer {
     }
 }
 
-/// As long as the claimed ledger, which fits, and each range inside one claimed range.
+/// Beside a claimed ledger that fits, so nothing doubtful lies behind the file's end.
 fn doubtful_fits(claimed: &[u64], doubtful: &[u64]) -> bool {
     doubtful.len() == claimed.len()
         && ledger::obeys(doubtful)

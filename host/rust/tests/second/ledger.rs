@@ -1,5 +1,4 @@
-//! "The ledger": ranges as pairs (start, end) in ascending order, zeros after them. A transfer has two of one length,
-//! of claimed ranges and of doubtful ones.
+//! "The ledger": claimed or doubtful ranges as pairs (start, end) in ascending order, zeros after them.
 
 use super::Answer;
 
@@ -35,12 +34,12 @@ pub fn to_write(ledger: &[u64]) -> Answer<&[[u64; 2]]> {
     Ok(used(ledger))
 }
 
-/// The bytes in all ranges of a ledger that obeys its rule: at most its last end, so the sum never wraps.
+/// Bytes in all ranges of a ledger that obeys its rule, at most its last end.
 pub(super) fn total(ledger: &[u64]) -> u64 {
     used(ledger).iter().map(|[start, end]| end - start).sum()
 }
 
-/// Whether the places from `start` up to `end` lie inside one range of the ledger.
+/// Whether the places from `start` up to `end` lie inside one range.
 pub fn covers(ledger: &[u64], start: u64, end: u64) -> bool {
     let pairs = used(ledger);
     let at = pairs.partition_point(|pair| pair[1] <= start);
@@ -49,30 +48,14 @@ pub fn covers(ledger: &[u64], start: u64, end: u64) -> bool {
         .is_some_and(|pair| pair[0] <= start && end <= pair[1])
 }
 
-/// Where the places from `start` up to `end` go: how many pairs stand before them, and whether they join the pair on
-/// their left and the one on their right. Refuses by "One transfer": 17, then 18.
-fn place(ledger: &[u64], start: u64, end: u64) -> Answer<(usize, bool, bool)> {
-    let pairs = used(ledger);
-    let at = pairs.partition_point(|pair| pair[1] <= start);
-    if at < pairs.len() && pairs[at][0] < end {
-        return Err(17);
-    }
-    let joins_left = at > 0 && pairs[at - 1][1] == start;
-    let joins_right = at < pairs.len() && pairs[at][0] == end;
-    if !joins_left && !joins_right && 2 * pairs.len() == ledger.len() {
-        return Err(18);
-    }
-    Ok((at, joins_left, joins_right))
-}
-
-/// What `claim` would answer, with nothing changed.
+/// What `claim` would answer, by "One transfer": 17, then 18.
 pub fn judge(ledger: &[u64], start: u64, end: u64) -> Answer<()> {
-    place(ledger, start, end).map(|_| ())
+    find(ledger, start, end).map(|_| ())
 }
 
-/// Claims the places from `start` up to `end`; refused, the ledger stays as it was.
+/// Claims the places from `start` up to `end`; an `Err` leaves the ledger as it was.
 pub fn claim(ledger: &mut [u64], start: u64, end: u64) -> Answer<()> {
-    let (at, joins_left, joins_right) = place(ledger, start, end)?;
+    let (at, joins_left, joins_right) = find(ledger, start, end)?;
     let (here, stop) = (2 * at, 2 * used(ledger).len());
     match (joins_left, joins_right) {
         (true, true) => {
@@ -87,4 +70,19 @@ pub fn claim(ledger: &mut [u64], start: u64, end: u64) -> Answer<()> {
         }
     }
     Ok(())
+}
+
+/// How many pairs stand before a new range, and whether it touches the last of them and the pair after it.
+fn find(ledger: &[u64], start: u64, end: u64) -> Answer<(usize, bool, bool)> {
+    let pairs = used(ledger);
+    let at = pairs.partition_point(|pair| pair[1] <= start);
+    if at < pairs.len() && pairs[at][0] < end {
+        return Err(17);
+    }
+    let joins_left = at > 0 && pairs[at - 1][1] == start;
+    let joins_right = at < pairs.len() && pairs[at][0] == end;
+    if !joins_left && !joins_right && 2 * pairs.len() == ledger.len() {
+        return Err(18);
+    }
+    Ok((at, joins_left, joins_right))
 }

@@ -17,7 +17,6 @@ pub const ENDED: u8 = 4;
 pub enum Verdict {
     Guess,
     Result,
-    /// Complete, with doubtful bytes.
     Suspect,
     Broken,
 }
@@ -99,7 +98,7 @@ impl Transfer {
         Ok((self.verdict(doubtful), piece.len() - rest.len()))
     }
 
-    /// The transfer keeps no doubt of its own: the doubtful ledger, as it stands, decides between the final words.
+    /// A complete transfer is suspect where any range is doubtful; the doubtful ledger obeys its rule.
     pub(super) fn verdict(&self, doubtful: &[u64]) -> Verdict {
         if self.fault != 0 {
             Verdict::Broken
@@ -126,7 +125,7 @@ impl Transfer {
             .count() as u64
     }
 
-    /// Stored bytes of a transfer that fits: its rests are claimed and apart, so they are no more than the claims.
+    /// Stored bytes, where transfer and ledger fit: the rests then share no byte and are claimed.
     pub(super) fn stored(&self, claimed: &[u64]) -> u64 {
         let left: u64 = self.channels.iter().map(|channel| channel.left).sum();
         ledger::total(claimed) - left
@@ -219,10 +218,9 @@ impl Transfer {
             .checked_add(header.length)
             .filter(|end| *end <= self.len)
             .ok_or(16u64)?;
-        // Both are judged before either changes. Doubtful ranges lie inside claimed ones, so what shares no byte with
-        // these shares none with those: the doubtful ledger can only lack pairs.
-        ledger::judge(claimed, header.place, end)?;
         if header.is_suspect() {
+            // Judged first, so that neither changes unless both can. Past this the doubtful one can only lack pairs.
+            ledger::judge(claimed, header.place, end)?;
             ledger::claim(doubtful, header.place, end)?;
         }
         ledger::claim(claimed, header.place, end)?;

@@ -3,13 +3,12 @@
 use super::receiver::{Transfer, Verdict};
 use super::{ledger, put, Answer};
 
-/// The line as numbers, those included that its word leaves out.
+/// The line's numbers, those that its word leaves out included.
 #[derive(Clone, Copy, Debug, PartialEq, Eq)]
 pub struct Shown {
     pub verdict: Verdict,
-    /// Channels that have ended.
     pub ended: u64,
-    /// End markers expected; 0 while unknown.
+    /// 0 while unknown.
     pub count: u64,
     /// 0 while there is none.
     pub fault: u64,
@@ -17,11 +16,11 @@ pub struct Shown {
     pub on: u64,
     /// Stored bytes.
     pub bytes: u64,
-    /// Bytes in the doubtful ranges, whatever the word is.
+    /// Bytes in the doubtful ranges, arrived or not.
     pub doubtful: u64,
 }
 
-pub fn shown(transfer: &Transfer, claimed: &[u64], doubtful: &[u64]) -> Result<Shown, u8> {
+pub fn shown(transfer: &Transfer, claimed: &[u64], doubtful: &[u64]) -> Answer<Shown> {
     if !transfer.fits(claimed, doubtful) {
         return Err(1);
     }
@@ -46,15 +45,16 @@ pub fn line(transfer: &Transfer, claimed: &[u64], doubtful: &[u64]) -> Answer<St
         bytes,
         doubtful,
     } = shown(transfer, claimed, doubtful)?;
-    Ok(match verdict {
-        Verdict::Broken => format!("BROKEN {fault} on {on} bytes {bytes}\n"),
+    let text = match verdict {
+        Verdict::Broken => format!("BROKEN {fault} on {on} bytes {bytes}"),
+        Verdict::Result => format!("RESULT ended {ended} of {count} bytes {bytes}"),
         Verdict::Suspect => {
-            format!("SUSPECT ended {ended} of {count} bytes {bytes} doubtful {doubtful}\n")
+            format!("SUSPECT ended {ended} of {count} bytes {bytes} doubtful {doubtful}")
         }
-        Verdict::Result => format!("RESULT ended {ended} of {count} bytes {bytes}\n"),
-        Verdict::Guess if count == 0 => format!("GUESS ended {ended} of ? bytes {bytes}\n"),
-        Verdict::Guess => format!("GUESS ended {ended} of {count} bytes {bytes}\n"),
-    })
+        Verdict::Guess if count == 0 => format!("GUESS ended {ended} of ? bytes {bytes}"),
+        Verdict::Guess => format!("GUESS ended {ended} of {count} bytes {bytes}"),
+    };
+    Ok(text + "\n")
 }
 
 pub fn write(
