@@ -53,4 +53,15 @@ list (Count n) = refl
 list (NoList k) = refl
 
 pub numbers : Numbers
-numbers = record { header = header; line = line; verb-is = verb-is; written = written; sent = λ x s. (written x .0, written x .1, refl); shown = shown; list = list }
+numbers =
+    record {
+      header = header;
+      line = line;
+      verb-is = verb-is;
+      written = written;
+      sent = λ x s. (written x .0, written x .1, refl);
+      shown = shown;
+      shown-are = λ n. (refl, refl, refl, refl, refl, refl, refl);
+      words = refl;
+      list = list;
+    }

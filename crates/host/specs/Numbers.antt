@@ -1,5 +1,7 @@
--- The field `refused` of what a host has is document 01's number of the answer, 0 where nothing is refused; a writer's `length` is how many bytes it wrote.
+-- The field `refused` of what a host has is document 01's number of the answer, 0 where nothing is refused; a writer's `length` is how many bytes it wrote;
+-- and a word is a code.
 use mathlib.Core.Path.{_≡_}
+use mathlib.Core.List.{[], _∷_, map}
 use Rattle.eblock.specs.Header.{refusalNumber as headerNumber}
 use Rattle.eblock.specs.declared.header.Header.{Header}
 use Rattle.answers.specs.Written.{writtenNumber, writtenBytes}
@@ -9,8 +11,13 @@ use Rattle.commands.specs.declared.line.Line.{Line}
 use Rattle.hostlists.specs.HostList.{refusalNumber as listNumber}
 use Rattle.hostlists.specs.declared.list.Hosts.{Hosts}
 use Rattle.sender.specs.declared.state.Sender.{Sender}
+use Rattle.transfer.specs.Transfer.{guess, result, suspect, broken}
+use Rattle.verdicts.specs.Verdict.{toVerdict}
+use Rattle.receiver.specs.declared.show.Shown.{Shown}
 use Rattle.receiver.specs.declared.show.Screen.{Screen}
+use Rattle.receiver.specs.declared.show.Screen.the-variants.{Shows}
 use Rattle.receiver.specs.Shown.{screenNumber}
+use Rattle.host.specs.Received.{verdictCode}
 use Rattle.host.specs.Header.{fieldsOf}
 use Rattle.host.specs.Written.{writtenOf}
 use Rattle.host.specs.Line.{commandOf}
@@ -25,4 +32,11 @@ pub record Numbers : Type 0 where
   pub written : (x : Written) → (writtenOf x .length ≡ writtenBytes x) × (writtenOf x .refused ≡ writtenNumber x)
   pub sent : (x : Written) (s : Sender) → (sentBy x s .length ≡ writtenBytes x) × (sentBy x s .refused ≡ writtenNumber x) × (sentBy x s .sender ≡ s)
   pub shown : (x : Screen) → shownBy x .refused ≡ screenNumber x
+  -- each number of the screen line is handed on as it is, its word by the code
+  pub shown-are : (n : Shown)
+      → let s = shownBy (Shows n) in
+      (s .ended ≡ n .ended) × (s .count ≡ n .count) × (s .fault ≡ n .fault) × (s .on ≡ n .on) × (s .bytes ≡ n .bytes) × (s .doubtful ≡ n .doubtful)
+      × (s .verdict ≡ verdictCode (toVerdict (n .verdict)))
+  -- the codes of the words, no two alike
+  pub words : map verdictCode (guess ∷ result ∷ broken ∷ suspect ∷ []) ≡ 0 ∷ 1 ∷ 2 ∷ 3 ∷ []
   pub list : (x : Hosts) → hostPortCountOf x .refused ≡ listNumber x
