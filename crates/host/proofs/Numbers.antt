@@ -62,6 +62,9 @@ numbers =
       sent = λ x s. (written x .0, written x .1, refl);
       shown = shown;
       shown-are = λ n. (refl, refl, refl, refl, refl, refl, refl);
+      not-shown = λ k. refl;
+      received = λ n w. refl;
+      not-received = λ k w. refl;
       words = refl;
       list = list;
     }

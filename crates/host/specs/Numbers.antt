@@ -1,5 +1,6 @@
 -- The field `refused` of what a host has is document 01's number of the answer, 0 where nothing is refused; a writer's `length` is how many bytes it wrote;
 -- and a word is a code.
+use Prim.Native.Nat.{ℕ}
 use mathlib.Core.Path.{_≡_}
 use mathlib.Core.List.{[], _∷_, map}
 use Rattle.eblock.specs.Header.{refusalNumber as headerNumber}
@@ -11,13 +12,14 @@ use Rattle.commands.specs.declared.line.Line.{Line}
 use Rattle.hostlists.specs.HostList.{refusalNumber as listNumber}
 use Rattle.hostlists.specs.declared.list.Hosts.{Hosts}
 use Rattle.sender.specs.declared.state.Sender.{Sender}
-use Rattle.transfer.specs.Transfer.{guess, result, suspect, broken}
+use Rattle.transfer.specs.Transfer.{World, guess, result, suspect, broken, verdictOf}
+use Rattle.transfer.specs.Receive.{refused, took}
 use Rattle.verdicts.specs.Verdict.{toVerdict}
 use Rattle.receiver.specs.declared.show.Shown.{Shown}
 use Rattle.receiver.specs.declared.show.Screen.{Screen}
-use Rattle.receiver.specs.declared.show.Screen.the-variants.{Shows}
+use Rattle.receiver.specs.declared.show.Screen.the-variants.{Shows, Refused}
 use Rattle.receiver.specs.Shown.{screenNumber}
-use Rattle.host.specs.Received.{verdictCode}
+use Rattle.host.specs.Received.{verdictCode, receivedBy}
 use Rattle.host.specs.Header.{fieldsOf}
 use Rattle.host.specs.Written.{writtenOf}
 use Rattle.host.specs.Line.{commandOf}
@@ -37,6 +39,11 @@ pub record Numbers : Type 0 where
       → let s = shownBy (Shows n) in
       (s .ended ≡ n .ended) × (s .count ≡ n .count) × (s .fault ≡ n .fault) × (s .on ≡ n .on) × (s .bytes ≡ n .bytes) × (s .doubtful ≡ n .doubtful)
       × (s .verdict ≡ verdictCode (toVerdict (n .verdict)))
+  -- where the line is refused, all of them are 0
+  pub not-shown : (k : ℕ) → shownBy (Refused k) ≡ record { ended = 0; count = 0; fault = 0; on = 0; bytes = 0; doubtful = 0; verdict = 0; refused = k }
+  -- receive: the bytes taken, none where it is refused; the transfer and the word are those of what it leaves
+  pub received : (n : ℕ) (w : World) → receivedBy (took n, w) ≡ record { transfer = w .t; taken = n; verdict = verdictCode (verdictOf w); refused = 0 }
+  pub not-received : (k : ℕ) (w : World) → receivedBy (refused k, w) ≡ record { transfer = w .t; taken = 0; verdict = verdictCode (verdictOf w); refused = k }
   -- the codes of the words, no two alike
   pub words : map verdictCode (guess ∷ result ∷ broken ∷ suspect ∷ []) ≡ 0 ∷ 1 ∷ 2 ∷ 3 ∷ []
   pub list : (x : Hosts) → hostPortCountOf x .refused ≡ listNumber x
