@@ -13,7 +13,7 @@ use octets::little;
 
 // Kinds 32 to 40, the readers and writers, which keep nothing for the next request: whether there is such a kind, and its body is
 // well formed.
-fn read_or_write(kind: u16, body: &[u8]) -> bool {
+fn read_or_write(kind: u64, body: &[u8]) -> bool {
     match kind {
         32 => {
             headers::read(body);
@@ -36,7 +36,7 @@ fn read_or_write(kind: u16, body: &[u8]) -> bool {
 
 fn by_numbers(
     s: Session,
-    kind: u16,
+    kind: u64,
     a: u64,
     b: u64,
     file: &mut [u8],
@@ -55,7 +55,7 @@ fn by_numbers(
 // Kinds whose body is two numbers.
 fn two_numbers(
     s: Session,
-    kind: u16,
+    kind: u64,
     body: &[u8],
     file: &mut [u8],
     claimed: &mut [u64],
@@ -88,7 +88,7 @@ fn start_apart(
 
 pub fn serve(
     s: Session,
-    kind: u16,
+    kind: u64,
     body: &[u8],
     file: &mut [u8],
     claimed: &mut [u64],

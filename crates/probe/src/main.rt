@@ -14,7 +14,8 @@ mod screen_line;
 mod sending;
 mod session;
 
-use frame::Frame;
+use frames::frame::FRAME_LENGTH;
+use frames::frame::First;
 use session::Session;
 use session::Turn;
 ghost use mathlib.Core.Path.{_≡_};
@@ -23,11 +24,12 @@ ghost use lib.ListN.{length};
 // More than any input has; a proved loop has to end.
 const REQUESTS: u64 = 1099511627776;
 
-fn print_stop(got: Frame, number: u64) {
+fn print_stop(got: First, number: u64) {
     match got {
-        Frame::Malformed => print::record(number),
-        Frame::Whole(_) => {}
-        Frame::End => {}
+        First::Cut => print::record(number),
+        First::TooLong => print::record(number),
+        First::Whole(_) => {}
+        First::Nothing => {}
     }
 }
 
@@ -39,13 +41,13 @@ fn serve(
     doubtful: &mut [u64],
     source: &mut [u8],
 ) -> Turn {
-    if request.len() < 2 {
+    if request.len() < FRAME_LENGTH {
         return session::stop(s);
     }
     kinds::serve(
         s,
-        frame::two(request[0], request[1]),
-        &request[2..],
+        frames::frame::kind(request),
+        &request[FRAME_LENGTH..],
         file,
         claimed,
         doubtful,
@@ -79,7 +81,7 @@ fn one_request(
 ) -> Turn {
     let mut space = frame::space();
     let got = frame::read(&mut space);
-    let Frame::Whole(n) = got else {
+    let First::Whole(n) = got else {
         print_stop(got, number);
         return session::stop(s);
     };

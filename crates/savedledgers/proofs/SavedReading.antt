@@ -16,13 +16,14 @@ use Rattle.octets.specs.Digits.{fromLittleEndian}
 use Rattle.answers.specs.declared.loaded.Loaded.the-variants.{Done, Refused}
 use Rattle.answers.specs.Loaded.{loadedNumber}
 use Rattle.answers.specs.Written.{firstRefusal}
+use Rattle.frames.specs.Frame.{lengthField, kindOf, bodyOf}
 use Rattle.ledger.specs.Ledger.{lengthWrong, capacity, laidOut}
 use Rattle.ledger.proofs.PairsAsNumbers.{laidOut-flat}
 use Rattle.ledger.specs.Pairs.{ObeyFrom, obeyFrom}
 use Rattle.ledger.proofs.LedgerSizes.{length-right, length-wrong}
 use Rattle.ledger.proofs.PairsObey.{ruled-obeyFrom, obeyFrom-ruled}
 use Rattle.savedledgers.specs.Numbers.{numbersIn}
-use Rattle.savedledgers.specs.Saved.{pairsIn, kindOne, pairLength, frameRefusal, bodyOf, savedPairs, bodyWrong, readSavedRefusal, readSaved, readSavedAfter, kindOf}
+use Rattle.savedledgers.specs.Saved.{pairsIn, kindOne, pairLength, frameRefusal, savedPairs, bodyWrong, readSavedRefusal, readSaved, readSavedAfter}
 use Rattle.savedledgers.specs.SavedReading.{Refuses, Reads, RightLength, RightFrame, IsKindOne, SavedReading, SavedPairs}
 use Rattle.savedledgers.proofs.SavedBody.{size-pairsIn, flat-pairsIn}
 use Rattle.savedledgers.proofs.Numbers.{length-numbersIn}
@@ -140,6 +141,7 @@ right-length ledger l = length-right ledger (l .even) (l .most)
 
 module _ (bytes : List ℕ) where
   number-61 : (length bytes < 6) ⊎ (4 + fromLittleEndian 256 (take 4 bytes) ≡ length bytes → ⊥) → frameRefusal kindOne bytes ≡ 61
+  unfolding lengthField
   number-61 (inl h) = frame-short kindOne bytes h
   number-61 (inr n) = go (decLe 6 (length bytes))
     where
@@ -149,11 +151,11 @@ module _ (bytes : List ℕ) where
 
   module _ (f : RightFrame bytes) where
     number-62 : (IsKindOne bytes → ⊥) → frameRefusal kindOne bytes ≡ 62
-    unfolding kindOf
+    unfolding lengthField kindOf
     number-62 n = frame-kind-wrong kindOne bytes (f .least) (omega (arith, f .counted)) n
 
     number-0 : IsKindOne bytes → frameRefusal kindOne bytes ≡ 0
-    unfolding kindOf
+    unfolding lengthField kindOf
     number-0 k = frame-right kindOne bytes (f .least) (omega (arith, f .counted)) k
 
 -- ---- the reader

@@ -10,17 +10,19 @@ use Rattle.octets.specs.Digits.{AllBelow, toLittleEndian}
 use Rattle.octets.proofs.Digits.{below-drop}
 use Rattle.answers.specs.declared.loaded.Loaded.the-variants.{Done}
 use Rattle.answers.specs.declared.written.Written.the-variants.{Bytes}
+use Rattle.frames.specs.Frame.{framed, bodyOf}
+use Rattle.frames.proofs.Framed.{body-framed}
 use Rattle.ledger.specs.Pairs.{Pairs, size, ObeyFrom, endsAtMost, obeyFrom}
 use Rattle.ledger.specs.Ledger.{largest, lengthWrong, capacity, obeys, pairsOf, laidOut}
 use Rattle.ledger.proofs.LedgerLayout.{length-laidOut, pairsOf-laidOut, rule-laidOut, rule-ruled, laidOut-pairsOf, size-pairsOf}
 use Rattle.ledger.proofs.LedgerSizes.{length-right, length-fits}
 use Rattle.ledger.proofs.PairsObey.{ruled-obeyFrom, obeyFrom-ruled}
 use Rattle.ledger.proofs.LedgerRefusal.{refusal-none}
-use Rattle.savedledgers.specs.Saved.{kindOne, pairBytes, framed, bodyOf, frameRefusal, savedPairs, readSavedRefusal, readSaved, readSavedAfter, savedOf, writeSaved, writeSavedAfter}
+use Rattle.savedledgers.specs.Saved.{kindOne, pairBytes, frameRefusal, savedPairs, readSavedRefusal, readSaved, readSavedAfter, savedOf, writeSaved, writeSavedAfter}
 use Rattle.savedledgers.specs.SavedReading.{Reads}
 use Rattle.savedledgers.specs.SavedRoundTrip.{WritesBack, SavedRoundTrip}
 use Rattle.savedledgers.proofs.SavedBody.{size-pairsIn, length-pairBytes, pairsIn-pairBytes, pairBytes-pairsIn}
-use Rattle.savedledgers.proofs.SavedFrame.{body-back, frame-back, framed-same}
+use Rattle.savedledgers.proofs.SavedFrame.{frame-back, frame-same}
 use Rattle.savedledgers.proofs.SavedReading.{Sound, number-sound, number-none, reads-done, reads}
 use Rattle.savedledgers.proofs.SavedWriting.{number-0, length-savedOf, writes-saved, accepted}
 
@@ -31,7 +33,7 @@ module _ (ps : Pairs) (ruled : ObeyFrom 0 ps) (ends : endsAtMost largest ps ≡ 
   unfolding savedOf
   saved-pairs =
       let n : length (pairBytes ps) / 16 ≡ size ps = omega (arith, length-pairBytes ps) in
-      rw (body-back kindOne (pairBytes ps), n) (pairsIn-pairBytes 0 ps ruled ends)
+      rw (body-framed kindOne (pairBytes ps), n) (pairsIn-pairBytes 0 ps ruled ends)
 
   pairs-back : (m : List ℕ) → lengthWrong m ≡ false → size ps ≤ 4096 → size ps ≤ capacity m → Reads (savedOf ps) m ps
   unfolding savedOf
@@ -39,7 +41,7 @@ module _ (ps : Pairs) (ruled : ObeyFrom 0 ps) (ends : endsAtMost largest ps ≡ 
       let h = savedOf ps in
       let l = length-pairBytes ps in
       let frame : frameRefusal kindOne h ≡ 0 = frame-back kindOne (pairBytes ps) (omega arith) (omega arith) in
-      let body : length (bodyOf h) ≡ 16 * size ps = ap length (body-back kindOne (pairBytes ps)) ∙ l in
+      let body : length (bodyOf h) ≡ 16 * size ps = ap length (body-framed kindOne (pairBytes ps)) ∙ l in
       let order : obeyFrom 0 (savedPairs h) ≡ true = rw saved-pairs (ruled-obeyFrom 0 ps ruled) in
       rw saved-pairs at (reads h m (number-none h m lengths frame (omega arith) order (omega arith)))
 
@@ -75,7 +77,7 @@ module _ (h m : List ℕ) (bytes : AllBelow 256 h) (sound : Sound h m) where
   unfolding savedOf
   bytes-same =
       let n : length (bodyOf h) ≡ 16 * (length (bodyOf h) / 16) = omega (arith, sound .parts) in
-      rw (pairBytes-pairsIn (length (bodyOf h) / 16) (bodyOf h) (below-drop 256 6 h bytes) n) (framed-same kindOne h bytes (sound .frame))
+      rw (pairBytes-pairsIn (length (bodyOf h) / 16) (bodyOf h) (below-drop 256 6 h bytes) n) (frame-same kindOne h bytes (sound .frame))
 
   rewrites : WritesBack h (laidOut (capacity m) (savedPairs h))
   unfolding obeys

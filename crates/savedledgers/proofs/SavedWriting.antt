@@ -1,6 +1,6 @@
 -- What the writer of a saved ledger answers and leaves, case by case: `SavedWriting` and `SavedBytes` hold.
 use Prim.Native.Nat.{ℕ, _+_, _*_, _-_, _≤_, _<_}
-use mathlib.Core.Path.{_≡_, refl, sym, ap, _∙_}
+use mathlib.Core.Path.{_≡_, refl, sym, _∙_}
 use mathlib.Core.Bool.{true, false}
 use mathlib.Core.List.{List, _++_, append-assoc}
 use native.Mathlib.Omega.{arith}
@@ -11,15 +11,16 @@ use lib.Seq.{take-at, drop-at, drop-drop}
 use Rattle.answers.specs.declared.written.Written.the-variants.{Bytes}
 use Rattle.answers.specs.Written.{roomRefusal, Refuses}
 use Rattle.answers.proofs.WrittenBy.{first-some, first-none, first-zero, room-short, room-enough, written, written-only, refuses, writes}
+use Rattle.frames.specs.Frame.{frameLength, frameOf, framed}
+use Rattle.frames.proofs.Framed.{framed-is, length-frameOf}
 use Rattle.ledger.specs.Pairs.{Pairs, size}
 use Rattle.ledger.specs.Ledger.{lengthWrong, obeys, pairsOf, ledgerRefusal}
 use Rattle.ledger.proofs.LedgerSizes.{length-wrong}
 use Rattle.ledger.proofs.LedgerRefusal.{refusal-53, refusal-1, refusal-none, refusal-zero}
 use Rattle.savedledgers.specs.Numbers.{numberBytes}
-use Rattle.savedledgers.specs.Saved.{kindOne, frameOf, pairBytes, savedOf, writeSavedRefusal, writeSaved, writeSavedAfter, framed}
+use Rattle.savedledgers.specs.Saved.{kindOne, pairBytes, savedOf, writeSavedRefusal, writeSaved, writeSavedAfter}
 use Rattle.savedledgers.specs.SavedWriting.{SavedWriting, SavedBytes}
 use Rattle.savedledgers.proofs.SavedBody.{length-pairBytes, flat-used, pairBytes-flat}
-use Rattle.savedledgers.proofs.SavedFrame.{framed-is, length-frameOf}
 use Rattle.savedledgers.proofs.SavedReading.{right-length}
 
 pub savedOf-is : (ps : Pairs) → savedOf ps ≡ frameOf kindOne (16 * size ps) ++ pairBytes ps
@@ -73,17 +74,18 @@ accepted ledger out n e =
 
 -- ---- the bytes
 
--- ys and zs are the two parts of the lent bytes, the frame and the pairs
-pub save-placed : (ledger out ys zs : List ℕ) (used : ℕ) → used ≡ size (pairsOf ledger) → 6 + 16 * used ≤ length out
-    → ys ≡ frameOf kindOne (16 * used) → zs ≡ numberBytes (take (2 * used - 0) ledger)
-    → let saved = savedOf (pairsOf ledger) in putMid 6 (6 + 16 * used - 6) (putMid 0 6 out ys) zs ≡ saved ++ drop (length saved) out
-save-placed ledger out ys zs used u h e z =
+-- o is the lent bytes after the frame, and zs the part of them that has the pairs
+pub save-placed : (ledger out o zs : List ℕ) (used : ℕ) → used ≡ size (pairsOf ledger)
+    → o ≡ frameOf kindOne (16 * used) ++ drop frameLength out → zs ≡ numberBytes (take (2 * used - 0) ledger)
+    → let saved = savedOf (pairsOf ledger) in putMid 6 (6 + 16 * used - 6) o zs ≡ saved ++ drop (length saved) out
+save-placed ledger out o zs used u e z =
     let ps = pairsOf ledger in
     let s : 2 * used - 0 ≡ 2 * used = sub-zero (2 * used) in
     let q : 6 + 16 * used - 6 ≡ 16 * used = omega arith in
-    let n : length ys ≡ 6 = ap length e ∙ length-frameOf kindOne (16 * used) in
+    let f = frameOf kindOne (16 * used) in
+    let n : length f ≡ 6 = length-frameOf kindOne (16 * used) in
     let zs-is : zs ≡ pairBytes ps = z ∙ rw (s, u, ← flat-used ledger) (sym (pairBytes-flat ps)) in
-    rw (q, take-at ys (drop 6 out) 6 n, drop-at ys (drop 6 out) 6 n, drop-drop (16 * used) 6 out, length-savedOf ps, savedOf-is ps, zs-is, e, u)
+    rw (q, e, take-at f (drop 6 out) 6 n, drop-at f (drop 6 out) 6 n, drop-drop (16 * used) 6 out, length-savedOf ps, savedOf-is ps, zs-is, u)
     (sym (append-assoc (frameOf kindOne (16 * size ps)) (pairBytes ps) (drop (6 + 16 * size ps) out)))
 
 -- ---- the rows

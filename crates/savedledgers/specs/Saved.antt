@@ -1,8 +1,5 @@
--- The saved ledger (document 01, "Saved ledger, kind 1"): a record of a four-byte length, a two-byte kind and a body, all little-endian.
---
---     length of all that follows   kind      body
---     4 bytes                      2 bytes   each used pair as two numbers of 8 bytes
-use Prim.Native.Nat.{ℕ, zero, suc, _+_, _-_, _/_, _%_}
+-- The saved ledger (document 01, "Saved ledger, kind 1"): a record of kind 1, whose body has each used pair as two numbers of 8 bytes, little-endian.
+use Prim.Native.Nat.{ℕ, zero, suc, _-_, _/_, _%_}
 use mathlib.Core.Bool.{Bool, cond, _&&_, not}
 use mathlib.Core.List.{List, [], _++_}
 use lib.Dec.{leb, ltb, eqb}
@@ -12,33 +9,17 @@ use Rattle.answers.specs.Written.{firstRefusal, roomRefusal, writtenBy, written
 use Rattle.answers.specs.declared.loaded.Loaded.{Loaded}
 use Rattle.answers.specs.declared.loaded.Loaded.the-variants.{Done, Refused}
 use Rattle.answers.specs.declared.written.Written.{Written}
+use Rattle.frames.specs.Frame.{fieldLength, frameLength, lengthField, kindOf, bodyOf, framed}
 use Rattle.ledger.specs.Pairs.{Pairs, none, pair, size, obeyFrom}
 use Rattle.ledger.specs.Ledger.{lengthWrong, ledgerRefusal, pairsOf, laidOut, capacity}
 
--- ---- the frame, which every kind of record shares
-
-abbrev pub frameLength : ℕ
-frameLength = 6
-
-unfoldable pub kindOf : List ℕ → ℕ
-kindOf bytes = fromLittleEndian 256 (take 2 (drop 4 bytes))
-
-abbrev pub bodyOf : List ℕ → List ℕ
-bodyOf bytes = drop frameLength bytes
+-- ---- the frame
 
 -- 61: fewer than 6 bytes, or a length field that is wrong; 62: another kind than the one expected; 0 where the frame is right
 unfoldable pub frameRefusal : ℕ → List ℕ → ℕ
 frameRefusal kind bytes =
-    cond (not (leb frameLength (length bytes) && eqb (fromLittleEndian 256 (take 4 bytes)) (length bytes - 4))) 61
+    cond (not (leb frameLength (length bytes) && eqb (lengthField bytes) (length bytes - fieldLength))) 61
     (cond (not (eqb (kindOf bytes) kind)) 62 0)
-
--- the six bytes before a body of n bytes
-unfoldable pub frameOf : ℕ → ℕ → List ℕ
-frameOf kind n = toLittleEndian 256 4 (2 + n) ++ toLittleEndian 256 2 kind
-
--- a record of this kind with this body
-unfoldable pub framed : ℕ → List ℕ → List ℕ
-framed kind body = toLittleEndian 256 4 (2 + length body) ++ (toLittleEndian 256 2 kind ++ body)
 
 -- ---- a body of pairs of numbers
 

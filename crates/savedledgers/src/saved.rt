@@ -1,6 +1,9 @@
 // The saved ledger, kind 1: bytes read into a ledger, and a ledger written as bytes.
 use answers::loaded::Loaded;
 use answers::written::Written;
+use frames::frame;
+use frames::frame::FIELD_LENGTH;
+use frames::frame::FRAME_LENGTH;
 use ledger::rule;
 use octets::entries;
 use octets::little;
@@ -11,29 +14,26 @@ ghost use Rattle.octets.specs.Digits.{fromLittleEndian};
 ghost use Rattle.ledger.specs.Pairs.{size, obeyFrom};
 ghost use Rattle.ledger.specs.Ledger.{pairsOf};
 ghost use Rattle.savedledgers.specs.Numbers.{numbersIn, numberBytes};
-ghost use Rattle.savedledgers.specs.Saved.{frameLength, frameRefusal, frameOf, pairLength, pairsIn, readSaved, readSavedAfter, writeSaved, writeSavedAfter};
-
-// The length field and the kind, which are before the body of every kind.
-const FRAME_LENGTH: usize = 6;
+ghost use Rattle.savedledgers.specs.Saved.{frameRefusal, pairLength, pairsIn, readSaved, readSavedAfter, writeSaved, writeSavedAfter};
 
 const PAIR_LENGTH: usize = 16;
 // The kind that holds start and end of each used pair.
-const KIND_ONE: u64 = 1;
+const KIND_ONE: u16 = 1;
 
 // ---- reading
 
 // The number by which the frame of a record that is to be of this kind is refused, 0 where it is right.
-fn frame_refusal(kind: u64, bytes: &[u8]) -> u8
+fn frame_refusal(kind: u16, bytes: &[u8]) -> u8
     ensures { λ r. ⌜ r ≡ frameRefusal kind (now (bytes .entry)) ⌝ }
 {
     if bytes.len() < FRAME_LENGTH {
         return 61;
     }
-    let follow = bytes.len() - 4;
-    if little::read(&bytes[0..4]) != follow as u64 {
+    let follow = bytes.len() - FIELD_LENGTH;
+    if frame::length_field(bytes) != follow as u64 {
         return 61;
     }
-    if little::read(&bytes[4..6]) != kind {
+    if frame::kind(bytes) != kind as u64 {
         return 62;
     }
     0
@@ -122,15 +122,6 @@ fn used_pairs(ledger: &[u64]) -> usize
     k
 }
 
-// Writes the frame of a record whose body has n bytes.
-fn write_frame(kind: u64, n: u64, out: &mut [u8])
-    requires { ⌜ (length (now out) ≡ frameLength) × (n ≤ 4294967293) ⌝ }
-    ensures { λ _. ⌜ now (out .exit) ≡ frameOf kind n ⌝ }
-{
-    little::write(2 + n, &mut out[0..4]);
-    little::write(kind, &mut out[4..6]);
-}
-
 // Writes the numbers in eight bytes each.
 fn write_numbers(numbers: &[u64], out: &mut [u8])
     requires { ⌜ length (now out) ≡ 8 * length (now numbers) ⌝ }
@@ -158,7 +149,7 @@ pub fn write(ledger: &[u64], out: &mut [u8]) -> Written
     if out.len() < end {
         return Written::Refused(55);
     }
-    write_frame(KIND_ONE, n as u64, &mut out[0..FRAME_LENGTH]);
+    frame::write(KIND_ONE, n as u32, out);
     write_numbers(&ledger[0..2 * used], &mut out[FRAME_LENGTH..end]);
     Written::Bytes(end)
 }

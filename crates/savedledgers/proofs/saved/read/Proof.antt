@@ -10,7 +10,8 @@ use lib.Seq.{take-all}
 use Rattle.ledger.specs.Ledger.{lengthWrong}
 use Rattle.ledger.proofs.LedgerSizes.{length-fits}
 use Rattle.ledger.specs.Pairs.{obeyFrom}
-use Rattle.savedledgers.specs.Saved.{kindOne, frameLength, frameRefusal, bodyOf, pairLength, savedPairs}
+use Rattle.frames.specs.Frame.{frameLength, bodyOf}
+use Rattle.savedledgers.specs.Saved.{kindOne, frameRefusal, pairLength, savedPairs}
 use Rattle.answers.specs.declared.loaded.Loaded.the-variants.{Refused}
 use Rattle.savedledgers.proofs.SavedFrame.{frame-sound}
 use Rattle.savedledgers.proofs.SavedReading.{reads-refused, reads-done, number-53, number-frame, number-parts, number-order, number-room, number-none, load-placed}

@@ -4,13 +4,14 @@ use mathlib.Core.Path.{_≡_, sym, ap, _∙_}
 use mathlib.Core.Bool.{true, false}
 use native.Mathlib.Omega.{arith}
 use borrow.Author.Needs.{needs}
-use lib.ListN.{length, length-take}
+use lib.ListN.{length}
 use Rattle.ledger.specs.Pairs.{size}
 use Rattle.ledger.specs.Ledger.{lengthWrong, obeys, pairsOf}
 use Rattle.ledger.proofs.LedgerSizes.{length-fits}
 use Rattle.ledger.proofs.LedgerLayout.{size-pairsOf}
 use Rattle.ledger.proofs.LedgerRefusal.{refusal-zero}
-use Rattle.savedledgers.specs.Saved.{savedOf, writeSaved, writeSavedAfter}
+use Rattle.frames.proofs.Framed.{frame-written}
+use Rattle.savedledgers.specs.Saved.{kindOne, savedOf, writeSaved, writeSavedAfter}
 use Rattle.answers.specs.declared.written.Written.the-variants.{Bytes}
 use Rattle.answers.proofs.WrittenBy.{refused}
 use Rattle.savedledgers.proofs.SavedWriting.{number-refused, number-55, number-0, writes-saved, length-savedOf, save-placed}
@@ -57,17 +58,11 @@ returns-2 c =
     let n = number-55 (x .ledger .now) (x .out .now) (omega (arith, d .before .refusal .ensures)) (omega (arith, used-is u)) in
     refused _ _ (savedOf (pairsOf (x .ledger .now))) (x .out .now) 55 n (omega arith)
 
-sub-write-frame : tie.Need-sub-write-frame
-sub-write-frame c = search needs
+cast-write : tie.Need-cast-write
+cast-write c = omega (arith, used-is (c .before))
 
-part-write-frame-start : tie.Need-part-write-frame-start
-part-write-frame-start c = search needs
-
-part-write-frame-end : tie.Need-part-write-frame-end
-part-write-frame-end c = search needs
-
-write-frame-requires : tie.Need-write-frame-requires
-write-frame-requires c κs = (simp length-take (omega arith), omega (arith, used-is (c .before .before)))
+write-requires : tie.Need-write-requires
+write-requires c κs = search needs
 
 mul-write-numbers : tie.Need-mul-write-numbers
 mul-write-numbers c = search needs
@@ -107,7 +102,8 @@ returns-3 c =
     let w = writes-saved (x .ledger .now) (x .out .now) n in
     let k = u .used-pairs .ensures in
     let s : length (savedOf (pairsOf (x .ledger .now))) ≡ 6 + 16 * u .used-pairs .result = length-savedOf (pairsOf (x .ledger .now)) ∙ rw k in
-    let p = save-placed (x .ledger .now) (x .out .now) _ _ (u .used-pairs .result) k (omega arith) (w₁ .write-frame .ensures) (w₂ .write-numbers .ensures) in
+    let o = w₁ .write .ensures .1 ∙ frame-written kindOne (16 * u .used-pairs .result) (x .out .now) (omega arith) in
+    let p = save-placed (x .ledger .now) (x .out .now) _ _ (u .used-pairs .result) k o (w₂ .write-numbers .ensures) in
     (sym (w .0 ∙ ap Bytes s), p ∙ sym (w .1))
 
 pub write-spec : {M : Type 1} → statement M
@@ -120,10 +116,8 @@ write-spec =
     mul-n
     add-end
     returns-2
-    sub-write-frame
-    part-write-frame-start
-    part-write-frame-end
-    write-frame-requires
+    cast-write
+    write-requires
     mul-write-numbers
     sub-write-numbers
     part-write-numbers-start

@@ -1,0 +1,47 @@
+-- `Chunks` holds: whatever way a recording is cut, what is handed back is the printed text.
+use Prim.Native.Nat.{ℕ, _+_, _*_}
+use mathlib.Core.Path.{_≡_, ap, _∙_}
+use mathlib.Core.List.{List, _++_}
+use lib.ListN.{length}
+use Rattle.answers.specs.Written.{roomRefusal}
+use Rattle.transfer.specs.Transfer.{World}
+use Rattle.recordings.specs.Reading.{read}
+use Rattle.recordings.specs.Night.{transferring, night, dusk, after, soFar, printed}
+use Rattle.recordings.specs.Kept.{worldOn, library, Kept, deskOf, feedRefusal, finishText}
+use Rattle.recordings.specs.Chunks.{joined, feeds, Begun, Counted, Chunks}
+use Rattle.recordings.proofs.Reading.{read-rest}
+use Rattle.recordings.proofs.Desk.{AgreeReading, agree-read}
+use Rattle.recordings.proofs.ReadingEnd.{endText-line}
+use Rattle.recordings.proofs.Feeding.{feeds-read, finish-holds}
+
+module _ (k : Kept) (cs : List (List ℕ)) (b : Begun k) where
+  refused-by : (chunk out : List ℕ) → feedRefusal (feeds k cs .1) chunk out ≡ roomRefusal (192 + 16 * length chunk) out
+  unfolding feedRefusal
+  refused-by chunk out = rw (feeds-read k cs b .1 .rest-is, read-rest library (deskOf k) (joined cs) .0)
+
+  module _ (n : Counted (joined cs)) where
+    agrees : AgreeReading (read library (deskOf k) (joined cs)) (after (joined cs))
+    agrees = agree-read (joined cs) (deskOf k) dusk (record { number-is = b .first; running-is = b .no-start }) n
+
+    after-chunk : feeds k cs .0 ≡ soFar (joined cs)
+    unfolding soFar
+    after-chunk = feeds-read k cs b .0 ∙ agrees .text-is
+
+    at-end : feeds k cs .0 ++ finishText (feeds k cs .1 .session) ≡ printed (joined cs)
+    unfolding printed
+    at-end =
+        let r = read library (deskOf k) (joined cs) in
+        let f = finish-holds (feeds k cs .1) r (feeds-read k cs b .1) (read-rest library (deskOf k) (joined cs)) in
+        rw (after-chunk, f, agrees .rest-is, agrees .left-agree .number-is, endText-line night (after (joined cs)))
+
+    kept-is : (w : World) → after (joined cs) .left .running ≡ transferring w → worldOn (deskOf (feeds k cs .1)) ≡ w
+    kept-is w e = ap worldOn (feeds-read k cs b .1 .desk-is) ∙ (rw e at (agrees .left-agree .running-is)) .1
+
+pub chunks : Chunks
+chunks =
+    record {
+      after-chunk = after-chunk;
+      at-end = at-end;
+      kept-is = λ k cs w b n e. kept-is k cs b n w e;
+      refused-by = λ k cs chunk out b. refused-by k cs b chunk out;
+    }
