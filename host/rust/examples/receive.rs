@@ -9,11 +9,11 @@ use std::error::Error;
 /// One transfer, into a file in memory, which is the sender's only where the word is RESULT or SUSPECT.
 fn receive(
     len: u64,
-    entries: u64,
+    pairs: u64,
     arriving: &[(u64, &[u8])],
 ) -> Result<(Verdict, Vec<u8>, Ledgers), Refusal> {
     let mut file = vec![0; len as usize];
-    let mut ledgers = Ledgers::new(entries as usize / 2);
+    let mut ledgers = Ledgers::new(pairs as usize);
     let mut transfer = Transfer::start(len, &mut ledgers)?;
     let mut word = Verdict::Guess;
     for (channel, piece) in arriving {
@@ -41,8 +41,8 @@ fn main() -> Result<(), Box<dyn Error>> {
     let requests = requests(&recording).ok_or("that is no recording")?;
     let is_piece = |request: &Request| matches!(request, Request::Piece { .. });
     for transfer in requests.chunk_by(|_, next| is_piece(next)) {
-        if let Request::Start { len, entries } = transfer[0] {
-            let (word, file, ledgers) = receive(len, entries, &pieces(transfer))?;
+        if let Request::Start { len, pairs } = transfer[0] {
+            let (word, file, ledgers) = receive(len, pairs, &pieces(transfer))?;
             match word {
                 Verdict::Result => println!("received: a file of {} bytes", file.len()),
                 Verdict::Suspect => println!(

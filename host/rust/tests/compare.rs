@@ -2,6 +2,7 @@
 //! that the calls leave have to be equal. COBNUTTER_SEED and COBNUTTER_ROUNDS choose others and more.
 
 mod second;
+mod stored;
 
 #[path = "compare/both.rs"]
 mod both;
@@ -23,6 +24,8 @@ mod harm;
 mod library;
 #[path = "compare/random.rs"]
 mod random;
+#[path = "compare/rounds.rs"]
+mod rounds;
 #[path = "compare/seen.rs"]
 mod seen;
 #[path = "compare/senders.rs"]
@@ -35,10 +38,9 @@ mod sessions;
 mod texts;
 
 use random::Random;
-use seen::Seen;
+use seen::{Seen, ENTRIES};
 use std::fs;
 
-const SEED: u64 = 1;
 const ROUNDS: u64 = 400;
 
 type Kind = fn(&Random, &mut Seen);
@@ -62,60 +64,27 @@ const KINDS: [(Kind, usize); 15] = [
     (deliveries::one, 2),
 ];
 
-/// Says on failure how to run the round again.
-struct Round {
-    seed: u64,
-    round: u64,
-}
-
-impl Drop for Round {
-    fn drop(&mut self) {
-        if std::thread::panicking() {
-            let Round { seed, round } = self;
-            let alone = seed.wrapping_add(*round);
-            println!(
-                "seed {seed}, round {round}: again by COBNUTTER_SEED={alone} COBNUTTER_ROUNDS=1"
-            );
-        }
-    }
-}
-
-fn setting(name: &str, or: u64) -> u64 {
-    std::env::var(name).map_or(or, |text| text.parse().expect(name))
-}
-
 #[test]
 fn the_two_agree() {
-    let (seed, rounds) = (
-        setting("COBNUTTER_SEED", SEED),
-        setting("COBNUTTER_ROUNDS", ROUNDS),
-    );
     let mut seen = Seen::default();
-    for round in 0..rounds {
-        let _named = Round { seed, round };
-        let random = Random::new(seed.wrapping_add(round));
+    let rounds = rounds::run(ROUNDS, |random| {
         for (kind, times) in KINDS {
             for _ in 0..times {
-                kind(&random, &mut seen);
+                kind(random, &mut seen);
             }
         }
-    }
-    seen.print();
+    });
+    seen.print(&ENTRIES);
     if rounds >= ROUNDS {
-        assert_eq!(seen.missing(), []);
+        assert_eq!(seen.missing(&ENTRIES), []);
     }
 }
 
 #[test]
 fn the_two_agree_on_recordings() {
-    let folder = concat!(env!("CARGO_MANIFEST_DIR"), "/../../recordings");
-    let (random, mut seen) = (Random::new(SEED), Seen::default());
-    let mut recordings = 0;
-    for entry in fs::read_dir(folder).unwrap() {
-        let bytes = fs::read(entry.unwrap().path()).unwrap();
-        if sessions::recorded(&bytes, &random, &mut seen).is_some() {
-            recordings += 1;
-        }
+    let (random, mut seen) = (Random::new(rounds::SEED), Seen::default());
+    for path in stored::recordings("recordings") {
+        let recording = fs::read(path).unwrap();
+        sessions::recorded(&recording, &random, &mut seen);
     }
-    assert_ne!(recordings, 0);
 }

@@ -1,9 +1,10 @@
 //! Every recording of the repository, received through the safe API: the lines that are expected of it are beside it.
 
+mod stored;
+
 use cobnutter::recording::{requests, Request};
 use cobnutter::{Ledgers, Transfer};
 use std::fs;
-use std::path::{Path, PathBuf};
 
 struct Session {
     file: Vec<u8>,
@@ -12,8 +13,8 @@ struct Session {
 }
 
 impl Session {
-    fn start(len: u64, entries: u64) -> Session {
-        let sevens = vec![7; entries as usize];
+    fn start(len: u64, pairs: u64) -> Session {
+        let sevens = vec![7; 2 * pairs as usize];
         let mut ledgers = Ledgers::from_entries(sevens.clone(), sevens);
         let transfer = Transfer::start(len, &mut ledgers).unwrap();
         Session {
@@ -31,9 +32,9 @@ impl Session {
             Ok(r) => {
                 let shown = self.transfer.shown(&self.ledgers).unwrap();
                 assert_eq!(r.verdict, shown.verdict);
-                format!("TOOK {} {}", r.taken, r.verdict)
+                left(bytes.len() - r.taken) + &self.screen()
             }
-            Err(refusal) => format!("REFUSED {}", refusal.number()),
+            Err(refusal) => format!("REFUSED {}\n", refusal.number()),
         }
     }
 
@@ -42,36 +43,32 @@ impl Session {
     }
 }
 
+fn left(remaining: usize) -> String {
+    if remaining == 0 {
+        String::new()
+    } else {
+        format!("LEFT {remaining}\n")
+    }
+}
+
 fn lines(recording: &[u8]) -> String {
     let mut session = Session::start(0, 0);
     let mut lines = String::new();
     for request in requests(recording).unwrap() {
-        let word = match request {
-            Request::Start { len, entries } => {
-                session = Session::start(len, entries);
-                "STARTED".to_string()
+        lines += &match request {
+            Request::Start { len, pairs } => {
+                session = Session::start(len, pairs);
+                session.screen()
             }
             Request::Piece { channel, bytes } => session.piece(channel, bytes),
         };
-        lines += &format!("{word} {}", session.screen());
     }
     lines
 }
 
-fn recordings() -> Vec<PathBuf> {
-    let folder = Path::new(env!("CARGO_MANIFEST_DIR")).join("../../recordings");
-    let entries = fs::read_dir(folder).unwrap();
-    let paths = entries.map(|entry| entry.unwrap().path());
-    paths
-        .filter(|path| path.extension().is_some_and(|e| e == "rec"))
-        .collect()
-}
-
 #[test]
 fn each_has_its_lines() {
-    let paths = recordings();
-    assert!(!paths.is_empty());
-    for path in paths {
+    for path in stored::recordings("recordings") {
         let expected = fs::read_to_string(path.with_extension("lines")).unwrap();
         assert_eq!(
             lines(&fs::read(&path).unwrap()),
@@ -86,8 +83,9 @@ fn each_has_its_lines() {
 fn what_is_no_recording_is_refused() {
     let start: &[u8] = b"\x12\0\0\0\x10\0\x08\0\0\0\0\0\0\0\x02\0\0\0\0\0\0\0";
     let read = requests(start).unwrap();
-    assert_eq!(read, [Request::Start { len: 8, entries: 2 }]);
-    assert_eq!(requests(&start[..21]), None);
-    assert_eq!(requests(b"\x02\0\0\0\x11\0"), None);
-    assert_eq!(requests(b"\x02\0\0\0\x12\0"), None);
+    assert_eq!(read, [Request::Start { len: 8, pairs: 2 }]);
+    for path in stored::recordings("recordings/malformed") {
+        let recording = fs::read(&path).unwrap();
+        assert_eq!(requests(&recording), None, "{}", path.display());
+    }
 }

@@ -2,21 +2,10 @@
 
 use super::both::{Both, Lent};
 use super::random::Random;
-use super::second::block::Header;
 use super::second::receiver::{Transfer, Verdict};
 use super::second::screen::Shown;
 use super::seen::Seen;
-use super::sending::wire;
-
-/// A block's header and what comes after it, as one piece.
-fn block(descriptor: u8, length: u64, place: u64, payload: &[u8]) -> Vec<u8> {
-    let header = Header {
-        descriptor,
-        length,
-        place,
-    };
-    [&wire(header), payload].concat()
-}
+use super::sending::block;
 
 /// On a transfer that has just started.
 fn started(len: usize, pairs: usize, test: impl FnOnce(&mut Both)) {

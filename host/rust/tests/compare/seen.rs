@@ -4,8 +4,11 @@ use super::second::receiver::Verdict;
 use super::second::Answer;
 use std::collections::BTreeMap;
 
+/// Entries, each with the numbers that it can give.
+type Table = [(&'static str, &'static [u64])];
+
 /// 0 is an answer without refusal. Faults and descriptors are counted by their numbers, words by the header's.
-const ENTRIES: [(&str, &[u64]); 24] = [
+pub const ENTRIES: [(&str, &[u64]); 24] = [
     ("start", &[0, 5]),
     ("unequal start", &[5]),
     ("receive", &[0, 1, 2, 3, 4]),
@@ -78,8 +81,8 @@ impl Seen {
         self.0.get(&(entry, number)).copied().unwrap_or(0)
     }
 
-    pub fn print(&self) {
-        for (entry, numbers) in ENTRIES {
+    pub fn print(&self, table: &Table) {
+        for (entry, numbers) in table {
             let counts: Vec<String> = numbers
                 .iter()
                 .map(|number| format!("{number}: {}", self.count(entry, *number)))
@@ -89,8 +92,8 @@ impl Seen {
     }
 
     /// The numbers that an entry can give and never gave.
-    pub fn missing(&self) -> Vec<(&'static str, u64)> {
-        let all = ENTRIES
+    pub fn missing(&self, table: &Table) -> Vec<(&'static str, u64)> {
+        let all = table
             .iter()
             .flat_map(|(entry, numbers)| numbers.iter().map(|number| (*entry, *number)));
         all.filter(|(entry, number)| self.count(entry, *number) == 0)

@@ -70,6 +70,16 @@ pub fn wire(header: Header) -> [u8; LENGTH] {
     bytes
 }
 
+/// A block's header and what comes after it.
+pub fn block(descriptor: u8, length: u64, place: u64, payload: &[u8]) -> Vec<u8> {
+    let header = Header {
+        descriptor,
+        length,
+        place,
+    };
+    [&wire(header), payload].concat()
+}
+
 impl Lane {
     pub fn bytes(&self) -> Vec<u8> {
         let mut bytes = Vec::new();
@@ -83,7 +93,11 @@ impl Lane {
 
 impl Sending {
     pub fn well_formed(random: &Random) -> Sending {
-        let len = random.size(LONGEST_FILE);
+        Sending::into_file(random.size(LONGEST_FILE), random)
+    }
+
+    /// Well-formed, into a file of that length.
+    pub fn into_file(len: usize, random: &Random) -> Sending {
         let mut lanes = empty_lanes(random);
         let left_out = *random.pick(&[2, 5, usize::MAX]);
         let mut payloads = payloads(len, random.size(300), left_out, random);

@@ -82,16 +82,15 @@ pub fn cached(random: &Random, seen: &mut Seen) {
     deliver(&mut both, &mut streams, &second);
 }
 
-/// What real senders sent, as far as `bytes` are a recording.
-pub fn recorded(bytes: &[u8], random: &Random, seen: &mut Seen) -> Option<()> {
+/// What real senders sent.
+pub fn recorded(recording: &[u8], random: &Random, seen: &mut Seen) {
     let mut both = Both::start(0, 0, random, seen);
-    for request in requests(bytes)? {
+    for request in requests(recording).unwrap() {
         match request {
-            Request::Start { len, entries } => both.start_next(len as usize, entries as usize),
+            Request::Start { len, pairs } => both.start_next(len as usize, 2 * pairs as usize),
             Request::Piece { channel, bytes } => drop(both.receive(channel, bytes)),
         }
     }
-    Some(())
 }
 
 /// Feeds a well-formed sending: it ends with RESULT, or with SUSPECT where a payload that is not empty has bit 32, all
