@@ -1,8 +1,20 @@
-//! The examples of document 01, held by the second reading alone.
+//! The examples of document 01, and of document 02's Item 4, held by the second reading alone.
 
 use super::second::block::{self, Header};
 use super::second::receiver::{Transfer, Verdict};
+use super::second::replay::{malformed, replay, so_far, Malformed};
 use super::second::{control, ranges, saved, screen, Answer};
+
+/// A block's header and what follows it.
+fn piece(header: [u64; 3], payload: &str) -> Vec<u8> {
+    let [descriptor, length, place] = header;
+    let header = Header {
+        descriptor: descriptor as u8,
+        length,
+        place,
+    };
+    [&header.to_bytes(), payload.as_bytes()].concat()
+}
 
 /// A transfer with what is lent to it.
 struct World {
@@ -23,18 +35,10 @@ impl World {
         }
     }
 
-    /// A block's header and what follows it, as one piece.
     fn send(&mut self, channel: u64, header: [u64; 3], payload: &str) -> Answer<(Verdict, usize)> {
-        let [descriptor, length, place] = header;
-        let header = Header {
-            descriptor: descriptor as u8,
-            length,
-            place,
-        };
-        let piece = [&header.to_bytes(), payload.as_bytes()].concat();
         self.transfer.receive(
             channel,
-            &piece,
+            &piece(header, payload),
             &mut self.file,
             &mut self.claimed,
             &mut self.doubtful,
@@ -200,4 +204,26 @@ fn screen_lines() {
     broken.send(0, [0, 4, 0], "plai").unwrap();
     broken.send(1, [8, 4, 3], "d123").unwrap();
     assert_eq!(broken.screen_line(), "BROKEN 17 on 1 bytes 4\n");
+}
+
+/// Started with one pair; then with a record that may still become whole.
+#[test]
+fn replays() {
+    let mut recording = b"\x12\0\0\0\x10\0\x08\0\0\0\0\0\0\0\x01\0\0\0\0\0\0\0".to_vec();
+    for (frame, header, payload) in [
+        (b"\x18\0\0\0\x11\0\0", [0, 4, 0], "plai"),
+        (b"\x18\0\0\0\x11\0\x01", [8, 4, 4], "d123"),
+        (b"\x14\0\0\0\x11\0\0", [72, 0, 2], ""),
+    ] {
+        recording.extend(frame);
+        recording.extend(piece(header, payload));
+    }
+    let text = b"GUESS ended 0 of ? bytes 0\nGUESS ended 0 of ? bytes 4\n\
+        GUESS ended 1 of ? bytes 8\nRESULT ended 2 of 2 bytes 8\n";
+    assert_eq!(replay(&recording), text);
+    assert_eq!(malformed(&recording), None);
+    recording.extend([18, 0, 0]);
+    assert_eq!(so_far(&recording), text);
+    assert_eq!(replay(&recording), [&text[..], b"RECORD 4\n"].concat());
+    assert_eq!(malformed(&recording), Some(Malformed::CutLength));
 }

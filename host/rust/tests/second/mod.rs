@@ -7,6 +7,7 @@ mod fit;
 pub mod ledger;
 pub mod ranges;
 pub mod receiver;
+pub mod replay;
 pub mod saved;
 pub mod screen;
 pub mod sender;
