@@ -16,12 +16,12 @@ use Rattle.copies.specs.Copy.{stored}
 use Rattle.copies.proofs.CopiedBytes.{stored-is-written, stored-all}
 use Rattle.recordings.specs.declared.session.Progress.{Progress}
 use Rattle.recordings.specs.declared.session.Session.{Session}
-use Rattle.recordings.specs.Request.{recordLimit}
-use Rattle.recordings.specs.Lines.{recordLine}
-use Rattle.recordings.specs.Reading.{Reading, stopsAt, printedBefore, read}
+use Rattle.nights.specs.Request.{recordLimit}
+use Rattle.nights.specs.Lines.{recordLine}
+use Rattle.nights.specs.Reading.{Reading, stopsAt, printedBefore, read}
 use Rattle.recordings.specs.Kept.{Desk, Kept, kept, desk, deskOf, heldLimit, unfinished, isUnfinished, library}
 use Rattle.recordings.specs.Steps.{WritesText, Looks, halted, goOn, afterLook, Holds, Steps}
-use Rattle.recordings.proofs.Reading.{unfinished-none}
+use Rattle.recordings.proofs.Unfinished.{unfinished-none}
 
 -- ---- what is held
 

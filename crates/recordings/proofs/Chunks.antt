@@ -5,13 +5,13 @@ use mathlib.Core.List.{List, _++_}
 use lib.ListN.{length}
 use Rattle.answers.specs.Written.{roomRefusal}
 use Rattle.transfer.specs.Transfer.{World}
-use Rattle.recordings.specs.Reading.{read}
-use Rattle.recordings.specs.Night.{transferring, night, dusk, after, soFar, printed}
+use Rattle.nights.specs.Reading.{joined, read}
+use Rattle.nights.specs.Night.{transferring, night, dusk, after, soFar, printed}
 use Rattle.recordings.specs.Kept.{worldOn, library, Kept, deskOf, feedRefusal, finishText}
-use Rattle.recordings.specs.Chunks.{joined, feeds, Begun, Counted, Chunks}
-use Rattle.recordings.proofs.Reading.{read-rest}
+use Rattle.recordings.specs.Chunks.{feeds, Begun, Counted, Chunks}
+use Rattle.recordings.proofs.Unfinished.{read-rest}
 use Rattle.recordings.proofs.Desk.{AgreeReading, agree-read}
-use Rattle.recordings.proofs.ReadingEnd.{endText-line}
+use Rattle.nights.proofs.ReadingEnd.{endText-line}
 use Rattle.recordings.proofs.Feeding.{feeds-read, finish-holds}
 
 module _ (k : Kept) (cs : List (List ℕ)) (b : Begun k) where

@@ -15,13 +15,13 @@ use Rattle.transfer.specs.Calls.{receive, callOf, foldCalls, startedWorld}
 use Rattle.transfer.specs.Fitting.{Fit}
 use Rattle.transfer.proofs.Fitting.{fitting}
 use Rattle.transfer.proofs.AfterList.{every-list}
-use Rattle.recordings.specs.Request.{pairLimit, Request, starts, piece, malformed, requestOf}
-use Rattle.recordings.specs.Lines.{recordLine}
-use Rattle.recordings.specs.Reading.{Turn, prints, stops, Reading, waits, stopsAt, printedBefore, read}
-use Rattle.recordings.specs.Night.{Running, none, transferring, Night, startedNight, leads, answerPiece, turnOf, night}
+use Rattle.nights.specs.Request.{pairLimit, Request, starts, piece, malformed, requestOf}
+use Rattle.nights.specs.Lines.{recordLine}
+use Rattle.nights.specs.Reading.{Turn, prints, stops, Reading, waits, stopsAt, printedBefore, read}
+use Rattle.nights.specs.Night.{Running, none, transferring, Night, startedNight, leads, answerPiece, turnOf, night}
 use Rattle.recordings.specs.Kept.{Desk, worldOn, nextNumber, putWorld, deskAnswer, deskTurn, library}
-use Rattle.recordings.proofs.Requests.{Within, request-within}
-use Rattle.recordings.proofs.Reading.{Reads, reads-nothing, reads-cut, reads-long, reads-malformed, reads-on, read-reads, read-nothing, read-cut, read-long, read-prints, read-stops}
+use Rattle.nights.proofs.Requests.{Within, request-within}
+use Rattle.nights.proofs.Reading.{Reads, reads-nothing, reads-cut, reads-long, reads-malformed, reads-on, read-reads, read-nothing, read-cut, read-long, read-prints, read-stops}
 
 -- ---- a world that fits is read back
 

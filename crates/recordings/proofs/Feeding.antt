@@ -8,12 +8,13 @@ use borrow.Author.Tests.{lt-ltb}
 use lib.Dec.{ltb}
 use lib.ListN.{length}
 use lib.Seq.{take-at}
-use Rattle.recordings.specs.Lines.{recordLine}
-use Rattle.recordings.specs.Reading.{Reading, printedBefore, read}
+use Rattle.nights.specs.Lines.{recordLine}
+use Rattle.nights.specs.Reading.{joined, Reading, printedBefore, read}
 use Rattle.recordings.specs.Kept.{Desk, library, Kept, deskOf, unfinished, leaves, feed, finishText}
-use Rattle.recordings.specs.Chunks.{joined, feeds, Begun}
-use Rattle.recordings.proofs.Reading.{read-none, followed, read-append, RestOf}
-use Rattle.recordings.proofs.ReadingEnd.{endLine}
+use Rattle.recordings.specs.Chunks.{feeds, Begun}
+use Rattle.nights.proofs.Reading.{read-none, followed, read-append}
+use Rattle.recordings.proofs.Unfinished.{RestOf}
+use Rattle.nights.proofs.ReadingEnd.{endLine}
 
 -- what is kept is what a reading has left
 pub record Holds (k : Kept) (r : Reading Desk) : Type 0 where

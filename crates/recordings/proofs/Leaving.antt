@@ -11,11 +11,11 @@ use Rattle.frames.specs.declared.frame.First.{First}
 use Rattle.frames.specs.declared.frame.First.the-variants.{Nothing, Cut, TooLong, Whole}
 use Rattle.frames.proofs.FirstRecord.{first-nothing}
 use Rattle.recordings.specs.declared.session.Session.{Session}
-use Rattle.recordings.specs.Request.{recordLimit}
-use Rattle.recordings.specs.Reading.{Reading, waits, printedBefore, read}
+use Rattle.nights.specs.Request.{recordLimit}
+use Rattle.nights.specs.Reading.{Reading, waits, printedBefore, read}
 use Rattle.recordings.specs.Kept.{Desk, Kept, kept, deskOf, heldLimit, unfinished, isUnfinished, library, leaves, feed, feedText}
 use Rattle.recordings.specs.Steps.{halted, goOn, Holds, Reads}
-use Rattle.recordings.proofs.Reading.{read-nothing, read-cut}
+use Rattle.nights.proofs.Reading.{read-nothing, read-cut}
 use Rattle.recordings.proofs.Fronts.{rest-is}
 use Rattle.recordings.proofs.Chunk.{none-held, goOn-reads, goOn-halted}
 

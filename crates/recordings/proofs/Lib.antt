@@ -1,13 +1,7 @@
 pub mod Lines
-pub mod Requests
-pub mod RequestWritten
-pub mod Reading
-pub mod ReadingEnd
-pub mod Night
-pub mod ReplayMalformed
-pub mod ReplayRecords
-pub mod Replay
-pub mod ReplayCases
+pub mod Fronts
+pub mod Turns
+pub mod Unfinished
 pub mod Desk
 pub mod Feeding
 pub mod Chunks
@@ -16,5 +10,3 @@ pub mod Chunk
 pub mod Taking
 pub mod Leaving
 pub mod Refusal
-pub mod Fronts
-pub mod Turns

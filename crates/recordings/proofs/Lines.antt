@@ -16,7 +16,8 @@ use Rattle.copies.specs.Copy.{stored}
 use Rattle.copies.proofs.CopiedBytes.{stored-all}
 use Rattle.screen.specs.Screen.{lineFeed, lineOf}
 use Rattle.screen.proofs.Screen.{length-between, digits-most}
-use Rattle.recordings.specs.Lines.{recordWord, refusedWord, leftWord, numberLine, recordLine, leftLine, pieceText}
+use Rattle.nights.specs.Lines.{recordWord, refusedWord, leftWord, numberLine, recordLine, leftLine, pieceText}
+use Rattle.nights.proofs.Lines.{left-none, left-some}
 use Rattle.recordings.specs.Kept.{WritesFront}
 
 -- ---- the words, each with the space that follows it
@@ -32,15 +33,6 @@ refused-words k = refl
 pub left-words : (k : ℕ) → (76 ∷ 69 ∷ 70 ∷ 84 ∷ 32 ∷ []) ++ decimal k ++ lineFeed ≡ numberLine leftWord k
 unfolding numberLine
 left-words k = refl
-
-pub left-none : (n : ℕ) → n ≡ 0 → leftLine n ≡ []
-unfolding leftLine
-left-none n e = rw e
-
-pub left-some : (n : ℕ) → 0 < n → leftLine n ≡ numberLine leftWord n
-unfolding leftLine
-left-some zero h = absurd (omega arith)
-left-some (suc n) h = refl
 
 -- ---- how long they are
 
@@ -90,20 +82,3 @@ line-written out o₁ o₂ word n at end h w d =
     let t = word ++ decimal n in
     writes-front out (t ++ lineFeed) (set o₂ end 10) (end + 1) (omega (arith, length-between word (decimal n) lineFeed))
     (writesAt-append out o₂ (set o₂ end 10) t lineFeed 0 end (end + 1) (writesAt-append out o₁ o₂ word (decimal n) 0 at end w d) (refl, refl))
-
--- ---- what a piece prints, by the answer of its call
-
-module _ (w : World) (n : ℕ) where
-  pub pieceText-whole : pieceText (took n) w n ≡ lineOf w
-  unfolding pieceText leftLine
-  pieceText-whole =
-      let z : n - n ≡ 0 = omega arith in
-      rw z
-
-  pub pieceText-left : (t : ℕ) → t < n → pieceText (took t) w n ≡ numberLine leftWord (n - t) ++ lineOf w
-  unfolding pieceText
-  pieceText-left t h = ap (λ l. l ++ lineOf w) (left-some (n - t) (omega arith))
-
-  pub pieceText-refused : (k : ℕ) → pieceText (refused k) w n ≡ numberLine refusedWord k
-  unfolding pieceText
-  pieceText-refused k = refl

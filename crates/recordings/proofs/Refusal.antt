@@ -13,7 +13,7 @@ use Rattle.answers.specs.declared.written.Written.{Written}
 use Rattle.answers.specs.declared.written.Written.the-variants.{Bytes, Refused}
 use Rattle.answers.proofs.WrittenBy.{room-zero, refused, written}
 use Rattle.recordings.specs.declared.session.Session.{Session}
-use Rattle.recordings.specs.Lines.{recordLine}
+use Rattle.nights.specs.Lines.{recordLine}
 use Rattle.recordings.specs.Kept.{WritesFront, Kept, kept, isUnfinished, unfinished, feed, feedRoom, feedRefusal, feedText, feedAfter, finishText}
 use Rattle.recordings.specs.Steps.{Holds}
 use Rattle.recordings.proofs.Fronts.{take-same}

@@ -15,13 +15,14 @@ use Rattle.frames.proofs.FirstRecord.{recordLength-short, recordLength-append, 
 use Rattle.copies.specs.Copy.{stored}
 use Rattle.recordings.specs.declared.session.Progress.{Progress}
 use Rattle.recordings.specs.declared.session.Session.{Session}
-use Rattle.recordings.specs.Request.{recordLimit, requestOf}
-use Rattle.recordings.specs.Lines.{recordLine}
-use Rattle.recordings.specs.Reading.{Turn, prints, stops, stopsAt, printedBefore, read}
+use Rattle.nights.specs.Request.{recordLimit, requestOf}
+use Rattle.nights.specs.Lines.{recordLine}
+use Rattle.nights.specs.Reading.{Turn, prints, stops, stopsAt, printedBefore, read}
 use Rattle.recordings.specs.Kept.{Desk, Kept, kept, desk, deskOf, heldLimit, unfinished, isUnfinished, library, deskTurn}
 use Rattle.recordings.specs.Steps.{WritesText, Leads, Looks, halted, goOn, afterLook, Holds, Steps}
-use Rattle.recordings.proofs.Requests.{request-short}
-use Rattle.recordings.proofs.Reading.{unfinished-none, unfinished-cut, read-prints, read-stops, read-long}
+use Rattle.nights.proofs.Requests.{request-short}
+use Rattle.nights.proofs.Reading.{read-prints, read-stops, read-long}
+use Rattle.recordings.proofs.Unfinished.{unfinished-none, unfinished-cut}
 
 -- ---- a record
 

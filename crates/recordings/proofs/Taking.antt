@@ -13,11 +13,11 @@ use Rattle.frames.specs.Frame.{firstRecord}
 use Rattle.frames.specs.declared.frame.First.{First}
 use Rattle.frames.specs.declared.frame.First.the-variants.{Nothing, Cut, TooLong, Whole}
 use Rattle.frames.proofs.FirstRecord.{first-nothing}
-use Rattle.recordings.specs.Request.{recordLimit}
-use Rattle.recordings.specs.Reading.{Reading, Reader, waits, printedBefore, read}
+use Rattle.nights.specs.Request.{recordLimit}
+use Rattle.nights.specs.Reading.{Reading, Reader, waits, printedBefore, read}
 use Rattle.recordings.specs.Kept.{WritesFront, Desk, Kept, kept, deskOf, heldLimit, unfinished, isUnfinished, library, leaves, feed, feedText}
 use Rattle.recordings.specs.Steps.{WritesText, halted, goOn, Holds, Steps, Reads}
-use Rattle.recordings.proofs.Reading.{read-nothing, read-cut}
+use Rattle.nights.proofs.Reading.{read-nothing, read-cut}
 use Rattle.recordings.proofs.Fronts.{rest-is, front-append}
 
 -- at bytes of the chunk are taken and w written; room is left for what the next step writes

@@ -33,15 +33,15 @@ use Rattle.screen.proofs.ScreenRows.{screen-rows}
 use Rattle.frames.specs.Frame.{bodyOf}
 use Rattle.recordings.specs.declared.request.Asked.{Asked}
 use Rattle.recordings.specs.declared.request.Asked.the-variants.{Start, Piece, Malformed}
-use Rattle.recordings.specs.Request.{starts, piece, malformed, requestOf}
+use Rattle.nights.specs.Request.{starts, piece, malformed, requestOf}
 use Rattle.recordings.specs.Asked.{asksBody, asks}
-use Rattle.recordings.specs.Lines.{refusedWord, leftLine, pieceText}
-use Rattle.recordings.specs.Reading.{Turn, prints, stops as unread}
-use Rattle.recordings.specs.Night.{startedNight}
+use Rattle.nights.specs.Lines.{refusedWord, leftLine, pieceText}
+use Rattle.nights.specs.Reading.{Turn, prints, stops as unread}
+use Rattle.nights.specs.Night.{startedNight}
 use Rattle.recordings.specs.Kept.{WritesFront, Desk, desk, worldOn, nextNumber, putWorld, deskAnswer, deskTurn}
 use Rattle.recordings.specs.Steps.{WritesText, Leads}
 use Rattle.recordings.proofs.Lines.{refused-words, length-numberLine, decimal-short}
-use Rattle.recordings.proofs.Requests.{piece-within}
+use Rattle.nights.proofs.Requests.{piece-within}
 use Rattle.recordings.proofs.Fronts.{take-same}
 
 -- ---- the screen line

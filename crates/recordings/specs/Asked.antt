@@ -5,7 +5,7 @@ use lib.ListN.{drop}
 use Rattle.frames.specs.Frame.{bodyOf}
 use Rattle.recordings.specs.declared.request.Asked.{Asked}
 use Rattle.recordings.specs.declared.request.Asked.the-variants.{Start, Piece, Malformed}
-use Rattle.recordings.specs.Request.{Request, starts, piece, malformed}
+use Rattle.nights.specs.Request.{Request, starts, piece, malformed}
 
 -- of a body
 unfoldable pub asksBody : Asked → List ℕ → Request

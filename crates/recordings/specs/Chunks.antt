@@ -6,13 +6,9 @@ use mathlib.Core.List.{List, [], _∷_, _++_}
 use lib.ListN.{length}
 use Rattle.answers.specs.Written.{roomRefusal}
 use Rattle.transfer.specs.Transfer.{World}
-use Rattle.recordings.specs.Night.{transferring, after, soFar, printed}
+use Rattle.nights.specs.Reading.{joined}
+use Rattle.nights.specs.Night.{transferring, after, soFar, printed}
 use Rattle.recordings.specs.Kept.{worldOn, Kept, deskOf, feed, feedRefusal, finishText}
-
--- the chunks in their order
-unfoldable pub joined : List (List ℕ) → List ℕ
-joined [] = []
-joined (c ∷ cs) = c ++ joined cs
 
 -- each chunk meets what the last one left: all texts that are handed back, one after the other, and what is kept at the end
 unfoldable pub feeds : Kept → List (List ℕ) → List ℕ × Kept

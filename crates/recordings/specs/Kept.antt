@@ -14,10 +14,10 @@ use Rattle.transfer.specs.Receive.{Answer, receiveOf}
 use Rattle.screen.specs.Screen.{lineOf}
 use Rattle.recordings.specs.declared.session.Progress.{Progress}
 use Rattle.recordings.specs.declared.session.Session.{Session}
-use Rattle.recordings.specs.Request.{Request, starts, piece, malformed, recordLimit, requestOf}
-use Rattle.recordings.specs.Lines.{recordLine, pieceText}
-use Rattle.recordings.specs.Reading.{Turn, prints, stops, Reading, Reader, read}
-use Rattle.recordings.specs.Night.{startedNight}
+use Rattle.nights.specs.Request.{Request, starts, piece, malformed, recordLimit, requestOf}
+use Rattle.nights.specs.Lines.{recordLine, pieceText}
+use Rattle.nights.specs.Reading.{Turn, prints, stops, Reading, Reader, read}
+use Rattle.nights.specs.Night.{startedNight}
 
 -- ---- lent bytes and entries whose front is in use
 

@@ -1,9 +1,3 @@
-pub mod Request
-pub mod Lines
-pub mod Reading
-pub mod Night
-pub mod Replay
-pub mod ReplayCases
 pub mod Asked
 pub mod Kept
 pub mod Steps

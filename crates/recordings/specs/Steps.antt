@@ -8,8 +8,8 @@ use lib.ListN.{length, drop}
 use Rattle.frames.specs.Frame.{recordLength}
 use Rattle.recordings.specs.declared.session.Progress.{Progress}
 use Rattle.recordings.specs.declared.session.Session.{Session}
-use Rattle.recordings.specs.Lines.{recordLine}
-use Rattle.recordings.specs.Reading.{Turn, prints, stops, Reading, waits, stopsAt, printedBefore, read}
+use Rattle.nights.specs.Lines.{recordLine}
+use Rattle.nights.specs.Reading.{Turn, prints, stops, Reading, waits, stopsAt, printedBefore, read}
 use Rattle.recordings.specs.Kept.{WritesFront, Desk, Kept, deskOf, heldLimit, unfinished, isUnfinished, library}
 
 -- the most bytes that a record prints

@@ -1,5 +1,6 @@
 // A chunk of a recording: what it prints, into lent bytes.
 use crate::front;
+use crate::request;
 use crate::session::Session;
 use crate::step;
 use crate::step::Stepped;
@@ -21,9 +22,6 @@ pub struct Fed {
     pub answer: Written,
 }
 
-// The most that the length field of a well-formed record says.
-const RECORD_LIMIT: u64 = 16387;
-
 // For what the first record prints, and for each byte of a chunk.
 const ROOM: usize = 192;
 
@@ -33,7 +31,7 @@ const ROOM_PER_BYTE: usize = 16;
 fn is_unfinished(bytes: &[u8]) -> bool
     ensures { λ r. ⌜ r ≡ isUnfinished (now (bytes .entry)) ⌝ }
 {
-    let found = frame::first_record(bytes, RECORD_LIMIT);
+    let found = frame::first_record(bytes, request::RECORD_LIMIT);
     match found {
         First::Nothing => true,
         First::Cut => true,

@@ -1,5 +1,6 @@
 // The first record of some bytes: looked for, and answered where it is whole.
 use crate::line;
+use crate::request;
 use crate::session::Progress;
 use crate::turn;
 use frames::frame;
@@ -10,13 +11,10 @@ ghost use Prim.Native.Nat.{_≤_};
 ghost use lib.ListN.{length};
 ghost use Rattle.frames.specs.Frame.{firstRecord};
 ghost use Rattle.frames.specs.declared.frame.First.the-variants.{Whole};
-ghost use Rattle.recordings.specs.Request.{recordLimit};
-ghost use Rattle.recordings.specs.Lines.{recordLine};
+ghost use Rattle.nights.specs.Request.{recordLimit};
+ghost use Rattle.nights.specs.Lines.{recordLine};
 ghost use Rattle.recordings.specs.Kept.{desk};
 ghost use Rattle.recordings.specs.Steps.{WritesText, Looks};
-
-// The most that the length field of a well-formed record says.
-const RECORD_LIMIT: u64 = 16387;
 
 // What was found: a malformed record stops, and one that is not whole uses no byte.
 pub struct Looked {
@@ -87,7 +85,7 @@ pub fn look(
     requires { ⌜ (length (now file) ≡ 32768) × (length (now claimed) ≡ 512) × (length (now doubtful) ≡ 512) × (96 ≤ length (now out)) ⌝ }
     ensures { λ r. ⌜ Looks (r .stops) (r .used) (desk p (now (file .entry)) (now (claimed .entry)) (now (doubtful .entry))) (now (bytes .entry)) (now (out .entry)) (r .written) (desk (r .progress) (now (file .exit)) (now (claimed .exit)) (now (doubtful .exit))) (now (out .exit)) ⌝ }
 {
-    let found = frame::first_record(bytes, RECORD_LIMIT);
+    let found = frame::first_record(bytes, request::RECORD_LIMIT);
     match found {
         First::Nothing => waits(p),
         First::Cut => waits(p),

@@ -7,7 +7,7 @@ ghost use Prim.Native.Nat.{_+_, _≤_};
 ghost use lib.ListN.{length};
 ghost use Rattle.octets.specs.Decimal.{decimal};
 ghost use Rattle.screen.specs.Screen.{lineFeed};
-ghost use Rattle.recordings.specs.Lines.{leftLine};
+ghost use Rattle.nights.specs.Lines.{leftLine};
 ghost use Rattle.recordings.specs.Kept.{WritesFront};
 
 pub const RECORD: [u8; 7] = *b"RECORD ";

@@ -2,7 +2,7 @@
 use frames::frame;
 use octets::little;
 ghost use mathlib.Core.Path.{_≡_};
-ghost use Rattle.recordings.specs.Request.{startIn, pieceIn, requestOf};
+ghost use Rattle.nights.specs.Request.{startIn, pieceIn, requestOf};
 ghost use Rattle.recordings.specs.Asked.{asksBody, asks};
 
 const START: u64 = 16;
@@ -19,6 +19,9 @@ const PIECE_LIMIT: usize = 16384;
 
 // Frame and channel.
 pub const BEFORE_PIECE: usize = 7;
+
+// The most that the length field of a well-formed record says: kind, channel and the longest piece.
+pub const RECORD_LIMIT: u64 = 16387;
 
 // A start with its numbers, or a piece with its channel.
 pub enum Asked {

@@ -18,8 +18,8 @@ ghost use lib.ListN.{length};
 ghost use Rattle.transfer.specs.Receive.{receiveOf};
 ghost use Rattle.transfer.specs.Fit.{fitsWithoutFile};
 ghost use Rattle.screen.specs.Screen.{lineFor};
-ghost use Rattle.recordings.specs.Request.{starts, requestOf};
-ghost use Rattle.recordings.specs.Lines.{leftLine};
+ghost use Rattle.nights.specs.Request.{starts, requestOf};
+ghost use Rattle.nights.specs.Lines.{leftLine};
 ghost use Rattle.recordings.specs.Kept.{WritesFront, desk, worldOn, deskAnswer, deskTurn};
 ghost use Rattle.recordings.specs.Steps.{WritesText, Leads};
 

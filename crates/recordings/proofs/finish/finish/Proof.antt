@@ -6,7 +6,7 @@ use Prim.Native.Nat.{_+_, _≤_, _<_}
 use lib.ListN.{length}
 use Rattle.octets.specs.Decimal.{decimal}
 use Rattle.octets.proofs.Decimals.{length-decimal}
-use Rattle.recordings.specs.Lines.{recordWord, recordLine}
+use Rattle.nights.specs.Lines.{recordWord, recordLine}
 use Rattle.recordings.specs.Kept.{WritesFront, finishText}
 use Rattle.recordings.proofs.Lines.{length-numberLine, record-short, record-words}
 use mathlib.Core.Logic.{inl, inr}

@@ -1,6 +1,6 @@
 use borrow.Author.Needs.{needs}
 use Rattle.recordings.specs.Kept.{Desk, desk}
-use Rattle.recordings.specs.Request.{recordLimit}
+use Rattle.nights.specs.Request.{recordLimit}
 use Rattle.frames.proofs.FirstRecord.{first-prefix-whole}
 use lib.ListN.{length-take}
 use mathlib.Core.List.{[]}

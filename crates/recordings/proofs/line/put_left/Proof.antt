@@ -3,8 +3,9 @@ use mathlib.Core.Path.{refl, ap}
 use native.Mathlib.Omega.{arith}
 use borrow.Author.Needs.{needs}
 use lib.ListN.{length}
-use Rattle.recordings.specs.Lines.{leftWord}
-use Rattle.recordings.proofs.Lines.{left-words, left-none, left-some, length-numberLine}
+use Rattle.nights.specs.Lines.{leftWord}
+use Rattle.nights.proofs.Lines.{left-none, left-some}
+use Rattle.recordings.proofs.Lines.{left-words, length-numberLine}
 use Rattle.recordings.proofs.line.put_left.Statement.{statement}
 use Rattle.recordings.proofs.line.put_left.Tie as tie
 

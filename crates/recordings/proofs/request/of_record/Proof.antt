@@ -2,7 +2,7 @@
 use mathlib.Core.Path.{sym, _∙_}
 use borrow.Author.Needs.{needs}
 use Rattle.recordings.specs.Asked.{asksBody, asks}
-use Rattle.recordings.proofs.Requests.{body-part, request-short, request-start, request-piece, request-other}
+use Rattle.nights.proofs.Requests.{body-part, request-short, request-start, request-piece, request-other}
 use Rattle.recordings.proofs.request.of_record.Statement.{statement}
 use Rattle.recordings.proofs.request.of_record.Tie as tie
 

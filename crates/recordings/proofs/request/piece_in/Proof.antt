@@ -3,7 +3,7 @@ use mathlib.Core.Path.{sym}
 use native.Mathlib.Omega.{arith}
 use borrow.Author.Needs.{needs}
 use Rattle.recordings.specs.Asked.{asksBody}
-use Rattle.recordings.proofs.Requests.{pieceIn-none, pieceIn-long, pieceIn-right}
+use Rattle.nights.proofs.Requests.{pieceIn-none, pieceIn-long, pieceIn-right}
 use Rattle.recordings.proofs.request.piece_in.Statement.{statement}
 use Rattle.recordings.proofs.request.piece_in.Tie as tie
 

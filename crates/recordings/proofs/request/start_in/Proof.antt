@@ -2,9 +2,9 @@
 use mathlib.Core.Path.{_≡_, sym, _∙_}
 use native.Mathlib.Omega.{arith}
 use borrow.Author.Needs.{needs}
-use Rattle.recordings.specs.Request.{fileLengthIn, pairsIn}
+use Rattle.nights.specs.Request.{fileLengthIn, pairsIn}
 use Rattle.recordings.specs.Asked.{asksBody}
-use Rattle.recordings.proofs.Requests.{fileLength-read, pairs-read, startIn-length, startIn-file, startIn-pairs, startIn-right}
+use Rattle.nights.proofs.Requests.{fileLength-read, pairs-read, startIn-length, startIn-file, startIn-pairs, startIn-right}
 use Rattle.recordings.proofs.request.start_in.Statement.{statement}
 use Rattle.recordings.proofs.request.start_in.Tie as tie
 

@@ -6,11 +6,11 @@ use native.Mathlib.Omega.{arith}
 use borrow.Author.Needs.{needs}
 use lib.ListN.{length, take, drop}
 use Rattle.recordings.specs.declared.turn.Turned.{Turned}
-use Rattle.recordings.specs.Request.{starts, piece, requestOf}
-use Rattle.recordings.specs.Reading.{stops}
+use Rattle.nights.specs.Request.{starts, piece, requestOf}
+use Rattle.nights.specs.Reading.{stops}
 use Rattle.recordings.specs.Kept.{Desk, desk, deskTurn}
 use Rattle.recordings.specs.Steps.{Leads}
-use Rattle.recordings.proofs.Requests.{starts-within}
+use Rattle.nights.proofs.Requests.{starts-within}
 use Rattle.recordings.proofs.Fronts.{rest-is}
 use Rattle.recordings.proofs.Turns.{asked-start, asked-piece, asked-malformed, turn-piece, turn-malformed, leads-as}
 use Rattle.recordings.proofs.turn.of_record.Statement.{statement}

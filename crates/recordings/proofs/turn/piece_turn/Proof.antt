@@ -12,7 +12,7 @@ use Rattle.transfer.specs.Receive.{receiveOf}
 use Rattle.transfer.specs.Fit.{fitsWithoutFile}
 use Rattle.receiver.specs.Answers.{toAnswer}
 use Rattle.screen.specs.Screen.{lineFor}
-use Rattle.recordings.specs.Lines.{leftLine, pieceText}
+use Rattle.nights.specs.Lines.{leftLine, pieceText}
 use Rattle.recordings.specs.Kept.{Desk, desk, worldOn}
 use Rattle.recordings.specs.Steps.{WritesText}
 use Rattle.recordings.proofs.Lines.{decimal-short}

@@ -4,7 +4,7 @@ use native.Mathlib.Omega.{arith}
 use borrow.Author.Needs.{needs}
 use lib.ListN.{length, length-append, length-take, length-drop}
 use Rattle.screen.specs.Screen.{lineFor}
-use Rattle.recordings.specs.Lines.{leftLine}
+use Rattle.nights.specs.Lines.{leftLine}
 use Rattle.recordings.proofs.Lines.{left-short}
 use Rattle.recordings.proofs.Fronts.{front-append}
 use Rattle.recordings.proofs.turn.put_taken.Statement.{statement}

@@ -9,7 +9,7 @@ use lib.Seq.{length-take-le}
 use Rattle.transfer.specs.Transfer.{World, world}
 use Rattle.transfer.specs.Fit.{fitsWithoutFile}
 use Rattle.screen.specs.Screen.{lineFor}
-use Rattle.recordings.specs.Night.{startedNight}
+use Rattle.nights.specs.Night.{startedNight}
 use Rattle.recordings.specs.Kept.{WritesFront, desk}
 use Rattle.recordings.proofs.Fronts.{fronts-back}
 use Rattle.recordings.proofs.Turns.{FitsWithoutFile, started-is, started-fits, desk-world, start-leads}

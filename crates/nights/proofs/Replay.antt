@@ -20,18 +20,18 @@ use Rattle.transfer.proofs.Start.{start}
 use Rattle.screen.specs.Screen.{lineFeed, lineOf, lineFor, screenRefusal}
 use Rattle.screen.proofs.Screen.{fit}
 use Rattle.screen.proofs.ScreenRows.{screen-rows}
-use Rattle.recordings.specs.Request.{fileLimit, pairLimit, pieceLimit, recordLimit, requestOf}
-use Rattle.recordings.specs.Lines.{recordLine, refusedWord, numberLine, pieceText}
-use Rattle.recordings.specs.Reading.{Reading, waits, stopsAt, printedBefore, read}
-use Rattle.recordings.specs.Night.{transferring, Night, startedNight, leads, answerPiece, turnOf, night, dusk, after, soFar, printed}
-use Rattle.recordings.specs.Replay.{startRecord, pieceRecord, runningAfter, numberAfter, Open, Prints, Malformed, IsCut, Replay}
-use Rattle.recordings.proofs.Reading.{read-none, read-cut, read-prints, read-append}
-use Rattle.recordings.proofs.Lines.{pieceText-whole, pieceText-left, pieceText-refused}
-use Rattle.recordings.proofs.RequestWritten.{first-startRecord, request-startRecord, first-pieceRecord, request-pieceRecord}
-use Rattle.recordings.proofs.Night.{Reached, running-reached, reached-fits, reached-refuses, reached-stays}
-use Rattle.recordings.proofs.ReadingEnd.{endLine, endLine-some, endText-line}
-use Rattle.recordings.proofs.ReplayMalformed.{first-is-cut, malformed-read}
-use Rattle.recordings.proofs.ReplayRecords.{all-records, all-bytes}
+use Rattle.nights.specs.Request.{fileLimit, pairLimit, pieceLimit, recordLimit, requestOf}
+use Rattle.nights.specs.Lines.{recordLine, refusedWord, numberLine, pieceText}
+use Rattle.nights.specs.Reading.{Reading, waits, stopsAt, printedBefore, read}
+use Rattle.nights.specs.Night.{transferring, Night, startedNight, leads, answerPiece, turnOf, night, dusk, after, soFar, printed}
+use Rattle.nights.specs.Replay.{startRecord, pieceRecord, runningAfter, numberAfter, Open, Prints, Malformed, IsCut, Replay}
+use Rattle.nights.proofs.Reading.{read-none, read-cut, read-prints, read-append}
+use Rattle.nights.proofs.Lines.{pieceText-whole, pieceText-left, pieceText-refused}
+use Rattle.nights.proofs.RequestWritten.{first-startRecord, request-startRecord, first-pieceRecord, request-pieceRecord}
+use Rattle.nights.proofs.Night.{Reached, running-reached, reached-fits, reached-refuses, reached-stays}
+use Rattle.nights.proofs.ReadingEnd.{endLine, endLine-some, endText-line}
+use Rattle.nights.proofs.ReplayMalformed.{first-is-cut, malformed-read}
+use Rattle.nights.proofs.ReplayRecords.{all-records, all-bytes}
 
 -- ---- by what the bytes lead to
 

@@ -9,9 +9,9 @@ use Rattle.frames.specs.Frame.{framed}
 use Rattle.transfer.specs.Calls.{Call, receive}
 use Rattle.transfer.specs.Example.{plai, firstCall, secondCall, thirdCall}
 use Rattle.screen.specs.ScreenCases.{firstLine, secondLine, thirdLine, suspectLine}
-use Rattle.recordings.specs.Night.{soFar, printed}
-use Rattle.recordings.specs.Replay.{startRecord, pieceRecord}
-use Rattle.recordings.specs.Chunks.{joined}
+use Rattle.nights.specs.Reading.{joined}
+use Rattle.nights.specs.Night.{soFar, printed}
+use Rattle.nights.specs.Replay.{startRecord, pieceRecord}
 
 pub data Case : Type 0 where
   -- a recording of these records prints these lines

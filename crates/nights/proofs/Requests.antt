@@ -11,7 +11,7 @@ use lib.ListN.{length, getD, take, drop, length-drop}
 use lib.Seq.{take-all, take-take, drop-drop}
 use Rattle.octets.specs.Digits.{fromLittleEndian}
 use Rattle.frames.specs.Frame.{frameLength, kindOf, bodyOf}
-use Rattle.recordings.specs.Request.{Request, starts, piece, malformed, fileLimit, pairLimit, pieceLimit, startLength, fileLengthIn, pairsIn, startIn, pieceIn, requestOf}
+use Rattle.nights.specs.Request.{Request, starts, piece, malformed, fileLimit, pairLimit, pieceLimit, startLength, fileLengthIn, pairsIn, startIn, pieceIn, requestOf}
 
 -- ---- a start
 

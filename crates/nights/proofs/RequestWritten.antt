@@ -11,9 +11,9 @@ use Rattle.frames.specs.Frame.{frameLength, kindOf, framed, firstRecord}
 use Rattle.frames.specs.declared.frame.First.the-variants.{Whole}
 use Rattle.frames.proofs.Framed.{length-framed, kind-framed, body-framed}
 use Rattle.frames.proofs.FirstRecord.{first-framed}
-use Rattle.recordings.specs.Request.{fileLimit, pairLimit, pieceLimit, recordLimit, startLength, starts, piece, fileLengthIn, pairsIn, startIn, pieceIn, requestOf}
-use Rattle.recordings.specs.Replay.{startRecord, pieceRecord}
-use Rattle.recordings.proofs.Requests.{startIn-right, pieceIn-right, request-start, request-piece}
+use Rattle.nights.specs.Request.{fileLimit, pairLimit, pieceLimit, recordLimit, startLength, starts, piece, fileLengthIn, pairsIn, startIn, pieceIn, requestOf}
+use Rattle.nights.specs.Replay.{startRecord, pieceRecord}
+use Rattle.nights.proofs.Requests.{startIn-right, pieceIn-right, request-start, request-piece}
 
 module _ (kind : ℕ) (body : List ℕ) where
   framed-long : frameLength ≤ length (framed kind body)

@@ -12,12 +12,12 @@ use lib.Seq.{take-append-seam}
 use Rattle.frames.specs.Frame.{lengthField, bodyOf, firstRecord}
 use Rattle.frames.specs.declared.frame.First.the-variants.{Cut, Whole}
 use Rattle.frames.proofs.FirstRecord.{recordLength-short, recordLength-field, firstRecord-long, firstRecord-cut, firstRecord-whole, first-prefix-whole, first-prefix-long}
-use Rattle.recordings.specs.Request.{pieceLimit, recordLimit, piece, malformed, pieceIn, requestOf}
-use Rattle.recordings.specs.Reading.{stops, stopsAt, read}
-use Rattle.recordings.specs.Night.{Running, none, Night, turnOf, night}
-use Rattle.recordings.specs.Replay.{IsWhole, Malformed, no-kind, other-kind, start-length, no-channel, long-file, many-pairs, long-piece, too-long, before-start, IsCut, cut-field, cut-record}
-use Rattle.recordings.proofs.Reading.{read-long, read-stops}
-use Rattle.recordings.proofs.Requests.{request-short, request-start, request-piece, request-other, startIn-length, startIn-file, startIn-pairs, pieceIn-none}
+use Rattle.nights.specs.Request.{pieceLimit, recordLimit, piece, malformed, pieceIn, requestOf}
+use Rattle.nights.specs.Reading.{stops, stopsAt, read}
+use Rattle.nights.specs.Night.{Running, none, Night, turnOf, night}
+use Rattle.nights.specs.Replay.{IsWhole, Malformed, no-kind, other-kind, start-length, no-channel, long-file, many-pairs, long-piece, too-long, before-start, IsCut, cut-field, cut-record}
+use Rattle.nights.proofs.Reading.{read-long, read-stops}
+use Rattle.nights.proofs.Requests.{request-short, request-start, request-piece, request-other, startIn-length, startIn-file, startIn-pairs, pieceIn-none}
 
 -- ---- the record that bytes begin with
 

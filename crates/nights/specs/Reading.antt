@@ -5,8 +5,13 @@ use mathlib.Core.List.{List, [], _∷_, _++_}
 use lib.ListN.{length, take, drop}
 use Rattle.frames.specs.Frame.{firstRecord}
 use Rattle.frames.specs.declared.frame.First.the-variants.{Nothing, Cut, TooLong, Whole}
-use Rattle.recordings.specs.Request.{recordLimit}
-use Rattle.recordings.specs.Lines.{recordLine}
+use Rattle.nights.specs.Request.{recordLimit}
+use Rattle.nights.specs.Lines.{recordLine}
+
+-- parts of a recording in their order
+unfoldable pub joined : List (List ℕ) → List ℕ
+joined [] = []
+joined (part ∷ parts) = part ++ joined parts
 
 -- what a whole record leads to: a text, after which the reading goes on; or it is malformed, and nothing of it is carried out
 pub data Turn {ℓ} (W : Type ℓ) : Type ℓ where

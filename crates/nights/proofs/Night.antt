@@ -19,11 +19,11 @@ use Rattle.transfer.proofs.TallyFromStart.{world-along}
 use Rattle.transfer.proofs.AfterList.{every-list}
 use Rattle.transfer.proofs.EachCall.{each-call}
 use Rattle.transfer.proofs.Fitting.{fitting}
-use Rattle.recordings.specs.Request.{fileLimit, pairLimit, Request, starts, piece, malformed, requestOf}
-use Rattle.recordings.specs.Reading.{Turn, prints, stops, Reading}
-use Rattle.recordings.specs.Night.{Running, none, transferring, Night, startedNight, leads, answerPiece, turnOf, night, dusk, after}
-use Rattle.recordings.proofs.Reading.{Reads, reads-nothing, reads-cut, reads-long, reads-malformed, reads-on, read-reads}
-use Rattle.recordings.proofs.Requests.{Within, request-within}
+use Rattle.nights.specs.Request.{fileLimit, pairLimit, Request, starts, piece, malformed, requestOf}
+use Rattle.nights.specs.Reading.{Turn, prints, stops, Reading}
+use Rattle.nights.specs.Night.{Running, none, transferring, Night, startedNight, leads, answerPiece, turnOf, night, dusk, after}
+use Rattle.nights.proofs.Reading.{Reads, reads-nothing, reads-cut, reads-long, reads-malformed, reads-on, read-reads}
+use Rattle.nights.proofs.Requests.{Within, request-within}
 
 -- no start has come; or a start within the limits, and these calls after it
 pub data Reached : Running → Type 0 where

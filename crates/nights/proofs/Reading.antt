@@ -1,4 +1,4 @@
--- A recording read record by record: the cases as equations, a reading of more bytes, and what is left of the bytes.
+-- A recording read record by record: the cases as equations, and a reading of more bytes.
 use Prim.Native.Nat.{ℕ, zero, suc, _+_, _≤_, _<_}
 use mathlib.Core.Path.{_≡_, refl, ap, _∙_}
 use mathlib.Core.Bool.{Bool, true, false, cond}
@@ -9,10 +9,9 @@ use lib.Seq.{take-append-le, drop-append-le}
 use Rattle.frames.specs.Frame.{firstRecord}
 use Rattle.frames.specs.declared.frame.First.{First}
 use Rattle.frames.specs.declared.frame.First.the-variants.{Nothing, Cut, TooLong, Whole}
-use Rattle.recordings.specs.Request.{recordLimit}
-use Rattle.recordings.specs.Reading.{Turn, prints, stops, Reading, Reader, waits, stopsAt, printedBefore, readBy, read}
-use Rattle.recordings.specs.Kept.{heldLimit, isUnfinished}
-use Rattle.frames.proofs.FirstRecord.{first-prefix-whole, first-prefix-long, first-nothing, first-of-none, first-cut}
+use Rattle.nights.specs.Request.{recordLimit}
+use Rattle.nights.specs.Reading.{Turn, prints, stops, Reading, Reader, waits, stopsAt, printedBefore, readBy, read}
+use Rattle.frames.proofs.FirstRecord.{first-prefix-whole, first-prefix-long, first-nothing, first-of-none}
 
 -- ---- one record, at any depth
 
@@ -157,27 +156,3 @@ module _ {W : Type 0} (f : Reader W) (b : List ℕ) where
 pub read-append : {W : Type 0} (f : Reader W) (w : W) (a b : List ℕ)
     → read f w (a ++ b) ≡ cond (read f w a .stopped) (read f w a) (printedBefore (read f w a .text) (read f (read f w a .left) (read f w a .rest ++ b)))
 read-append f w a b = reads-append f b (read-reads f w a)
-
--- ---- what is left
-
-abbrev pub RestOf : {W : Type 0} → Reading W → Type 0
-RestOf r = (isUnfinished (r .rest) ≡ true) × (length (r .rest) < heldLimit) × (r .stopped ≡ true → r .rest ≡ [])
-
-pub unfinished-none : isUnfinished [] ≡ true
-unfolding isUnfinished
-unfinished-none = rw (first-of-none recordLimit, isUnfinished)
-
-pub unfinished-cut : (bytes : List ℕ) → firstRecord recordLimit bytes ≡ Cut → isUnfinished bytes ≡ true
-unfolding isUnfinished
-unfinished-cut bytes e = rw (e, isUnfinished)
-
-reads-rest : {W : Type 0} {f : Reader W} {w : W} {bytes : List ℕ} {r : Reading W} → Reads f w bytes r → RestOf r
-reads-rest (reads-nothing w bytes q) = (unfinished-none, omega arith, λ e. refl)
-reads-rest (reads-cut w bytes q) = (unfinished-cut bytes q, omega (arith, first-cut recordLimit bytes q), λ e. cc)
-reads-rest (reads-long w bytes q) = (unfinished-none, omega arith, λ e. refl)
-reads-rest (reads-malformed w bytes n q e) = (unfinished-none, omega arith, λ e. refl)
-reads-rest (reads-on w v bytes text n r q e t) = reads-rest t
-
--- not one whole record, fewer bytes than the longest has, and none where the reading has stopped
-pub read-rest : {W : Type 0} (f : Reader W) (w : W) (bytes : List ℕ) → RestOf (read f w bytes)
-read-rest f w bytes = reads-rest (read-reads f w bytes)

@@ -4,8 +4,8 @@ use mathlib.Core.Path.{_≡_, refl}
 use mathlib.Core.List.{List, [], _∷_}
 use native.Mathlib.Omega.{arith}
 use lib.ListN.{length}
-use Rattle.recordings.specs.Lines.{recordLine}
-use Rattle.recordings.specs.Reading.{Reading, Reader, endText}
+use Rattle.nights.specs.Lines.{recordLine}
+use Rattle.nights.specs.Reading.{Reading, Reader, endText}
 
 abbrev pub endLine : List ℕ → ℕ → List ℕ
 endLine [] n = []

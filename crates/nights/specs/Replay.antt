@@ -11,9 +11,9 @@ use Rattle.frames.specs.Frame.{lengthField, kindOf, framed}
 use Rattle.transfer.specs.Transfer.{World, fresh, startRefusal}
 use Rattle.transfer.specs.Receive.{refused, took, receiveOf}
 use Rattle.screen.specs.Screen.{lineOf, screenRefusal}
-use Rattle.recordings.specs.Request.{fileLengthIn, pairsIn}
-use Rattle.recordings.specs.Lines.{recordLine, leftWord, refusedWord, numberLine}
-use Rattle.recordings.specs.Night.{Running, none, transferring, startedNight, after, soFar, printed}
+use Rattle.nights.specs.Request.{fileLengthIn, pairsIn}
+use Rattle.nights.specs.Lines.{recordLine, leftWord, refusedWord, numberLine}
+use Rattle.nights.specs.Night.{Running, none, transferring, startedNight, after, soFar, printed}
 
 -- ---- the two kinds of record, written
 

@@ -6,9 +6,9 @@ use Rattle.transfer.specs.Transfer.{World}
 use Rattle.transfer.specs.Receive.{Answer, receiveOf}
 use Rattle.transfer.specs.Calls.{startedWorld}
 use Rattle.screen.specs.Screen.{lineOf}
-use Rattle.recordings.specs.Request.{Request, starts, piece, malformed, requestOf}
-use Rattle.recordings.specs.Lines.{pieceText}
-use Rattle.recordings.specs.Reading.{Turn, prints, stops, Reading, Reader, read, endText}
+use Rattle.nights.specs.Request.{Request, starts, piece, malformed, requestOf}
+use Rattle.nights.specs.Lines.{pieceText}
+use Rattle.nights.specs.Reading.{Turn, prints, stops, Reading, Reader, read, endText}
 
 -- no start has come, or the transfer of the last one, with its file and ledgers
 pub data Running : Type 0 where

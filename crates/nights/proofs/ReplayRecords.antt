@@ -11,9 +11,9 @@ use Rattle.octets.specs.Digits.{AllBelow, fromLittleEndian, toLittleEndian}
 use Rattle.octets.proofs.Digits.{below-take, below-drop, little-writes-back}
 use Rattle.frames.specs.Frame.{lengthField, kindOf, bodyOf, framed}
 use Rattle.frames.proofs.Framed.{framed-same}
-use Rattle.recordings.specs.Request.{fileLengthIn, pairsIn}
-use Rattle.recordings.specs.Night.{Running, none, transferring}
-use Rattle.recordings.specs.Replay.{IsWhole, IsKind, Malformed, no-kind, other-kind, start-length, no-channel, long-file, many-pairs, long-piece, before-start, IsCut, cut-field, cut-record, WellFormed, is-start, is-piece}
+use Rattle.nights.specs.Request.{fileLengthIn, pairsIn}
+use Rattle.nights.specs.Night.{Running, none, transferring}
+use Rattle.nights.specs.Replay.{IsWhole, IsKind, Malformed, no-kind, other-kind, start-length, no-channel, long-file, many-pairs, long-piece, before-start, IsCut, cut-field, cut-record, WellFormed, is-start, is-piece}
 
 -- ---- the bytes of a record whose kind and body are read
 

@@ -1,0 +1,10 @@
+pub mod Lines
+pub mod Requests
+pub mod RequestWritten
+pub mod Reading
+pub mod ReadingEnd
+pub mod Night
+pub mod ReplayMalformed
+pub mod ReplayRecords
+pub mod Replay
+pub mod ReplayCases
