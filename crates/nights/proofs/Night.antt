@@ -1,11 +1,13 @@
--- The running transfer is what a start and a list of calls leave: so it fits, and a piece is refused by 2, 3 or 4 only.
-use Prim.Native.Nat.{ℕ, _*_, _/_, _≤_}
+-- The next record's number; and that the running transfer is what a start and a list of calls leave, so that it fits, and a piece is refused by 2, 3
+-- or 4 only.
+use Prim.Native.Nat.{ℕ, suc, _+_, _*_, _/_, _≤_}
 use mathlib.Core.Path.{_≡_, refl, sym, ap, _∙_}
 use mathlib.Core.Logic.{_⊎_}
 use mathlib.Core.Bool.{true}
 use mathlib.Core.List.{List, [], _∷_, _++_}
 use native.Mathlib.Omega.{arith}
-use lib.ListN.{length, take, replicate, length-replicate}
+use native.Mathlib.Decide.{decLe}
+use lib.ListN.{length, take, replicate, length-take, length-drop, length-replicate}
 use Rattle.ledger.specs.Pairs.{none as noPairs}
 use Rattle.transfer.specs.Transfer.{World}
 use Rattle.transfer.specs.Receive.{refused, receiveOf}
@@ -23,7 +25,63 @@ use Rattle.nights.specs.Request.{fileLimit, pairLimit, Request, starts, 
 use Rattle.nights.specs.Reading.{Turn, prints, stops, Reading}
 use Rattle.nights.specs.Night.{Running, none, transferring, Night, startedNight, leads, answerPiece, turnOf, night, dusk, after}
 use Rattle.nights.proofs.Reading.{Reads, reads-nothing, reads-cut, reads-long, reads-malformed, reads-on, read-reads}
-use Rattle.nights.proofs.Requests.{Within, request-within}
+use Rattle.nights.proofs.Requests.{request-short, Within, request-within}
+
+-- ---- the number of the next record
+
+-- the number after a record is one more
+abbrev pub Next : ℕ → Turn Night → Type 0
+Next k (prints text s) = s .number ≡ suc k
+Next k stops = Unit
+
+pub turnOf-next : (k : ℕ) (s : Running) (q : Request) → Next k (turnOf k s q)
+unfolding turnOf leads answerPiece
+turnOf-next k s (starts F R) = refl
+turnOf-next k (transferring w) (piece c bytes) = refl
+turnOf-next k none (piece c bytes) = tt
+turnOf-next k none malformed = tt
+turnOf-next k (transferring w) malformed = tt
+
+turnOf-short : (k : ℕ) (s : Running) (bytes : List ℕ) → requestOf bytes ≡ malformed → turnOf k s (requestOf bytes) ≡ stops
+unfolding turnOf
+turnOf-short k none bytes e = rw e
+turnOf-short k (transferring w) bytes e = rw e
+
+-- one that is not malformed has six bytes or more
+turnOf-six : (k : ℕ) (s : Running) (bytes text : List ℕ) (v : Night) → turnOf k s (requestOf bytes) ≡ prints text v → 6 ≤ length bytes
+turnOf-six k s bytes text v e = go (decLe 6 (length bytes))
+  where
+    go : Dec (6 ≤ length bytes) → 6 ≤ length bytes
+    go (yes h) = h
+    go (no h) =
+        let z : _≡_ {A = ℕ} 0 1 = cc (e, turnOf-short k s bytes (request-short bytes (omega arith))) in
+        absurd (omega (arith, z))
+
+-- numbers only grow
+pub reads-number : {s : Night} {bytes : List ℕ} {r : Reading Night} → Reads night s bytes r → s .number ≤ r .left .number
+reads-number (reads-nothing s bytes q) = omega arith
+reads-number (reads-cut s bytes q) = omega arith
+reads-number (reads-long s bytes q) = omega arith
+reads-number (reads-malformed s bytes n q e) = omega arith
+reads-number (reads-on s v bytes text n r q e t) =
+    let m : v .number ≡ suc (s .number) = rw e at (turnOf-next (s .number) (s .running) (requestOf (take n bytes))) in
+    omega (arith, m, reads-number t)
+
+-- each takes six bytes
+reads-few : {s : Night} {bytes : List ℕ} {r : Reading Night} → Reads night s bytes r → 6 * r .left .number ≤ 6 * s .number + length bytes
+reads-few (reads-nothing s bytes q) = omega arith
+reads-few (reads-cut s bytes q) = omega arith
+reads-few (reads-long s bytes q) = omega arith
+reads-few (reads-malformed s bytes n q e) = omega arith
+reads-few (reads-on s v bytes text n r q e t) =
+    let one = take n bytes in
+    let m : v .number ≡ suc (s .number) = rw e at (turnOf-next (s .number) (s .running) (requestOf one)) in
+    omega (arith, m, reads-few t, turnOf-six (s .number) (s .running) one text v e, length-take n bytes, length-drop n bytes)
+
+pub numbers-few : (bytes : List ℕ) → 6 * after bytes .left .number ≤ length bytes
+numbers-few bytes = omega (arith, reads-few (read-reads night dusk bytes))
+
+-- ---- the transfer that is running
 
 -- no start has come; or a start within the limits, and these calls after it
 pub data Reached : Running → Type 0 where

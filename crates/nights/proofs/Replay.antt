@@ -24,11 +24,11 @@ use Rattle.nights.specs.Request.{fileLimit, pairLimit, pieceLimit, recor
 use Rattle.nights.specs.Lines.{recordLine, refusedWord, numberLine, pieceText}
 use Rattle.nights.specs.Reading.{Reading, waits, stopsAt, printedBefore, read}
 use Rattle.nights.specs.Night.{transferring, Night, startedNight, leads, answerPiece, turnOf, night, dusk, after, soFar, printed}
-use Rattle.nights.specs.Replay.{startRecord, pieceRecord, runningAfter, numberAfter, Open, Prints, Malformed, IsCut, Replay}
+use Rattle.nights.specs.Replay.{startRecord, pieceRecord, runningAfter, numberAfter, Open, Prints, Malformed, IsCut, Replay, StartWithin}
 use Rattle.nights.proofs.Reading.{read-none, read-cut, read-prints, read-append}
 use Rattle.nights.proofs.Lines.{pieceText-whole, pieceText-left, pieceText-refused}
 use Rattle.nights.proofs.RequestWritten.{first-startRecord, request-startRecord, first-pieceRecord, request-pieceRecord}
-use Rattle.nights.proofs.Night.{Reached, running-reached, reached-fits, reached-refuses, reached-stays}
+use Rattle.nights.proofs.Night.{numbers-few, Reached, running-reached, reached-fits, reached-refuses, reached-stays}
 use Rattle.nights.proofs.ReadingEnd.{endLine, endLine-some, endText-line}
 use Rattle.nights.proofs.ReplayMalformed.{first-is-cut, malformed-read}
 use Rattle.nights.proofs.ReplayRecords.{all-records, all-bytes}
@@ -90,8 +90,8 @@ module _ (bytes : List ℕ) (opened : Open bytes) where
 
 -- ---- a start, and a piece
 
-start-prints : (bytes : List ℕ) (F R : ℕ) → Open bytes → F ≤ fileLimit → R ≤ pairLimit → Prints bytes (startRecord F R) (lineOf (startedNight F R)) (startedNight F R)
-start-prints bytes F R o f p = prints-record bytes o (startRecord F R) _ (startedNight F R) (first-startRecord F R) (unfold turnOf in rw (request-startRecord F R f p))
+start-prints : (bytes : List ℕ) (F R : ℕ) → Open bytes → StartWithin F R → Prints bytes (startRecord F R) (lineOf (startedNight F R)) (startedNight F R)
+start-prints bytes F R o h = prints-record bytes o (startRecord F R) _ (startedNight F R) (first-startRecord F R) (unfold turnOf in rw (request-startRecord F R (h .0) (h .1)))
 
 -- what the call answers, the text by it, and the world after it
 piece-prints : (bytes piece text : List ℕ) (w v : World) (c : ℕ) (a : Answer) → Open bytes → runningAfter bytes ≡ transferring w → length piece ≤ pieceLimit
@@ -126,11 +126,11 @@ start-leaves F R h =
     let half : 2 * R / 2 ≡ R = omega arith in
     rw (n, half) at (start .accepted F ledger ledger (omega arith) (omega arith) refl)
 
-start-zeroes : (F R : ℕ) → R ≤ pairLimit
+start-zeroes : (F R : ℕ) → StartWithin F R
     → (startedNight F R .t ≡ fresh F R) × (startedNight F R .lent .file ≡ replicate F 0)
     × (startedNight F R .lent .claimed ≡ replicate (2 * R) 0) × (startedNight F R .lent .doubtful ≡ replicate (2 * R) 0)
 unfolding startedNight startedWorld
-start-zeroes F R h = let s = start-leaves F R h in (rw (length-replicate {A = ℕ} F 0) (s .1), refl, s .2, s .3)
+start-zeroes F R h = let s = start-leaves F R (h .1) in (rw (length-replicate {A = ℕ} F 0) (s .1), refl, s .2, s .3)
 
 pub replay : Replay
 unfolding numberLine lineFeed
@@ -140,21 +140,22 @@ replay =
           let e = read-none night dusk in
           (ap (λ x. x .left .number) e, ap (λ x. x .left .running) e, (ap (λ x. x .stopped) e, ap (λ x. x .rest) e), printed-by [] _ e [] refl);
       start-prints = start-prints;
-      piece-prints = λ bytes piece w v c o running b few e. piece-prints bytes piece _ w v c _ o running few e (pieceText-whole v (length piece));
-      refused-prints = λ bytes piece w v c k o running b few e.
+      piece-prints = λ bytes piece w v c o running h e. piece-prints bytes piece _ w v c _ o running (h .1) e (pieceText-whole v (length piece));
+      refused-prints = λ bytes piece w v c k o running h e.
           subst (Prints bytes (pieceRecord c piece) (numberLine refusedWord k)) (refused-stays bytes piece w v c k running e)
-          (piece-prints bytes piece _ w v c _ o running few e (pieceText-refused v (length piece) k));
-      left-prints = λ bytes piece w v c n o running b few e h. piece-prints bytes piece _ w v c _ o running few e (pieceText-left v (length piece) n h);
+          (piece-prints bytes piece _ w v c _ o running (h .1) e (pieceText-refused v (length piece) k));
+      left-prints = λ bytes piece w v c n o running h e l. piece-prints bytes piece _ w v c _ o running (h .1) e (pieceText-left v (length piece) n l);
       malformed-stops = λ bytes r more o m. printed-malformed bytes o r more m;
       cut-stops = λ bytes r o c. printed-cut bytes o r c;
       ends = printed-whole;
       all-records = all-records;
       all-bytes = all-bytes;
+      numbers-few = numbers-few;
       start-zeroes = start-zeroes;
       record-line = λ k. refl;
       refused-line = λ k. refl;
       left-line = λ k. refl;
-      start-accepted = λ R h. start-leaves 0 R h .0;
+      start-accepted = λ F R h. start-leaves F R (h .1) .0;
       refused-by = λ bytes piece w v c k running e. reached-refuses w c piece k (reached bytes w running) (ap (λ a. a .0) e);
       line-written = line-written;
     }

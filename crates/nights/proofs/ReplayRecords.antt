@@ -46,7 +46,7 @@ module _ (s : Running) (r : List ℕ) (bytes : AllBelow 256 r) where
       go (yes e) (no f) d = inl (long-file s r is e (omega arith))
       go (yes e) (yes f) (no p) = inl (many-pairs s r is e (omega arith))
       go (yes e) (yes f) (yes p) =
-          inr (subst (WellFormed s) (ap (framed 16) (numbers-same (drop 6 r) (body-below r bytes) e) ∙ framed-bodyOf r bytes 16 is) (is-start s (fileLengthIn (drop 6 r)) (pairsIn (drop 6 r)) f p))
+          inr (subst (WellFormed s) (ap (framed 16) (numbers-same (drop 6 r) (body-below r bytes) e) ∙ framed-bodyOf r bytes 16 is) (is-start s (fileLengthIn (drop 6 r)) (pairsIn (drop 6 r)) (f, p)))
 
   all-pieces : IsKind 17 r → Malformed s r ⊎ WellFormed s r
   all-pieces is = go (drop 6 r) refl
@@ -55,7 +55,7 @@ module _ (s : Running) (r : List ℕ) (bytes : AllBelow 256 r) where
       running c piece none e h = inl (before-start r is)
       running c piece (transferring w) e h =
           let below : AllBelow 256 (c ∷ piece) = rw e at (body-below r bytes) in
-          inr (subst (WellFormed (transferring w)) (ap (framed 17) (sym e) ∙ framed-bodyOf r bytes 17 is) (is-piece w c piece (below .0) h))
+          inr (subst (WellFormed (transferring w)) (ap (framed 17) (sym e) ∙ framed-bodyOf r bytes 17 is) (is-piece w c piece (below .0, h)))
 
       go : (body : List ℕ) → drop 6 r ≡ body → Malformed s r ⊎ WellFormed s r
       go [] e = inl (no-channel s r is (ap length e))

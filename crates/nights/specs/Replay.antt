@@ -74,24 +74,31 @@ pub data IsCut : List ℕ → Type 0 where
   cut-field : (r : List ℕ) → 0 < length r → length r < 4 → IsCut r
   cut-record : (r : List ℕ) → 4 ≤ length r → lengthField r ≤ 16387 → length r < 4 + lengthField r → IsCut r
 
+-- a start's file bytes and pairs, and a piece on a channel, that are not too many
+abbrev pub StartWithin : ℕ → ℕ → Type 0
+StartWithin F R = (F ≤ 32768) × (R ≤ 256)
+
+abbrev pub PieceWithin : ℕ → List ℕ → Type 0
+PieceWithin c piece = (c < 256) × (length piece ≤ 16384)
+
 -- a record that is not malformed: a start, or a piece after a start
 pub data WellFormed : Running → List ℕ → Type 0 where
-  is-start : (s : Running) (F R : ℕ) → F ≤ 32768 → R ≤ 256 → WellFormed s (startRecord F R)
-  is-piece : (w : World) (c : ℕ) (piece : List ℕ) → c < 256 → length piece ≤ 16384 → WellFormed (transferring w) (pieceRecord c piece)
+  is-start : (s : Running) (F R : ℕ) → StartWithin F R → WellFormed s (startRecord F R)
+  is-piece : (w : World) (c : ℕ) (piece : List ℕ) → PieceWithin c piece → WellFormed (transferring w) (pieceRecord c piece)
 
 pub record Replay : Type 0 where
   -- the first record's number is 0, and an empty recording prints nothing
   pub first : (numberAfter [] ≡ 0) × (runningAfter [] ≡ none) × Open [] × (printed [] ≡ [])
   -- "prints the screen line after every record": a start, and a piece that is wholly taken
-  pub start-prints : (bytes : List ℕ) (F R : ℕ) → Open bytes → F ≤ 32768 → R ≤ 256
+  pub start-prints : (bytes : List ℕ) (F R : ℕ) → Open bytes → StartWithin F R
       → Prints bytes (startRecord F R) (lineOf (startedNight F R)) (startedNight F R)
-  pub piece-prints : (bytes piece : List ℕ) (w v : World) (c : ℕ) → Open bytes → runningAfter bytes ≡ transferring w → c < 256 → length piece ≤ 16384
+  pub piece-prints : (bytes piece : List ℕ) (w v : World) (c : ℕ) → Open bytes → runningAfter bytes ≡ transferring w → PieceWithin c piece
       → receiveOf w c piece ≡ (took (length piece), v) → Prints bytes (pieceRecord c piece) (lineOf v) v
   -- "or instead `REFUSED` and the number"
-  pub refused-prints : (bytes piece : List ℕ) (w v : World) (c k : ℕ) → Open bytes → runningAfter bytes ≡ transferring w → c < 256 → length piece ≤ 16384
+  pub refused-prints : (bytes piece : List ℕ) (w v : World) (c k : ℕ) → Open bytes → runningAfter bytes ≡ transferring w → PieceWithin c piece
       → receiveOf w c piece ≡ (refused k, v) → Prints bytes (pieceRecord c piece) (numberLine refusedWord k) w
   -- "first prints `LEFT` and the count of remaining bytes on a line of its own"
-  pub left-prints : (bytes piece : List ℕ) (w v : World) (c n : ℕ) → Open bytes → runningAfter bytes ≡ transferring w → c < 256 → length piece ≤ 16384
+  pub left-prints : (bytes piece : List ℕ) (w v : World) (c n : ℕ) → Open bytes → runningAfter bytes ≡ transferring w → PieceWithin c piece
       → receiveOf w c piece ≡ (took n, v) → n < length piece → Prints bytes (pieceRecord c piece) (numberLine leftWord (length piece - n) ++ lineOf v) v
   -- "or `RECORD` and the record's number .. after which it stops"
   pub malformed-stops : (bytes r more : List ℕ) → Open bytes → Malformed (runningAfter bytes) r
@@ -103,8 +110,10 @@ pub record Replay : Type 0 where
   -- every other record is a start or a piece, and so is each of the recording's bytes accounted for
   pub all-records : (s : Running) (r : List ℕ) → AllBelow 256 r → IsWhole r → Malformed s r ⊎ WellFormed s r
   pub all-bytes : (r : List ℕ) → (length r ≡ 0) ⊎ IsCut r ⊎ ((4 ≤ length r) × (16387 < lengthField r)) ⊎ ((4 ≤ length r) × (4 + lengthField r ≤ length r) × (lengthField r ≤ 16387))
+  -- one that is not malformed has six bytes or more
+  pub numbers-few : (bytes : List ℕ) → 6 * numberAfter bytes ≤ length bytes
   -- "Each start zeroes the file", and gives ledgers of the pair count
-  pub start-zeroes : (F R : ℕ) → R ≤ 256
+  pub start-zeroes : (F R : ℕ) → StartWithin F R
       → (startedNight F R .t ≡ fresh F R) × (startedNight F R .lent .file ≡ replicate F 0)
       × (startedNight F R .lent .claimed ≡ replicate (2 * R) 0) × (startedNight F R .lent .doubtful ≡ replicate (2 * R) 0)
   -- "One space stands before each number": `RECORD 0`, `REFUSED 4`, `LEFT 9`
@@ -112,7 +121,7 @@ pub record Replay : Type 0 where
   pub refused-line : (k : ℕ) → numberLine refusedWord k ≡ 82 ∷ 69 ∷ 70 ∷ 85 ∷ 83 ∷ 69 ∷ 68 ∷ 32 ∷ (decimal k ++ (10 ∷ []))
   pub left-line : (k : ℕ) → numberLine leftWord k ≡ 76 ∷ 69 ∷ 70 ∷ 84 ∷ 32 ∷ (decimal k ++ (10 ∷ []))
   -- no start is refused, a piece only by 2, 3 or 4, and the screen line never
-  pub start-accepted : (R : ℕ) → R ≤ 256 → startRefusal (replicate (2 * R) 0) (replicate (2 * R) 0) ≡ 0
+  pub start-accepted : (F R : ℕ) → StartWithin F R → startRefusal (replicate (2 * R) 0) (replicate (2 * R) 0) ≡ 0
   pub refused-by : (bytes piece : List ℕ) (w v : World) (c k : ℕ) → runningAfter bytes ≡ transferring w → receiveOf w c piece ≡ (refused k, v) → (k ≡ 2) ⊎ (k ≡ 3) ⊎ (k ≡ 4)
   pub line-written : (bytes out : List ℕ) (w : World) → runningAfter bytes ≡ transferring w → 80 ≤ length out
       → screenRefusal (w .t) (w .lent .claimed) (w .lent .doubtful) out ≡ 0

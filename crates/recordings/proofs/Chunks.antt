@@ -1,7 +1,8 @@
 -- `Chunks` holds: whatever way a recording is cut, what is handed back is the printed text.
 use Prim.Native.Nat.{ℕ, _+_, _*_}
-use mathlib.Core.Path.{_≡_, ap, _∙_}
+use mathlib.Core.Path.{_≡_, refl, ap, _∙_}
 use mathlib.Core.List.{List, _++_}
+use native.Mathlib.Omega.{arith}
 use lib.ListN.{length}
 use Rattle.answers.specs.Written.{roomRefusal}
 use Rattle.transfer.specs.Transfer.{World}
@@ -11,6 +12,7 @@ use Rattle.recordings.specs.Kept.{worldOn, library, Kept, deskOf, feedRe
 use Rattle.recordings.specs.Chunks.{feeds, Begun, Counted, Chunks}
 use Rattle.recordings.proofs.Unfinished.{read-rest}
 use Rattle.recordings.proofs.Desk.{AgreeReading, agree-read}
+use Rattle.nights.proofs.Night.{numbers-few}
 use Rattle.nights.proofs.ReadingEnd.{endText-line}
 use Rattle.recordings.proofs.Feeding.{feeds-read, finish-holds}
 
@@ -40,8 +42,11 @@ module _ (k : Kept) (cs : List (List ℕ)) (b : Begun k) where
 pub chunks : Chunks
 chunks =
     record {
+      begins = λ held file claimed doubtful. record { first = refl; no-start = refl; none-held = refl; reads-on = refl };
+      counted = λ bytes h. omega (arith, numbers-few bytes, h);
       after-chunk = after-chunk;
       at-end = at-end;
       kept-is = λ k cs w b n e. kept-is k cs b n w e;
+      held-few = λ k cs b. omega (arith, feeds-read k cs b .1 .held-is, read-rest library (deskOf k) (joined cs) .1);
       refused-by = λ k cs chunk out b. refused-by k cs b chunk out;
     }

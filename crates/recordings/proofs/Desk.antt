@@ -21,6 +21,7 @@ use Rattle.nights.specs.Reading.{Turn, prints, stops, Reading, waits, stopsAt, 
 use Rattle.nights.specs.Night.{Running, none, transferring, Night, startedNight, leads, answerPiece, turnOf, night}
 use Rattle.recordings.specs.Kept.{Desk, worldOn, nextNumber, putWorld, deskAnswer, deskTurn, library}
 use Rattle.nights.proofs.Requests.{Within, request-within}
+use Rattle.nights.proofs.Night.{turnOf-next, reads-number}
 use Rattle.nights.proofs.Reading.{Reads, reads-nothing, reads-cut, reads-long, reads-malformed, reads-on, read-reads, read-nothing, read-cut, read-long, read-prints, read-stops}
 
 -- ---- a world that fits is read back
@@ -56,23 +57,10 @@ abbrev AgreeTurn : Turn Desk → Turn Night → Type 0
 AgreeTurn t (prints text s) = (d : Desk) × (t ≡ prints text d) × Agree d s
 AgreeTurn t stops = t ≡ stops
 
--- the number after a record is one more
-abbrev Next : ℕ → Turn Night → Type 0
-Next k (prints text s) = s .number ≡ suc k
-Next k stops = Unit
-
 -- the number after a record is counted
 abbrev CountedTurn : Turn Night → Type 0
 CountedTurn (prints text s) = s .number ≤ largest
 CountedTurn stops = Unit
-
-turnOf-next : (k : ℕ) (s : Running) (q : Request) → Next k (turnOf k s q)
-unfolding turnOf leads answerPiece
-turnOf-next k s (starts F R) = refl
-turnOf-next k (transferring w) (piece c bytes) = refl
-turnOf-next k none (piece c bytes) = tt
-turnOf-next k none malformed = tt
-turnOf-next k (transferring w) malformed = tt
 
 agree-put : (d : Desk) (w : World) (k : ℕ) → d .progress .number ≡ k → suc k ≤ largest → Fit w → Agree (putWorld d w) (record { number = suc k; running = transferring w })
 unfolding putWorld nextNumber
@@ -110,16 +98,6 @@ module _ (d : Desk) (s : Night) (a : Agree d s) where
 
 agree-before : (text : List ℕ) (x : Reading Desk) (y : Reading Night) → AgreeReading x y → AgreeReading (printedBefore text x) (printedBefore text y)
 agree-before text x y i = record { text-is = ap (λ z. text ++ z) (i .text-is); left-agree = i .left-agree; stopped-is = i .stopped-is; rest-is = i .rest-is }
-
--- numbers only grow
-reads-number : {s : Night} {bytes : List ℕ} {r : Reading Night} → Reads night s bytes r → s .number ≤ r .left .number
-reads-number (reads-nothing s bytes q) = omega arith
-reads-number (reads-cut s bytes q) = omega arith
-reads-number (reads-long s bytes q) = omega arith
-reads-number (reads-malformed s bytes n q e) = omega arith
-reads-number (reads-on s v bytes text n r q e t) =
-    let m : v .number ≡ suc (s .number) = rw e at (turnOf-next (s .number) (s .running) (requestOf (take n bytes))) in
-    omega (arith, m, reads-number t)
 
 agree-reads : {s : Night} {bytes : List ℕ} {r : Reading Night} → Reads night s bytes r → (d : Desk) → Agree d s → r .left .number ≤ largest → AgreeReading (read library d bytes) r
 agree-reads (reads-nothing s bytes q) d a h = rw (read-nothing library d bytes q) (agree-waits d s a [])

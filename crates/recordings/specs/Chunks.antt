@@ -1,5 +1,5 @@
 -- A recording in chunks: whatever way it is cut, what is handed back is the printed text.
-use Prim.Native.Nat.{ℕ, _+_, _*_, _≤_}
+use Prim.Native.Nat.{ℕ, _+_, _*_, _≤_, _<_}
 use mathlib.Core.Path.{_≡_}
 use mathlib.Core.Bool.{false}
 use mathlib.Core.List.{List, [], _∷_, _++_}
@@ -8,7 +8,7 @@ use Rattle.answers.specs.Written.{roomRefusal}
 use Rattle.transfer.specs.Transfer.{World}
 use Rattle.nights.specs.Reading.{joined}
 use Rattle.nights.specs.Night.{transferring, after, soFar, printed}
-use Rattle.recordings.specs.Kept.{worldOn, Kept, deskOf, feed, feedRefusal, finishText}
+use Rattle.recordings.specs.Kept.{worldOn, firstSession, Kept, kept, deskOf, feed, feedRefusal, finishText}
 
 -- each chunk meets what the last one left: all texts that are handed back, one after the other, and what is kept at the end
 unfoldable pub feeds : Kept → List (List ℕ) → List ℕ × Kept
@@ -30,6 +30,10 @@ abbrev pub Counted : List ℕ → Type 0
 Counted bytes = after bytes .left .number ≤ 18446744073709551615
 
 pub record Chunks : Type 0 where
+  -- what `begin` gives has read nothing, whatever is lent with it
+  pub begins : (held file claimed doubtful : List ℕ) → Begun (kept firstSession held file claimed doubtful)
+  -- the numbers of every recording of fewer than 6 * 2^64 bytes are counted
+  pub counted : (bytes : List ℕ) → length bytes < 110680464442257309696 → Counted bytes
   -- after every chunk, the text of the records that are whole so far
   pub after-chunk : (k : Kept) (cs : List (List ℕ)) → Begun k → Counted (joined cs) → feeds k cs .0 ≡ soFar (joined cs)
   -- with what the end of the input adds, the text of the recording
@@ -37,5 +41,7 @@ pub record Chunks : Type 0 where
   -- the transfer, file and ledgers that are kept are the definition's
   pub kept-is : (k : Kept) (cs : List (List ℕ)) (w : World) → Begun k → Counted (joined cs) → after (joined cs) .left .running ≡ transferring w
       → worldOn (deskOf (feeds k cs .1)) ≡ w
+  -- what is held between chunks is shorter than the longest record that can be well-formed
+  pub held-few : (k : Kept) (cs : List (List ℕ)) → Begun k → feeds k cs .1 .session .held < 4 + 16387
   -- a further chunk is refused only where fewer bytes are lent than 192 and 16 for each of its own
   pub refused-by : (k : Kept) (cs : List (List ℕ)) (chunk out : List ℕ) → Begun k → feedRefusal (feeds k cs .1) chunk out ≡ roomRefusal (192 + 16 * length chunk) out
