@@ -20,7 +20,7 @@ use Rattle.transfer.proofs.Start.{start}
 use Rattle.screen.specs.Screen.{lineFeed, lineOf, lineFor, screenRefusal}
 use Rattle.screen.proofs.Screen.{fit}
 use Rattle.screen.proofs.ScreenRows.{screen-rows}
-use Rattle.nights.specs.Request.{fileLimit, pairLimit, pieceLimit, recordLimit, requestOf}
+use Rattle.nights.specs.Request.{pairLimit, pieceLimit, recordLimit, requestOf}
 use Rattle.nights.specs.Lines.{recordLine, refusedWord, numberLine, pieceText}
 use Rattle.nights.specs.Reading.{Reading, waits, stopsAt, printedBefore, read}
 use Rattle.nights.specs.Night.{transferring, Night, startedNight, leads, answerPiece, turnOf, night, dusk, after, soFar, printed}

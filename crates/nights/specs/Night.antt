@@ -15,6 +15,7 @@ pub data Running : Type 0 where
   none : Running
   transferring : World → Running
 
+-- a night (document 02's word) as far as its recording is read
 pub record Night : Type 0 where
   -- of the next record, the first being 0
   pub number : ℕ
@@ -28,10 +29,11 @@ startedNight F R = startedWorld (replicate F 0) (replicate (2 * R) 0) (replicate
 unfoldable pub leads : ℕ → List ℕ → World → Turn Night
 leads k text w = prints text (record { number = suc k; running = transferring w })
 
--- the screen line after a start; after a piece it, with what remains before it, or REFUSED in its place
+-- a piece of n bytes, by what its call answered and left
 unfoldable pub answerPiece : ℕ → ℕ → Answer × World → Turn Night
 answerPiece k n a = leads k (pieceText (a .0) (a .1) n) (a .1)
 
+-- what the record of this number asks for: a start prints the screen line, and takes the place of any transfer
 unfoldable pub turnOf : ℕ → Running → Request → Turn Night
 turnOf k s (starts F R) = leads k (lineOf (startedNight F R)) (startedNight F R)
 turnOf k (transferring w) (piece c bytes) = answerPiece k (length bytes) (receiveOf w c bytes)
@@ -41,9 +43,11 @@ turnOf k s malformed = stops
 abbrev pub night : Reader Night
 night = record { turn = λ s bytes. turnOf (s .number) (s .running) (requestOf bytes); number = λ s. s .number }
 
+-- before the first record
 abbrev pub dusk : Night
 dusk = record { number = 0; running = none }
 
+-- what these bytes lead to
 abbrev pub after : List ℕ → Reading Night
 after bytes = read night dusk bytes
 

@@ -1,5 +1,5 @@
 -- What a record of a recording asks for (document 02, Item 4). A record is given whole, with its frame.
-use Prim.Native.Nat.{ℕ, _+_}
+use Prim.Native.Nat.{ℕ}
 use mathlib.Core.Bool.{cond, _&&_}
 use mathlib.Core.List.{List, [], _∷_}
 use lib.Dec.{leb, ltb, eqb}
@@ -50,6 +50,7 @@ pieceIn (c ∷ bytes) = cond (leb (length bytes) pieceLimit) (piece c bytes) mal
 
 -- ---- a record
 
+-- of any other kind it is malformed, and so is one too short for a kind
 unfoldable pub requestOf : List ℕ → Request
 requestOf bytes =
     cond (ltb (length bytes) frameLength) malformed

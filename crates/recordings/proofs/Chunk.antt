@@ -2,7 +2,7 @@
 use Prim.Native.Nat.{ℕ, zero, suc, _+_, _-_, _≤_, _<_, min}
 use mathlib.Core.Path.{_≡_, refl, sym, ap, _∙_}
 use mathlib.Core.Bool.{Bool, true, false, cond, not, true≢false, false≢true}
-use mathlib.Core.Logic.{_⊎_, inl, inr}
+use mathlib.Core.Logic.{inl, inr}
 use mathlib.Core.List.{List, [], _++_, append-nil, append-assoc}
 use native.Mathlib.Omega.{arith}
 use native.Mathlib.Decide.{decLe}
@@ -18,9 +18,9 @@ use Rattle.recordings.specs.declared.session.Progress.{Progress}
 use Rattle.recordings.specs.declared.session.Session.{Session}
 use Rattle.nights.specs.Request.{recordLimit}
 use Rattle.nights.specs.Lines.{recordLine}
-use Rattle.nights.specs.Reading.{Reading, stopsAt, printedBefore, read}
-use Rattle.recordings.specs.Kept.{Desk, Kept, kept, desk, deskOf, heldLimit, unfinished, isUnfinished, library}
-use Rattle.recordings.specs.Steps.{WritesText, Looks, halted, goOn, afterLook, Holds, Steps}
+use Rattle.nights.specs.Reading.{printedBefore, read}
+use Rattle.recordings.specs.Kept.{Kept, kept, desk, deskOf, heldLimit, unfinished, isUnfinished, library}
+use Rattle.recordings.specs.Steps.{Looks, halted, goOn, afterLook, Holds, Steps}
 use Rattle.recordings.proofs.Unfinished.{unfinished-none}
 
 -- ---- what is held

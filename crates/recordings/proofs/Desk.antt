@@ -21,7 +21,7 @@ use Rattle.nights.specs.Reading.{Turn, prints, stops, Reading, waits, stopsAt, 
 use Rattle.nights.specs.Night.{Running, none, transferring, Night, startedNight, leads, answerPiece, turnOf, night}
 use Rattle.recordings.specs.Kept.{Desk, worldOn, nextNumber, putWorld, deskAnswer, deskTurn, library}
 use Rattle.nights.proofs.Requests.{Within, request-within}
-use Rattle.nights.proofs.Night.{turnOf-next, reads-number}
+use Rattle.nights.proofs.Night.{reads-number}
 use Rattle.nights.proofs.Reading.{Reads, reads-nothing, reads-cut, reads-long, reads-malformed, reads-on, read-reads, read-nothing, read-cut, read-long, read-prints, read-stops}
 
 -- ---- a world that fits is read back

@@ -10,13 +10,11 @@ use Rattle.octets.specs.Decimal.{digitCount, inDigits, decimal}
 use Rattle.octets.proofs.Decimals.{length-decimal}
 use Rattle.answers.specs.WritesAt.{WritesAt}
 use Rattle.answers.proofs.WritesAt.{writesAt-append, sets-part, sets-first}
-use Rattle.transfer.specs.Transfer.{World}
-use Rattle.transfer.specs.Receive.{refused, took}
 use Rattle.copies.specs.Copy.{stored}
 use Rattle.copies.proofs.CopiedBytes.{stored-all}
-use Rattle.screen.specs.Screen.{lineFeed, lineOf}
+use Rattle.screen.specs.Screen.{lineFeed}
 use Rattle.screen.proofs.Screen.{length-between, digits-most}
-use Rattle.nights.specs.Lines.{recordWord, refusedWord, leftWord, numberLine, recordLine, leftLine, pieceText}
+use Rattle.nights.specs.Lines.{recordWord, refusedWord, leftWord, numberLine, recordLine, leftLine}
 use Rattle.nights.proofs.Lines.{left-none, left-some}
 use Rattle.recordings.specs.Kept.{WritesFront}
 

@@ -1,25 +1,21 @@
 -- A record, the first record of some bytes, and a step through a chunk, as readings.
-use Prim.Native.Nat.{ℕ, zero, suc, _+_, _-_, _≤_, _<_, min}
+use Prim.Native.Nat.{ℕ, zero, suc, _+_, _-_, _≤_}
 use mathlib.Core.Path.{_≡_, refl, sym, ap, _∙_}
 use mathlib.Core.Bool.{Bool, true, false, true≢false, false≢true}
 use mathlib.Core.Logic.{_⊎_, inl, inr}
-use mathlib.Core.List.{List, [], _∷_, _++_, append-nil, append-assoc}
+use mathlib.Core.List.{List, [], _++_}
 use native.Mathlib.Omega.{arith}
 use native.Mathlib.Decide.{decLe}
-use lib.ListN.{length, take, drop, length-append, length-take, drop-of-length-le, take-append-drop}
-use lib.Seq.{take-at, drop-at, take-all, take-append-le, drop-append-le}
-use Rattle.frames.specs.Frame.{fieldLength, frameLength, recordLength, firstRecord}
-use Rattle.frames.specs.declared.frame.First.{First}
+use lib.ListN.{length, take, drop, length-take}
+use lib.Seq.{take-append-le, drop-append-le}
+use Rattle.frames.specs.Frame.{firstRecord}
 use Rattle.frames.specs.declared.frame.First.the-variants.{Nothing, Cut, TooLong, Whole}
-use Rattle.frames.proofs.FirstRecord.{recordLength-short, recordLength-append, first-of-none, first-prefix-whole, first-prefix-long, first-nothing, first-cut, first-whole}
-use Rattle.copies.specs.Copy.{stored}
-use Rattle.recordings.specs.declared.session.Progress.{Progress}
-use Rattle.recordings.specs.declared.session.Session.{Session}
+use Rattle.frames.proofs.FirstRecord.{first-prefix-whole, first-prefix-long, first-nothing, first-whole}
 use Rattle.nights.specs.Request.{recordLimit, requestOf}
 use Rattle.nights.specs.Lines.{recordLine}
 use Rattle.nights.specs.Reading.{Turn, prints, stops, stopsAt, printedBefore, read}
-use Rattle.recordings.specs.Kept.{Desk, Kept, kept, desk, deskOf, heldLimit, unfinished, isUnfinished, library, deskTurn}
-use Rattle.recordings.specs.Steps.{WritesText, Leads, Looks, halted, goOn, afterLook, Holds, Steps}
+use Rattle.recordings.specs.Kept.{Desk, isUnfinished, library, deskTurn}
+use Rattle.recordings.specs.Steps.{WritesText, Leads, Looks}
 use Rattle.nights.proofs.Requests.{request-short}
 use Rattle.nights.proofs.Reading.{read-prints, read-stops, read-long}
 use Rattle.recordings.proofs.Unfinished.{unfinished-none, unfinished-cut}

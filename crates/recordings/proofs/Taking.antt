@@ -1,23 +1,17 @@
 -- Through a chunk, step by step: what was taken and written so far, and what the last step leaves.
 use Prim.Native.Nat.{ℕ, _+_, _*_, _-_, _≤_, _<_}
 use mathlib.Core.Path.{_≡_, refl, sym, ap, _∙_}
-use mathlib.Core.Bool.{Bool, true, false}
+use mathlib.Core.Bool.{true, false}
 use mathlib.Core.Logic.{_⊎_, inl, inr}
-use mathlib.Core.List.{List, [], _++_, append-nil, append-assoc}
+use mathlib.Core.List.{List, [], _++_, append-assoc}
 use native.Mathlib.Omega.{arith}
 use native.Mathlib.Decide.{decLe}
 use borrow.Rule.Slice.PartMut.{putMid}
-use lib.ListN.{length, take, drop, replicate, length-append, length-take, length-drop, drop-of-length-le}
+use lib.ListN.{length, take, drop, length-append, length-drop, drop-of-length-le}
 use lib.Seq.{drop-drop}
-use Rattle.frames.specs.Frame.{firstRecord}
-use Rattle.frames.specs.declared.frame.First.{First}
-use Rattle.frames.specs.declared.frame.First.the-variants.{Nothing, Cut, TooLong, Whole}
-use Rattle.frames.proofs.FirstRecord.{first-nothing}
-use Rattle.nights.specs.Request.{recordLimit}
-use Rattle.nights.specs.Reading.{Reading, Reader, waits, printedBefore, read}
-use Rattle.recordings.specs.Kept.{WritesFront, Desk, Kept, kept, deskOf, heldLimit, unfinished, isUnfinished, library, leaves, feed, feedText}
-use Rattle.recordings.specs.Steps.{WritesText, halted, goOn, Holds, Steps, Reads}
-use Rattle.nights.proofs.Reading.{read-nothing, read-cut}
+use Rattle.nights.specs.Reading.{Reading, printedBefore}
+use Rattle.recordings.specs.Kept.{WritesFront, Desk, Kept}
+use Rattle.recordings.specs.Steps.{goOn, Holds, Steps, Reads}
 use Rattle.recordings.proofs.Fronts.{rest-is, front-append}
 
 -- at bytes of the chunk are taken and w written; room is left for what the next step writes

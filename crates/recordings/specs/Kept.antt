@@ -2,7 +2,7 @@
 use Prim.Native.Nat.{ℕ, suc, _+_, _*_, _-_}
 use mathlib.Core.Path.{_≡_}
 use mathlib.Core.Bool.{Bool, true, false, cond, _&&_, not}
-use mathlib.Core.List.{List, [], _∷_, _++_}
+use mathlib.Core.List.{List, [], _++_}
 use lib.Dec.{ltb}
 use lib.ListN.{length, take, drop, replicate}
 use Rattle.frames.specs.Frame.{fieldLength, firstRecord}
@@ -28,7 +28,7 @@ putFront new old = new ++ drop (length new) old
 abbrev pub WritesFront : List ℕ → List ℕ → ℕ → List ℕ → Type 0
 WritesFront text out n after = (n ≡ length text) × (after ≡ putFront text out)
 
--- the progress, with the lent file and ledgers
+-- what the records so far have led to, with the lent file and ledgers
 pub record Desk : Type 0 where
   pub progress : Progress
   pub file : List ℕ
@@ -50,6 +50,7 @@ worldOn d =
 unfoldable pub nextNumber : ℕ → ℕ
 nextNumber k = cond (ltb k largest) (suc k) k
 
+-- after a record that is not malformed: this world at the front of what is lent, and the next number
 unfoldable pub putWorld : Desk → World → Desk
 putWorld d w =
     desk
@@ -58,14 +59,17 @@ putWorld d w =
     (putFront (w .lent .claimed) (d .claimed))
     (putFront (w .lent .doubtful) (d .doubtful))
 
+-- a piece of n bytes, by what its call answered and left
 unfoldable pub deskAnswer : Desk → ℕ → Answer × World → Turn Desk
 deskAnswer d n a = prints (pieceText (a .0) (a .1) n) (putWorld d (a .1))
 
+-- a start takes the place of the transfer; a piece before any start is malformed
 unfoldable pub deskTurn : Desk → Request → Turn Desk
 deskTurn d (starts F R) = prints (lineOf (startedNight F R)) (putWorld d (startedNight F R))
 deskTurn d (piece c bytes) = cond (d .progress .started) (deskAnswer d (length bytes) (receiveOf (worldOn d) c bytes)) stops
 deskTurn d malformed = stops
 
+-- the reader that is proved of the code
 abbrev pub library : Reader Desk
 library = record { turn = λ d bytes. deskTurn d (requestOf bytes); number = λ d. d .progress .number }
 
@@ -75,6 +79,7 @@ library = record { turn = λ d bytes. deskTurn d (requestOf bytes); number = λ 
 abbrev pub firstSession : Session
 firstSession = record { progress = record { receiver = record { transfer = fresh 0 0 }; number = 0; started = false }; held = 0; stopped = false }
 
+-- the session, with all that is lent beside it
 pub record Kept : Type 0 where
   pub session : Session
   pub held : List ℕ
@@ -110,6 +115,7 @@ leaves r =
     (r .left .claimed)
     (r .left .doubtful)
 
+-- a chunk is read behind what is held: its text, and what is kept then; after a malformed record nothing is read, and nothing changes
 unfoldable pub feed : Kept → List ℕ → List ℕ × Kept
 feed k chunk =
     let r = read library (deskOf k) (unfinished k ++ chunk) in
@@ -123,6 +129,7 @@ feedRoom n = 192 + 16 * n
 unfoldable pub feedRefusal : Kept → List ℕ → List ℕ → ℕ
 feedRefusal k chunk out = cond (isUnfinished (unfinished k)) (roomRefusal (feedRoom (length chunk)) out) 1
 
+-- what it prints, and what is kept after it: a refusal changes nothing
 unfoldable pub feedText : Kept → List ℕ → List ℕ
 feedText k chunk = feed k chunk .0
 

@@ -1,5 +1,5 @@
 -- What the parts of the code answer and leave, in the words of Reading and Kept: a record, the first record of some bytes, and one step through a chunk.
-use Prim.Native.Nat.{ℕ, zero, suc, _+_, _*_, _-_, _≤_, _<_}
+use Prim.Native.Nat.{ℕ, zero, suc, _+_, _-_, _≤_, _<_}
 use mathlib.Core.Path.{_≡_}
 use mathlib.Core.Bool.{Bool, true, false, cond}
 use mathlib.Core.Logic.{_⊎_}
@@ -9,7 +9,7 @@ use Rattle.frames.specs.Frame.{recordLength}
 use Rattle.recordings.specs.declared.session.Progress.{Progress}
 use Rattle.recordings.specs.declared.session.Session.{Session}
 use Rattle.nights.specs.Lines.{recordLine}
-use Rattle.nights.specs.Reading.{Turn, prints, stops, Reading, waits, stopsAt, printedBefore, read}
+use Rattle.nights.specs.Reading.{Turn, prints, stops, Reading, stopsAt, printedBefore, read}
 use Rattle.recordings.specs.Kept.{WritesFront, Desk, Kept, deskOf, heldLimit, unfinished, isUnfinished, library}
 
 -- the most bytes that a record prints

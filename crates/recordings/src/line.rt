@@ -1,7 +1,6 @@
 // The lines that are no screen lines, written to the front of lent bytes; the answer is their length.
 use copies::copy;
 use octets::decimal;
-ghost use mathlib.Core.Path.{_≡_};
 ghost use mathlib.Core.List.{_++_};
 ghost use Prim.Native.Nat.{_+_, _≤_};
 ghost use lib.ListN.{length};

@@ -1,13 +1,13 @@
 // One step through a chunk: a record of it, or the bytes that the held ones lack.
 use crate::first;
 use crate::first::Looked;
-use crate::session::Progress;
+use crate::front;
 use crate::session::Session;
 use copies::copy;
 use frames::frame;
 ghost use mathlib.Core.Path.{_≡_};
 ghost use mathlib.Core.Bool.{false};
-ghost use Prim.Native.Nat.{_+_, _≤_, _<_, min};
+ghost use Prim.Native.Nat.{_+_, _≤_, _<_};
 ghost use lib.ListN.{length};
 ghost use Rattle.recordings.specs.Kept.{kept};
 ghost use Rattle.recordings.specs.Steps.{afterLook, Holds, Steps};
@@ -39,12 +39,6 @@ fn after_look(looked: Looked, waiting: usize, taken: usize) -> Stepped
         taken: taken,
         written: looked.written,
     }
-}
-
-fn lesser(a: usize, b: usize) -> usize
-    ensures { λ r. ⌜ r ≡ min a b ⌝ }
-{
-    if a < b { a } else { b }
 }
 
 // Where nothing is held: the chunk's own first record, or all of it held.
@@ -86,7 +80,7 @@ fn step_held(
 {
     let at = s.held;
     let lacks = frame::record_length(&held[..at]) - at;
-    let n = lesser(lacks, chunk.len());
+    let n = front::at_most(lacks as u64, chunk.len());
     copy::store(held, at, chunk, n);
     let end = at + n;
     let progress = s.progress;

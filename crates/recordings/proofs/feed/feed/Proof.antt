@@ -1,14 +1,11 @@
+-- `feed::feed`.
 use borrow.Author.Needs.{needs}
 use Rattle.recordings.specs.Kept.{kept}
 use Rattle.recordings.proofs.Refusal.{feed-refused, feed-taken, feed-halted, feed-begins}
-use mathlib.Core.Path.{_≡_, refl, sym, ap, _∙_}
+use mathlib.Core.Path.{_≡_, refl, sym, _∙_}
 use native.Mathlib.Omega.{arith}
 use Rattle.recordings.proofs.feed.feed.Statement.{statement}
 use Rattle.recordings.proofs.feed.feed.Tie as tie
-use Rattle.recordings.proofs.feed.feed.Reads as reads
-use Rattle.recordings.proofs.feed.feed.Lts as lts
-use Rattle.recordings.proofs.feed.refusal.Reads as refusal-reads
-use Rattle.recordings.proofs.feed.take_and_clear.Reads as take-and-clear-reads
 
 refusal-requires : tie.Need-refusal-requires
 refusal-requires c κs = search needs

@@ -1,12 +1,10 @@
+-- `feed::is_unfinished`.
 use borrow.Author.Needs.{needs}
 use mathlib.Core.Logic.{inl, inr}
 use Rattle.recordings.proofs.Steps.{not-whole, is-whole}
-use mathlib.Core.Path.{_≡_, refl, sym, ap, _∙_}
+use mathlib.Core.Path.{sym, _∙_}
 use Rattle.recordings.proofs.feed.is_unfinished.Statement.{statement}
 use Rattle.recordings.proofs.feed.is_unfinished.Tie as tie
-use Rattle.recordings.proofs.feed.is_unfinished.Reads as reads
-use Rattle.recordings.proofs.feed.is_unfinished.Lts as lts
-use Rattle.frames.proofs.frame.first_record.Reads as first-record-reads
 
 first-record-requires : tie.Need-first-record-requires
 first-record-requires c κs = search needs

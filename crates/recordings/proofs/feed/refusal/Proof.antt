@@ -1,15 +1,12 @@
+-- `feed::refusal`.
 use borrow.Author.Needs.{needs}
 use borrow.Author.Tests.{not-true, not-false}
 use lib.ListN.{length-take}
 use Rattle.recordings.proofs.Refusal.{refused-1, refused-55, refused-none}
-use mathlib.Core.Path.{_≡_, refl, sym, ap, _∙_}
+use mathlib.Core.Path.{sym, _∙_}
 use native.Mathlib.Omega.{arith}
 use Rattle.recordings.proofs.feed.refusal.Statement.{statement}
 use Rattle.recordings.proofs.feed.refusal.Tie as tie
-use Rattle.recordings.proofs.feed.refusal.Reads as reads
-use Rattle.recordings.proofs.feed.refusal.Lts as lts
-use Rattle.recordings.proofs.feed.is_unfinished.Reads as is-unfinished-reads
-use Rattle.recordings.proofs.front.at_most.Reads as at-most-reads
 
 at-most-requires : tie.Need-at-most-requires
 at-most-requires c κs = search needs

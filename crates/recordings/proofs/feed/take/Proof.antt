@@ -1,17 +1,15 @@
+-- `feed::take`.
 use borrow.Author.Needs.{needs}
-use Prim.Native.Nat.{_+_, _*_, _-_, _≤_, _<_}
-use mathlib.Core.Path.{_≡_, refl, sym, ap, _∙_}
+use Prim.Native.Nat.{_+_, _-_, _≤_, _<_}
+use mathlib.Core.Path.{_≡_, refl, sym, _∙_}
 use mathlib.Core.Bool.{false}
 use native.Mathlib.Omega.{arith}
 use borrow.Rule.Slice.PartMut.{putMid}
-use lib.ListN.{length, take, drop, length-take, length-drop}
+use lib.ListN.{length, drop, length-take, length-drop}
 use Rattle.recordings.specs.Kept.{Kept, kept}
 use Rattle.recordings.proofs.Taking.{Taking, taking-none, step-within, taking-step, taking-length, taken-stopped, taken-all}
 use Rattle.recordings.proofs.feed.take.Statement.{statement}
 use Rattle.recordings.proofs.feed.take.Tie as tie
-use Rattle.recordings.proofs.feed.take.Reads as reads
-use Rattle.recordings.proofs.feed.take.Lts as lts
-use Rattle.recordings.proofs.step.step.Reads as step-reads
 
 abbrev Inv-loop : tie.InvT-loop
 Inv-loop chunk held₀ file₀ claimed₀ doubtful₀ out₀ s₀ at₀ written₀ held file claimed doubtful out s at written =

@@ -1,17 +1,13 @@
+-- `feed::take_and_clear`.
 use borrow.Author.Needs.{needs}
 use Rattle.recordings.specs.Kept.{kept}
 use lib.ListN.{length}
 use borrow.Rule.Slice.PartMut.{putMid}
 use Prim.Native.Nat.{_-_}
 use Rattle.recordings.proofs.Leaving.{reads-feed, cleared-held}
-use mathlib.Core.Path.{_≡_, refl, sym, ap, _∙_}
-use native.Mathlib.Omega.{arith}
+use mathlib.Core.Path.{sym, ap, _∙_}
 use Rattle.recordings.proofs.feed.take_and_clear.Statement.{statement}
 use Rattle.recordings.proofs.feed.take_and_clear.Tie as tie
-use Rattle.recordings.proofs.feed.take_and_clear.Reads as reads
-use Rattle.recordings.proofs.feed.take_and_clear.Lts as lts
-use Rattle.recordings.proofs.feed.take.Reads as take-reads
-use Rattle.recordings.proofs.front.clear.Reads as clear-reads
 
 take-requires : tie.Need-take-requires
 take-requires c κs = search needs

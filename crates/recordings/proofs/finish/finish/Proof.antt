@@ -1,3 +1,4 @@
+-- `finish::finish`.
 use borrow.Author.Needs.{needs}
 use Rattle.answers.specs.declared.written.Written.the-variants.{Bytes}
 use Rattle.answers.specs.Written.{roomRefusal}
@@ -12,14 +13,10 @@ use Rattle.recordings.proofs.Lines.{length-numberLine, record-short, re
 use mathlib.Core.Logic.{inl, inr}
 use Rattle.answers.proofs.WrittenBy.{room-short, room-enough, refused, written}
 use Rattle.recordings.proofs.Refusal.{finish-none, finish-line}
-use mathlib.Core.Path.{_≡_, refl, sym, ap, _∙_}
+use mathlib.Core.Path.{_≡_, sym, ap, _∙_}
 use native.Mathlib.Omega.{arith}
 use Rattle.recordings.proofs.finish.finish.Statement.{statement}
 use Rattle.recordings.proofs.finish.finish.Tie as tie
-use Rattle.recordings.proofs.finish.finish.Reads as reads
-use Rattle.recordings.proofs.finish.finish.Lts as lts
-use Rattle.octets.proofs.decimal.length.Reads as length-reads
-use Rattle.recordings.proofs.line.put_number.Reads as put-number-reads
 
 -- what is counted is the line's length, which is at most 28
 digits : (c : tie.After-length) → let n = c .before .before .before .before .before .before .args .session .progress .number in

@@ -1,3 +1,4 @@
+-- `first::answered`.
 use borrow.Author.Needs.{needs}
 use Rattle.recordings.specs.Kept.{Desk, desk}
 use Rattle.nights.specs.Request.{recordLimit}
@@ -5,14 +6,10 @@ use Rattle.frames.proofs.FirstRecord.{first-prefix-whole}
 use lib.ListN.{length-take}
 use mathlib.Core.List.{[]}
 use Rattle.recordings.proofs.Steps.{looks-stops, answered-stops, answered-prints}
-use mathlib.Core.Path.{_≡_, refl, sym, ap, _∙_}
+use mathlib.Core.Path.{_≡_, ap, _∙_}
 use native.Mathlib.Omega.{arith}
 use Rattle.recordings.proofs.first.answered.Statement.{statement}
 use Rattle.recordings.proofs.first.answered.Tie as tie
-use Rattle.recordings.proofs.first.answered.Reads as reads
-use Rattle.recordings.proofs.first.answered.Lts as lts
-use Rattle.recordings.proofs.first.stops.Reads as stops-reads
-use Rattle.recordings.proofs.turn.of_record.Reads as of-record-reads
 
 slice-aggregate-of-record : tie.Need-slice-aggregate-of-record
 slice-aggregate-of-record c =

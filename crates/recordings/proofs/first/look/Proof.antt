@@ -1,17 +1,11 @@
+-- `first::look`.
 use borrow.Author.Needs.{needs}
 use mathlib.Core.Logic.{inl, inr}
 use Rattle.recordings.specs.Kept.{desk}
 use Rattle.recordings.proofs.Steps.{not-whole, looks-waits, looks-stops, long-stops}
-use mathlib.Core.Path.{_≡_, refl, sym, ap, _∙_}
-use native.Mathlib.Omega.{arith}
+use mathlib.Core.Path.{refl, sym, ap, _∙_}
 use Rattle.recordings.proofs.first.look.Statement.{statement}
 use Rattle.recordings.proofs.first.look.Tie as tie
-use Rattle.recordings.proofs.first.look.Reads as reads
-use Rattle.recordings.proofs.first.look.Lts as lts
-use Rattle.frames.proofs.frame.first_record.Reads as first-record-reads
-use Rattle.recordings.proofs.first.answered.Reads as answered-reads
-use Rattle.recordings.proofs.first.stops.Reads as stops-reads
-use Rattle.recordings.proofs.first.waits.Reads as waits-reads
 
 first-record-requires : tie.Need-first-record-requires
 first-record-requires c κs = search needs

@@ -1,13 +1,11 @@
+-- `first::stops`.
 use borrow.Author.Needs.{needs}
-use mathlib.Core.Path.{_≡_, refl, sym, ap, _∙_}
+use mathlib.Core.Path.{refl}
 use Rattle.recordings.proofs.Lines.{record-words, record-short, decimal-long}
 use Prim.Native.Nat.{_<_}
 use native.Mathlib.Omega.{arith}
 use Rattle.recordings.proofs.first.stops.Statement.{statement}
 use Rattle.recordings.proofs.first.stops.Tie as tie
-use Rattle.recordings.proofs.first.stops.Reads as reads
-use Rattle.recordings.proofs.first.stops.Lts as lts
-use Rattle.recordings.proofs.line.put_number.Reads as put-number-reads
 
 slice-aggregate-put-number : tie.Need-slice-aggregate-put-number
 slice-aggregate-put-number c = search needs

@@ -1,3 +1,4 @@
+-- `session::begin`.
 use borrow.Author.Needs.{needs}
 use Rattle.transfer.proofs.Start.{start as accepted}
 use mathlib.Core.List.{[]}
@@ -5,12 +6,9 @@ use native.Mathlib.Omega.{arith}
 use Rattle.transfer.specs.Transfer.{fresh}
 use Rattle.transfer.specs.declared.state.Transfer.{Transfer}
 use mathlib.Core.Bool.{false}
-use mathlib.Core.Path.{_≡_, refl, sym, ap, _∙_}
+use mathlib.Core.Path.{_≡_, refl, ap, _∙_}
 use Rattle.recordings.proofs.session.begin.Statement.{statement}
 use Rattle.recordings.proofs.session.begin.Tie as tie
-use Rattle.recordings.proofs.session.begin.Reads as reads
-use Rattle.recordings.proofs.session.begin.Lts as lts
-use Rattle.receiver.proofs.start.start.Reads as start-reads
 
 slice-aggregate-start : tie.Need-slice-aggregate-start
 slice-aggregate-start c = search needs

@@ -1,10 +1,8 @@
-use borrow.Author.Needs.{needs}
-use mathlib.Core.Path.{_≡_, refl, sym, ap, _∙_}
+-- `step::after_look`.
+use mathlib.Core.Path.{refl}
 use Rattle.recordings.proofs.Chunk.{after-waits, after-stops, after-used}
 use Rattle.recordings.proofs.step.after_look.Statement.{statement}
 use Rattle.recordings.proofs.step.after_look.Tie as tie
-use Rattle.recordings.proofs.step.after_look.Reads as reads
-use Rattle.recordings.proofs.step.after_look.Lts as lts
 
 returns : tie.Need-returns
 returns c =

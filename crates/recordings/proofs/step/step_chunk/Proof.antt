@@ -1,15 +1,11 @@
+-- `step::step_chunk`.
 use borrow.Author.Needs.{needs}
 use lib.ListN.{length}
 use Rattle.recordings.proofs.Chunk.{chunk-answered, chunk-held}
-use mathlib.Core.Path.{_≡_, refl, sym, ap, _∙_}
+use mathlib.Core.Path.{_≡_}
 use native.Mathlib.Omega.{arith}
 use Rattle.recordings.proofs.step.step_chunk.Statement.{statement}
 use Rattle.recordings.proofs.step.step_chunk.Tie as tie
-use Rattle.recordings.proofs.step.step_chunk.Reads as reads
-use Rattle.recordings.proofs.step.step_chunk.Lts as lts
-use Rattle.copies.proofs.copy.store.Reads as store-reads
-use Rattle.recordings.proofs.first.look.Reads as look-reads
-use Rattle.recordings.proofs.step.after_look.Reads as after-look-reads
 
 look-requires : tie.Need-look-requires
 look-requires c κs = search needs

@@ -1,29 +1,23 @@
+-- `step::step_held`.
 use borrow.Author.Needs.{needs}
 use Prim.Native.Nat.{_+_, _-_, _≤_, min}
-use lib.ListN.{length, take, length-take}
+use lib.ListN.{length, length-take}
 use Rattle.recordings.proofs.Chunk.{held-lacks, held-step}
-use mathlib.Core.Path.{_≡_, refl, sym, ap, _∙_}
+use mathlib.Core.Path.{_≡_, ap, _∙_}
 use native.Mathlib.Omega.{arith}
 use Rattle.recordings.proofs.step.step_held.Statement.{statement}
 use Rattle.recordings.proofs.step.step_held.Tie as tie
-use Rattle.recordings.proofs.step.step_held.Reads as reads
-use Rattle.recordings.proofs.step.step_held.Lts as lts
-use Rattle.copies.proofs.copy.store.Reads as store-reads
-use Rattle.frames.proofs.frame.record_length.Reads as record-length-reads
-use Rattle.recordings.proofs.first.look.Reads as look-reads
-use Rattle.recordings.proofs.step.after_look.Reads as after-look-reads
-use Rattle.recordings.proofs.step.lesser.Reads as lesser-reads
 
 -- the held bytes stay as many, and have room for what the record lacks
 kept-length : (c : tie.After-store) → length (c .store .last .0) ≡ length (c .before .before .before .before .before .before .before .before .before .before .before .args .held .now)
 kept-length c = search needs
 
-fits : (c : tie.After-store) → c .before .before .before .before .before .before .before .before .before .before .before .args .s .held + c .before .before .lesser .result ≤ length (c .store .last .0)
+fits : (c : tie.After-store) → c .before .before .before .before .before .before .before .before .before .before .before .args .s .held + c .before .before .at-most .result ≤ length (c .store .last .0)
 fits c =
     let x = c .before .before .before .before .before .before .before .before .before .before .before in
     let a = x .args in
     let l = held-lacks (a .s) (a .held .now) (a .file .now) (a .claimed .now) (a .doubtful .now) (x .pre .3) (x .pre .1) in
-    omega (arith, kept-length c, c .before .before .lesser .ensures, c .before .before .before .record-length .ensures, x .pre .3 .held, l)
+    omega (arith, kept-length c, c .before .before .at-most .ensures, c .before .before .before .record-length .ensures, x .pre .3 .held, l)
 
 slice-reshare-prefix-record-length : tie.Need-slice-reshare-prefix-record-length
 slice-reshare-prefix-record-length c = search needs
@@ -42,8 +36,8 @@ sub-lacks c =
     let a = x .args in
     omega (arith, c .record-length .ensures, held-lacks (a .s) (a .held .now) (a .file .now) (a .claimed .now) (a .doubtful .now) (x .pre .3) (x .pre .1))
 
-lesser-requires : tie.Need-lesser-requires
-lesser-requires c κs = search needs
+at-most-requires : tie.Need-at-most-requires
+at-most-requires c κs = search needs
 
 store-requires : tie.Need-store-requires
 store-requires c κs = search needs
@@ -59,7 +53,7 @@ slice-aggregate-look : tie.Need-slice-aggregate-look
 slice-aggregate-look c =
     let x = c .before .before .before .before .before .before .before .before .before .before .before .before .before .before .before in
     let o = c .before .before .before .before .store .last .0 in
-    omega (arith, length-take (x .args .s .held + c .before .before .before .before .before .before .lesser .result) o, fits (c .before .before .before .before))
+    omega (arith, length-take (x .args .s .held + c .before .before .before .before .before .before .at-most .result) o, fits (c .before .before .before .before))
 
 look-requires : tie.Need-look-requires
 look-requires c κs = search needs
@@ -92,7 +86,7 @@ returns c =
     let g : length (k .last .1 .1 .1 .0) ≡ 512 = search needs in
     let h : length (k .last .1 .1 .1 .1 .0) ≡ 512 = search needs in
     let e = c .after-look .ensures in
-    let m = c .before .before .before .before .before .before .before .before .before .before .before .before .before .before .before .before .before .before .before .before .lesser in
+    let m = c .before .before .before .before .before .before .before .before .before .before .before .before .before .before .before .before .before .before .before .before .at-most in
     let n = m .ensures ∙ ap (λ z. min (z - a .s .held) (length (a .chunk .now))) (c .before .before .before .before .before .before .before .before .before .before .before .before .before .before .before .before .before .before .before .before .before .record-length .ensures) in
     rw (e .0, e .1, e .2)
     (held-step (a .s) (a .held .now) (a .file .now) (a .claimed .now) (a .doubtful .now) (a .chunk .now) (k .result .progress) _ _ _ _ (a .out .now) _ (k .result .written) (m .result) (k .result .stops) (k .result .used)
@@ -106,7 +100,7 @@ step-held-spec =
     slice-aggregate-record-length
     record-length-requires
     sub-lacks
-    lesser-requires
+    at-most-requires
     store-requires
     add-end
     slice-reshare-prefix-look
