@@ -1,5 +1,5 @@
 -- The frame of a record, which saved ledgers, recordings and the probe's requests share (document 01, "Saved ledger, kind 1"; document 02, Item 4):
--- a four-byte length, a two-byte kind and a body, all little-endian.
+-- a four-byte length, a two-byte kind, both little-endian, and a body.
 --
 --     length of all that follows   kind      body
 --     4 bytes                      2 bytes
@@ -33,7 +33,7 @@ bodyOf bytes = drop frameLength bytes
 
 -- ---- what is written
 
--- the six bytes before a body of n bytes
+-- the six bytes before a body of n bytes, where n is at most 4,294,967,293; of a greater length the field has the low four bytes
 unfoldable pub frameOf : ℕ → ℕ → List ℕ
 frameOf kind n = toLittleEndian 256 4 (2 + n) ++ toLittleEndian 256 2 kind
 

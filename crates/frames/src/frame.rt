@@ -12,7 +12,7 @@ pub const FIELD_LENGTH: usize = 4;
 // The length field and the kind, which are before the body of every kind.
 pub const FRAME_LENGTH: usize = 6;
 
-// The record that bytes begin with. Whole has its length with the length field.
+// The record that bytes begin with. Whole has the record's length, the length field's four bytes counted.
 pub enum First {
     Nothing,
     Cut,
@@ -52,7 +52,7 @@ pub fn record_length(bytes: &[u8]) -> usize
     FIELD_LENGTH + length_field(bytes) as usize
 }
 
-// Where the length field may say at most `limit`.
+// The record that the bytes begin with; its length field may say at most `limit`.
 pub fn first_record(bytes: &[u8], limit: u64) -> First
     ensures { λ r. ⌜ r ≡ firstRecord limit (now (bytes .entry)) ⌝ }
 {
@@ -71,7 +71,8 @@ pub fn first_record(bytes: &[u8], limit: u64) -> First
     First::Whole(n)
 }
 
-// Writes the length field and the kind of a record whose body has n bytes into the first six of the lent bytes.
+// Writes the length field and the kind of a record whose body has n bytes into the first six of the lent bytes. The field can say up to 4,294,967,293
+// bytes of body; above that it has the low four bytes.
 pub fn write(kind: u16, n: u32, out: &mut [u8]) -> Written
     ensures { λ r. ⌜ (r ≡ writtenBy (roomRefusal frameLength (now (out .entry))) frameLength) × (now (out .exit) ≡ writtenAfter (roomRefusal frameLength (now (out .entry))) (frameOf kind n) (now (out .entry))) ⌝ }
 {

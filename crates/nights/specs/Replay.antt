@@ -107,7 +107,7 @@ pub record Replay : Type 0 where
   pub cut-stops : (bytes r : List ℕ) → Open bytes → IsCut r → (soFar (bytes ++ r) ≡ soFar bytes) × (printed (bytes ++ r) ≡ soFar bytes ++ recordLine (numberAfter bytes))
   -- at the end of a whole record nothing is added
   pub ends : (bytes : List ℕ) → Open bytes → printed bytes ≡ soFar bytes
-  -- every other record is a start or a piece, and so is each of the recording's bytes accounted for
+  -- every other record is a start or a piece; and bytes are none, cut, too long, or begin with a whole record
   pub all-records : (s : Running) (r : List ℕ) → AllBelow 256 r → IsWhole r → Malformed s r ⊎ WellFormed s r
   pub all-bytes : (r : List ℕ) → (length r ≡ 0) ⊎ IsCut r ⊎ ((4 ≤ length r) × (16387 < lengthField r)) ⊎ ((4 ≤ length r) × (4 + lengthField r ≤ length r) × (lengthField r ≤ 16387))
   -- one that is not malformed has six bytes or more

@@ -101,7 +101,7 @@ cases =
     -- document 01's example; one piece more is refused by 3
     prints (start ∷ recorded firstCall ∷ recorded secondCall ∷ recorded thirdCall ∷ []) (startLine ∷ firstLine ∷ secondLine ∷ thirdLine ∷ [])
     ∷ prints (start ∷ recorded firstCall ∷ recorded secondCall ∷ recorded thirdCall ∷ pieceRecord 0 (1 ∷ []) ∷ []) (startLine ∷ firstLine ∷ secondLine ∷ thirdLine ∷ refused3 ∷ [])
-    -- bit 32: SUSPECT, after which a piece is refused by 3, an empty one too
+    -- bit 32: SUSPECT, after which even an empty piece is refused by 3
     ∷ prints (start ∷ pieceRecord 0 (headerBytes 32 4 0 ++ plai) ∷ pieceRecord 0 (headerBytes 72 0 1) ∷ pieceRecord 5 [] ∷ []) (startLine ∷ firstLine ∷ suspectLine ∷ refused3 ∷ [])
     -- there is no channel 64
     ∷ prints (start ∷ pieceRecord 64 (1 ∷ []) ∷ []) (startLine ∷ refused2 ∷ [])

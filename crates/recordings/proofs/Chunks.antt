@@ -47,6 +47,7 @@ chunks =
       after-chunk = after-chunk;
       at-end = at-end;
       kept-is = λ k cs w b n e. kept-is k cs b n w e;
+      stops-is = λ k cs b n. feeds-read k cs b .1 .stopped-is ∙ agrees k cs b n .stopped-is;
       held-few = λ k cs b. omega (arith, feeds-read k cs b .1 .held-is, read-rest library (deskOf k) (joined cs) .1);
       refused-by = λ k cs chunk out b. refused-by k cs b chunk out;
     }

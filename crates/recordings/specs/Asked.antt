@@ -1,4 +1,4 @@
--- What the code answers of a record, as a request: it names a piece's channel, and the record has its bytes.
+-- What the code says that a record asks for. Of a piece it says the channel only: the bytes are still in the record.
 use Prim.Native.Nat.{ℕ}
 use mathlib.Core.List.{List}
 use lib.ListN.{drop}

@@ -41,6 +41,8 @@ pub record Chunks : Type 0 where
   -- the transfer, file and ledgers that are kept are the definition's
   pub kept-is : (k : Kept) (cs : List (List ℕ)) (w : World) → Begun k → Counted (joined cs) → after (joined cs) .left .running ≡ transferring w
       → worldOn (deskOf (feeds k cs .1)) ≡ w
+  -- nothing more is read exactly where the definition has stopped
+  pub stops-is : (k : Kept) (cs : List (List ℕ)) → Begun k → Counted (joined cs) → feeds k cs .1 .session .stopped ≡ after (joined cs) .stopped
   -- what is held between chunks is shorter than the longest record that can be well-formed
   pub held-few : (k : Kept) (cs : List (List ℕ)) → Begun k → feeds k cs .1 .session .held < 4 + 16387
   -- a further chunk is refused only where fewer bytes are lent than 192 and 16 for each of its own

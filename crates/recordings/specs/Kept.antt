@@ -69,7 +69,7 @@ deskTurn d (starts F R) = prints (lineOf (startedNight F R)) (putWorld d (starte
 deskTurn d (piece c bytes) = cond (d .progress .started) (deskAnswer d (length bytes) (receiveOf (worldOn d) c bytes)) stops
 deskTurn d malformed = stops
 
--- the reader that is proved of the code
+-- the reader that the code is proved to be
 abbrev pub library : Reader Desk
 library = record { turn = λ d bytes. deskTurn d (requestOf bytes); number = λ d. d .progress .number }
 
@@ -101,7 +101,7 @@ heldLimit = fieldLength + recordLimit
 unfoldable pub unfinished : Kept → List ℕ
 unfinished k = take (k .session .held) (k .held)
 
--- they are none, or one record's first bytes
+-- bytes that are none, or the beginning of one record that is not whole
 unfoldable pub isUnfinished : List ℕ → Bool
 isUnfinished bytes = elim (firstRecord recordLimit bytes) [ Nothing ↦ true | Cut ↦ true | TooLong ↦ false | Whole n ↦ false ]
 
@@ -121,11 +121,12 @@ feed k chunk =
     let r = read library (deskOf k) (unfinished k ++ chunk) in
     cond (k .session .stopped) ([], k) (r .text, leaves r)
 
--- the lent bytes that are enough for what a chunk of n bytes prints: 96 for each record, all but the first of which have six bytes of the chunk or more
+-- the lent bytes that are enough for what a chunk of n bytes prints: no record prints more than 96, and all have six bytes of the chunk or more but
+-- the first, of which bytes may be held, and the last, which may be malformed
 abbrev pub feedRoom : ℕ → ℕ
 feedRoom n = 192 + 16 * n
 
--- 1: the held bytes are not those of one record; 55: the lent bytes are too few; 0 where the chunk is taken
+-- 1: the held bytes are not the beginning of one record that is not whole; 55: the lent bytes are too few; 0 where the chunk is taken
 unfoldable pub feedRefusal : Kept → List ℕ → List ℕ → ℕ
 feedRefusal k chunk out = cond (isUnfinished (unfinished k)) (roomRefusal (feedRoom (length chunk)) out) 1
 

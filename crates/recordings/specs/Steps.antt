@@ -12,7 +12,7 @@ use Rattle.nights.specs.Lines.{recordLine}
 use Rattle.nights.specs.Reading.{Turn, prints, stops, Reading, stopsAt, printedBefore, read}
 use Rattle.recordings.specs.Kept.{WritesFront, Desk, Kept, deskOf, heldLimit, unfinished, isUnfinished, library}
 
--- the most bytes that a record prints
+-- no record prints more bytes
 abbrev pub textLimit : ℕ
 textLimit = 96
 
@@ -53,7 +53,7 @@ afterLook p true used waiting = record { progress = p; held = 0; stopped = true 
 afterLook p false zero waiting = record { progress = p; held = waiting; stopped = false }
 afterLook p false (suc u) waiting = record { progress = p; held = 0; stopped = false }
 
--- the held bytes are one record's first, or none, and those that are lent have room for it
+-- the held bytes are none, or the beginning of one record that is not whole, and what is lent has its length
 pub record Holds (k : Kept) : Type 0 where
   pub ours : isUnfinished (unfinished k) ≡ true
   pub below : k .session .held < heldLimit

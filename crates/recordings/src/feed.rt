@@ -22,12 +22,13 @@ pub struct Fed {
     pub answer: Written,
 }
 
-// For what the first record prints, and for each byte of a chunk.
+// For the chunk's first record and for a malformed last one.
 const ROOM: usize = 192;
 
+// For each byte of the chunk: a record prints no more than 96, and all but these two have six bytes of the chunk or more.
 const ROOM_PER_BYTE: usize = 16;
 
-// Whether the held bytes are none, or one record's first.
+// Whether the held bytes are none, or the beginning of one record that is not whole.
 fn is_unfinished(bytes: &[u8]) -> bool
     ensures { λ r. ⌜ r ≡ isUnfinished (now (bytes .entry)) ⌝ }
 {
@@ -121,8 +122,9 @@ fn take_and_clear(
     taken
 }
 
-// Takes a chunk, of any length, and writes what its records print to the front of the lent bytes. 1 where the held bytes are not those of one
-// record, 55 where fewer bytes are lent than 192 and 16 for each of the chunk: nothing changes. After a malformed record nothing is read.
+// Takes a chunk, of any length, and writes what its records print to the front of the lent bytes. 1 where the held bytes are not the beginning of
+// one record that is not whole, 55 where fewer bytes are lent than 192 and 16 for each of the chunk; nothing changes then. After a malformed record
+// nothing is read.
 pub fn feed(
     session: Session,
     chunk: &[u8],

@@ -8,7 +8,7 @@ ghost use lib.ListN.{length};
 ghost use Rattle.answers.specs.Written.{roomRefusal, writtenBy, writtenAfter};
 ghost use Rattle.recordings.specs.Kept.{finishText};
 
-// Writes what the end of the input adds to the front of the lent bytes: RECORD and its number where a record is not whole. 55 where they are too few.
+// Writes to the front of the lent bytes what the end of the input adds: RECORD and its number where a record is not whole. 55 where they are too few.
 pub fn finish(session: Session, out: &mut [u8]) -> Written
     ensures { λ r. ⌜ (r ≡ writtenBy (roomRefusal (length (finishText session)) (now (out .entry))) (length (finishText session))) × (now (out .exit) ≡ writtenAfter (roomRefusal (length (finishText session)) (now (out .entry))) (finishText session) (now (out .entry))) ⌝ }
 {

@@ -19,7 +19,7 @@ pub struct Stepped {
     pub written: usize,
 }
 
-// After a look at bytes of which `waiting` are held where the record is not whole; `taken` of them are the chunk's.
+// What a look leads to: where the record is not whole, so many bytes are held as `waiting` says. The chunk gave `taken` of them.
 fn after_look(looked: Looked, waiting: usize, taken: usize) -> Stepped
     ensures { λ r. ⌜ (r .session ≡ afterLook (looked .progress) (looked .stops) (looked .used) waiting) × (r .taken ≡ taken) × (r .written ≡ looked .written) ⌝ }
 {
@@ -65,7 +65,7 @@ fn step_chunk(
     after_look(looked, n, n)
 }
 
-// Where a record has begun: what it lacks, as far as that is known and there.
+// Where a record has begun: the bytes that it lacks, as far as its length is known and the chunk has them.
 fn step_held(
     s: Session,
     chunk: &[u8],

@@ -12,10 +12,11 @@ ghost use lib.ListN.{length};
 // More reads than any night has; a proved loop has to end.
 const READS: u64 = 18446744073709551615;
 
-// The session as a chunk left it, and whether more is to be read.
+// The session as a chunk left it, whether more is to be read, and whether all lines so far could be written.
 struct Turn {
     session: Session,
     goes_on: bool,
+    printed: bool,
 }
 
 // Whether all of it could be written.
@@ -46,6 +47,7 @@ fn one_chunk(
         return Turn {
             session: s,
             goes_on: false,
+            printed: true,
         };
     }
     let fed = feed::feed(s, &chunk[..n], held, file, claimed, doubtful, out);
@@ -55,6 +57,7 @@ fn one_chunk(
     Turn {
         session: next,
         goes_on: printed && !next.stopped,
+        printed: printed,
     }
 }
 
@@ -65,18 +68,22 @@ fn run(
     claimed: &mut [u64; 512],
     doubtful: &mut [u64; 512],
     out: &mut [u8],
-) -> Session {
+) -> Turn {
     let mut s = session::begin();
     let mut reads: u64 = 0;
     while reads < READS {
         let turn = one_chunk(s, chunk, held, file, claimed, doubtful, out);
-        s = turn.session;
         if !turn.goes_on {
-            return s;
+            return turn;
         }
+        s = turn.session;
         reads += 1;
     }
-    s
+    Turn {
+        session: s,
+        goes_on: false,
+        printed: true,
+    }
 }
 
 // As much as is read at once.
@@ -100,7 +107,7 @@ fn main() {
     let mut claimed = [0u64; 512];
     let mut doubtful = [0u64; 512];
     let mut out = line_space();
-    let s = run(
+    let last = run(
         &mut chunk,
         &mut held,
         &mut file,
@@ -108,5 +115,8 @@ fn main() {
         &mut doubtful,
         &mut out,
     );
-    print(finish::finish(s, &mut out), &out);
+    if last.printed {
+        let s = last.session;
+        print(finish::finish(s, &mut out), &out);
+    }
 }

@@ -14,8 +14,8 @@ pub enum Request<'a> {
     Piece { channel: u64, bytes: &'a [u8] },
 }
 
-/// The requests of a recording; none where one of them is cut short, has another kind or body, or exceeds a limit, or
-/// where the first is a piece.
+/// The requests of a recording; none where one of them is cut short, has another kind or a wrong body length, or exceeds
+/// a limit, or where the first is a piece.
 pub fn requests(mut bytes: &[u8]) -> Option<Vec<Request<'_>>> {
     let mut requests = Vec::new();
     while !bytes.is_empty() {

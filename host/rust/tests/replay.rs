@@ -40,10 +40,11 @@ use std::fs;
 use std::thread;
 use std::time::Duration;
 
-/// Of one long recording each, and two that are damaged.
+/// Each has one long recording and two short, damaged ones.
 const ROUNDS: u64 = 200;
 
-/// Between two parts, so that the program mostly reads the first of them alone. Nothing depends on it.
+/// Between two parts, so that the program mostly reads the first of them alone, and a line that comes early is mostly
+/// seen. A right program passes whatever its length.
 const PAUSE: Duration = Duration::from_millis(2);
 
 /// Holds both sides to what is expected of a recording. The program gets it cut at the places named, each part when all
@@ -54,8 +55,10 @@ fn compare(recording: &[u8], cuts: &[usize], expected: &[u8]) {
     let mut fed = 0;
     for &cut in cuts {
         program.feed(&recording[fed..cut]);
-        program.has_printed(&so_far(&recording[..cut]));
+        let text = so_far(&recording[..cut]);
+        program.has_printed(&text);
         thread::sleep(PAUSE);
+        program.has_printed_no_more(&text);
         fed = cut;
     }
     program.feed(&recording[fed..]);

@@ -6,7 +6,7 @@ use super::records::{piece, record, start, start_body, MOST_FILE, MOST_PAIRS, PI
 use super::second::replay::replay;
 use super::sending::block;
 
-/// Malformed records, none with more bytes than it needs.
+/// Malformed records; two have bytes behind the length that decides.
 fn tails() -> Vec<Vec<u8>> {
     vec![
         vec![24, 0, 0],

@@ -51,12 +51,20 @@ impl Program {
         assert_same(&self.printed[..length], text);
     }
 
+    /// Compares all that has come by now: nothing may be printed early.
+    pub fn has_printed_no_more(&mut self, text: &[u8]) {
+        while let Ok(bytes) = self.output.try_recv() {
+            self.printed.extend(bytes);
+        }
+        assert_same(&self.printed, text);
+    }
+
     /// Ends the input. Answers all that was printed.
     pub fn end(mut self) -> Vec<u8> {
         self.input = None;
         while self.hear() {}
         let status = self.child.wait().unwrap();
-        assert!(status.code().is_some(), "the program broke off: {status}");
+        assert!(status.success(), "the program broke off: {status}");
         mem::take(&mut self.printed)
     }
 
