@@ -23,7 +23,7 @@ use Rattle.transfer.proofs.EachCall.{each-call}
 use Rattle.transfer.proofs.Fitting.{fitting}
 use Rattle.nights.specs.Request.{fileLimit, pairLimit, Request, starts, piece, malformed, requestOf}
 use Rattle.nights.specs.Reading.{Turn, prints, stops, Reading}
-use Rattle.nights.specs.Night.{Running, none, transferring, Night, startedNight, leads, answerPiece, turnOf, night, dusk, after}
+use Rattle.nights.specs.Night.{Running, none, transferring, Night, startedNight, leads, answerPiece, turnOf, night, beforeFirst, after}
 use Rattle.nights.proofs.Reading.{Reads, reads-nothing, reads-cut, reads-long, reads-malformed, reads-on, read-reads}
 use Rattle.nights.proofs.Requests.{request-short, Within, request-within}
 
@@ -79,7 +79,7 @@ reads-few (reads-on s v bytes text n r q e t) =
     omega (arith, m, reads-few t, turnOf-six (s .number) (s .running) one text v e, length-take n bytes, length-drop n bytes)
 
 pub numbers-few : (bytes : List ℕ) → 6 * after bytes .left .number ≤ length bytes
-numbers-few bytes = omega (arith, reads-few (read-reads night dusk bytes))
+numbers-few bytes = omega (arith, reads-few (read-reads night beforeFirst bytes))
 
 -- ---- the transfer that is running
 
@@ -123,7 +123,7 @@ reads-reached (reads-on s v bytes text n r q e t) h =
     reads-reached t (rw e at (turn-leads (s .number) (s .running) (requestOf one) h (request-within one)))
 
 pub running-reached : (bytes : List ℕ) → Reached (after bytes .left .running)
-running-reached bytes = reads-reached (read-reads night dusk bytes) not-started
+running-reached bytes = reads-reached (read-reads night beforeFirst bytes) not-started
 
 -- ---- a transfer that was reached
 

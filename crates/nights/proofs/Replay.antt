@@ -1,14 +1,15 @@
 -- `Replay` holds.
-use Prim.Native.Nat.{ℕ, suc, _*_, _/_, _≤_}
+use Prim.Native.Nat.{ℕ, suc, _+_, _*_, _/_, _≤_}
 use mathlib.Core.Path.{_≡_, refl, sym, ap, _∙_, subst}
 use mathlib.Core.Bool.{true, and-eq-true-iff}
-use mathlib.Core.List.{List, [], _++_, append-nil}
+use mathlib.Core.List.{List, [], _∷_, _++_, append-nil}
 use native.Mathlib.Omega.{arith}
 use lib.Dec.{eqb}
 use lib.ListN.{length, replicate, length-replicate}
 use lib.Seq.{take-length, drop-length}
 use Rattle.answers.proofs.WrittenBy.{room-enough}
-use Rattle.frames.specs.Frame.{firstRecord}
+use Rattle.octets.specs.Digits.{toLittleEndian}
+use Rattle.frames.specs.Frame.{framed, firstRecord}
 use Rattle.frames.specs.declared.frame.First.the-variants.{Whole}
 use Rattle.frames.proofs.FirstRecord.{first-cut}
 use Rattle.transfer.specs.Transfer.{World, fresh}
@@ -23,12 +24,12 @@ use Rattle.screen.proofs.ScreenRows.{screen-rows}
 use Rattle.nights.specs.Request.{pairLimit, pieceLimit, recordLimit, requestOf}
 use Rattle.nights.specs.Lines.{recordLine, refusedWord, numberLine, pieceText}
 use Rattle.nights.specs.Reading.{Reading, waits, stopsAt, printedBefore, read}
-use Rattle.nights.specs.Night.{transferring, Night, startedNight, leads, answerPiece, turnOf, night, dusk, after, soFar, printed}
+use Rattle.nights.specs.Night.{transferring, Night, startedNight, leads, answerPiece, turnOf, night, beforeFirst, after, soFar, printed}
 use Rattle.nights.specs.Replay.{startRecord, pieceRecord, runningAfter, numberAfter, Open, Prints, Malformed, IsCut, Replay, StartWithin}
 use Rattle.nights.proofs.Reading.{read-none, read-cut, read-prints, read-append}
 use Rattle.nights.proofs.Lines.{pieceText-whole, pieceText-left, pieceText-refused}
-use Rattle.nights.proofs.RequestWritten.{first-startRecord, request-startRecord, first-pieceRecord, request-pieceRecord}
-use Rattle.nights.proofs.Night.{numbers-few, Reached, running-reached, reached-fits, reached-refuses, reached-stays}
+use Rattle.nights.proofs.RequestWritten.{length-startBody, first-startRecord, request-startRecord, first-pieceRecord, request-pieceRecord}
+use Rattle.nights.proofs.Night.{Reached, running-reached, reached-fits, reached-refuses, reached-stays}
 use Rattle.nights.proofs.ReadingEnd.{endLine, endLine-some, endText-line}
 use Rattle.nights.proofs.ReplayMalformed.{first-is-cut, malformed-read}
 use Rattle.nights.proofs.ReplayRecords.{all-records, all-bytes}
@@ -49,7 +50,7 @@ module _ (bytes : List ℕ) (r : Reading Night) (e : after bytes ≡ r) where
 module _ (bytes : List ℕ) (opened : Open bytes) where
   after-open : (more : List ℕ) → after (bytes ++ more) ≡ printedBefore (soFar bytes) (read night (after bytes .left) more)
   unfolding soFar
-  after-open more = read-append night dusk bytes more ∙ rw (opened .0, opened .1)
+  after-open more = read-append night beforeFirst bytes more ∙ rw (opened .0, opened .1)
 
   -- one more record that is whole and not malformed
   prints-record : (r text : List ℕ) (w : World) → firstRecord recordLimit r ≡ Whole (length r)
@@ -132,13 +133,38 @@ start-zeroes : (F R : ℕ) → StartWithin F R
 unfolding startedNight startedWorld
 start-zeroes F R h = let s = start-leaves F R (h .1) in (rw (length-replicate {A = ℕ} F 0) (s .1), refl, s .2, s .3)
 
+-- ---- the two kinds of record, written
+
+start-front : (body : List ℕ) → toLittleEndian 256 4 18 ++ (toLittleEndian 256 2 16 ++ body) ≡ 18 ∷ 0 ∷ 0 ∷ 0 ∷ 16 ∷ 0 ∷ body
+unfolding toLittleEndian
+start-front body = refl
+
+piece-front : (body : List ℕ) → toLittleEndian 256 2 17 ++ body ≡ 17 ∷ 0 ∷ body
+unfolding toLittleEndian
+piece-front body = refl
+
+start-record : (F R : ℕ) → startRecord F R ≡ 18 ∷ 0 ∷ 0 ∷ 0 ∷ 16 ∷ 0 ∷ (toLittleEndian 256 8 F ++ toLittleEndian 256 8 R)
+unfolding framed
+start-record F R =
+    let body = toLittleEndian 256 8 F ++ toLittleEndian 256 8 R in
+    ap (λ n. toLittleEndian 256 4 (2 + n) ++ (toLittleEndian 256 2 16 ++ body)) (length-startBody F R) ∙ start-front body
+
+piece-record : (c : ℕ) (piece : List ℕ) → pieceRecord c piece ≡ toLittleEndian 256 4 (3 + length piece) ++ (17 ∷ 0 ∷ c ∷ piece)
+unfolding framed
+piece-record c piece =
+    let n : 2 + length (c ∷ piece) ≡ 3 + length piece = omega arith in
+    ap (λ m. toLittleEndian 256 4 m ++ (toLittleEndian 256 2 17 ++ (c ∷ piece))) n ∙ ap (λ k. toLittleEndian 256 4 (3 + length piece) ++ k) (piece-front (c ∷ piece))
+
 pub replay : Replay
-unfolding numberLine lineFeed
+unfolding numberLine lineFeed framed toLittleEndian
 replay =
     record {
       first =
-          let e = read-none night dusk in
+          let e = read-none night beforeFirst in
           (ap (λ x. x .left .number) e, ap (λ x. x .left .running) e, (ap (λ x. x .stopped) e, ap (λ x. x .rest) e), printed-by [] _ e [] refl);
+      start-record = start-record;
+      piece-record = piece-record;
+      start-example = refl;
       start-prints = start-prints;
       piece-prints = λ bytes piece w v c o running h e. piece-prints bytes piece _ w v c _ o running (h .1) e (pieceText-whole v (length piece));
       refused-prints = λ bytes piece w v c k o running h e.
@@ -150,7 +176,6 @@ replay =
       ends = printed-whole;
       all-records = all-records;
       all-bytes = all-bytes;
-      numbers-few = numbers-few;
       start-zeroes = start-zeroes;
       record-line = λ k. refl;
       refused-line = λ k. refl;

@@ -26,10 +26,10 @@ module _ (kind : ℕ) (body : List ℕ) where
   framed-whole k h = ap (firstRecord recordLimit) (sym (append-nil (framed kind body))) ∙ first-framed recordLimit kind body [] k (omega arith) h ∙ ap Whole (sym (length-framed kind body))
 
 module _ (F R : ℕ) where
-  abbrev startBody : List ℕ
+  abbrev pub startBody : List ℕ
   startBody = toLittleEndian 256 8 F ++ toLittleEndian 256 8 R
 
-  length-startBody : length startBody ≡ startLength
+  pub length-startBody : length startBody ≡ startLength
   length-startBody = length-append (toLittleEndian 256 8 F) (toLittleEndian 256 8 R) ∙ rw (length-toLittle 256 8 F, length-toLittle 256 8 R)
 
   pub first-startRecord : firstRecord recordLimit (startRecord F R) ≡ Whole (length (startRecord F R))

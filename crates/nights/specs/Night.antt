@@ -44,12 +44,12 @@ abbrev pub night : Reader Night
 night = record { turn = λ s bytes. turnOf (s .number) (s .running) (requestOf bytes); number = λ s. s .number }
 
 -- before the first record
-abbrev pub dusk : Night
-dusk = record { number = 0; running = none }
+abbrev pub beforeFirst : Night
+beforeFirst = record { number = 0; running = none }
 
 -- what these bytes lead to
 abbrev pub after : List ℕ → Reading Night
-after bytes = read night dusk bytes
+after bytes = read night beforeFirst bytes
 
 -- ---- the printed lines
 

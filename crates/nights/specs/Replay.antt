@@ -89,6 +89,12 @@ pub data WellFormed : Running → List ℕ → Type 0 where
 pub record Replay : Type 0 where
   -- the first record's number is 0, and an empty recording prints nothing
   pub first : (numberAfter [] ≡ 0) × (runningAfter [] ≡ none) × Open [] × (printed [] ≡ [])
+  -- "framed as the saved ledger is", "Kind 16 .. file length and pair count, eight bytes each": how many bytes follow, the kind, the body
+  pub start-record : (F R : ℕ) → startRecord F R ≡ 18 ∷ 0 ∷ 0 ∷ 0 ∷ 16 ∷ 0 ∷ (toLittleEndian 256 8 F ++ toLittleEndian 256 8 R)
+  -- "Kind 17 is a piece: one channel byte, then the bytes"
+  pub piece-record : (c : ℕ) (piece : List ℕ) → pieceRecord c piece ≡ toLittleEndian 256 4 (3 + length piece) ++ (17 ∷ 0 ∷ c ∷ piece)
+  -- 8 file bytes and one pair
+  pub start-example : startRecord 8 1 ≡ 18 ∷ 0 ∷ 0 ∷ 0 ∷ 16 ∷ 0 ∷ 8 ∷ 0 ∷ 0 ∷ 0 ∷ 0 ∷ 0 ∷ 0 ∷ 0 ∷ 1 ∷ 0 ∷ 0 ∷ 0 ∷ 0 ∷ 0 ∷ 0 ∷ 0 ∷ []
   -- "prints the screen line after every record": a start, and a piece that is wholly taken
   pub start-prints : (bytes : List ℕ) (F R : ℕ) → Open bytes → StartWithin F R
       → Prints bytes (startRecord F R) (lineOf (startedNight F R)) (startedNight F R)
@@ -110,8 +116,6 @@ pub record Replay : Type 0 where
   -- every other record is a start or a piece; and bytes are none, cut, too long, or begin with a whole record
   pub all-records : (s : Running) (r : List ℕ) → AllBelow 256 r → IsWhole r → Malformed s r ⊎ WellFormed s r
   pub all-bytes : (r : List ℕ) → (length r ≡ 0) ⊎ IsCut r ⊎ ((4 ≤ length r) × (16387 < lengthField r)) ⊎ ((4 ≤ length r) × (4 + lengthField r ≤ length r) × (lengthField r ≤ 16387))
-  -- one that is not malformed has six bytes or more
-  pub numbers-few : (bytes : List ℕ) → 6 * numberAfter bytes ≤ length bytes
   -- "Each start zeroes the file", and gives ledgers of the pair count
   pub start-zeroes : (F R : ℕ) → StartWithin F R
       → (startedNight F R .t ≡ fresh F R) × (startedNight F R .lent .file ≡ replicate F 0)

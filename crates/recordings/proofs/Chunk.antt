@@ -19,7 +19,7 @@ use Rattle.recordings.specs.declared.session.Session.{Session}
 use Rattle.nights.specs.Request.{recordLimit}
 use Rattle.nights.specs.Lines.{recordLine}
 use Rattle.nights.specs.Reading.{printedBefore, read}
-use Rattle.recordings.specs.Kept.{Kept, kept, desk, deskOf, heldLimit, unfinished, isUnfinished, library}
+use Rattle.recordings.specs.Kept.{Kept, kept, replayState, replayStateOf, heldLimit, unfinished, isUnfinished, library}
 use Rattle.recordings.specs.Steps.{Looks, halted, goOn, afterLook, Holds, Steps}
 use Rattle.recordings.proofs.Unfinished.{unfinished-none}
 
@@ -84,16 +84,16 @@ unfolding unfinished
 none-held k z = rw z
 
 module _ (k : Kept) (bytes : List ℕ) where
-  pub goOn-reads : k .session .stopped ≡ false → goOn k bytes ≡ read library (deskOf k) (unfinished k ++ bytes)
+  pub goOn-reads : k .session .stopped ≡ false → goOn k bytes ≡ read library (replayStateOf k) (unfinished k ++ bytes)
   unfolding goOn
-  goOn-reads e = ap (λ b. cond b (halted (deskOf k)) (read library (deskOf k) (unfinished k ++ bytes))) e
+  goOn-reads e = ap (λ b. cond b (halted (replayStateOf k)) (read library (replayStateOf k) (unfinished k ++ bytes))) e
 
-  goOn-none : k .session .stopped ≡ false → k .session .held ≡ 0 → goOn k bytes ≡ read library (deskOf k) bytes
-  goOn-none e z = goOn-reads e ∙ ap (λ u. read library (deskOf k) (u ++ bytes)) (none-held k z)
+  goOn-none : k .session .stopped ≡ false → k .session .held ≡ 0 → goOn k bytes ≡ read library (replayStateOf k) bytes
+  goOn-none e z = goOn-reads e ∙ ap (λ u. read library (replayStateOf k) (u ++ bytes)) (none-held k z)
 
-  pub goOn-halted : k .session .stopped ≡ true → goOn k bytes ≡ halted (deskOf k)
+  pub goOn-halted : k .session .stopped ≡ true → goOn k bytes ≡ halted (replayStateOf k)
   unfolding goOn
-  goOn-halted e = ap (λ b. cond b (halted (deskOf k)) (read library (deskOf k) (unfinished k ++ bytes))) e
+  goOn-halted e = ap (λ b. cond b (halted (replayStateOf k)) (read library (replayStateOf k) (unfinished k ++ bytes))) e
 
 -- ---- from a look to a step
 
@@ -107,16 +107,16 @@ module _ (s : Session) (h f c d chunk : List ℕ) (p : Progress) (h′ f′ c′
   abbrev later : Bool → ℕ → Kept
   later stops used = kept (afterLook p stops used waiting) h′ f′ c′ d′
 
-  begins : goOn before chunk ≡ read library (deskOf before) (bytes ++ more)
-  begins = goOn-reads before chunk reads-on ∙ ap (read library (deskOf before)) (unfold unfinished in same)
+  begins : goOn before chunk ≡ read library (replayStateOf before) (bytes ++ more)
+  begins = goOn-reads before chunk reads-on ∙ ap (read library (replayStateOf before)) (unfold unfinished in same)
 
   -- what a look that waits has to hold, and where one that goes on has to end
-  pub look-steps : (stops : Bool) (used : ℕ) → Looks stops used (deskOf before) bytes out n (desk p f′ c′ d′) after
+  pub look-steps : (stops : Bool) (used : ℕ) → Looks stops used (replayStateOf before) bytes out n (replayState p f′ c′ d′) after
       → (isUnfinished bytes ≡ true → (waiting ≡ length bytes) × (take waiting h′ ≡ bytes) × (drop taken chunk ≡ more) × (s .held ≡ 0 → taken ≡ length chunk))
       → (6 ≤ used → used ≤ length bytes → used ≡ recordLength bytes → (drop used bytes ++ more ≡ drop taken chunk) × (s .held ≡ 0 → 6 ≤ taken))
       → Steps before (later stops used) chunk out taken n after
   look-steps true used k w g =
-      let e : goOn (later true used) (drop taken chunk) ≡ halted (deskOf before) =
+      let e : goOn (later true used) (drop taken chunk) ≡ halted (replayStateOf before) =
       goOn-halted (later true used) (drop taken chunk) refl ∙ ap halted (k .1) in
       record {
         text = recordLine (s .progress .number);
@@ -130,7 +130,7 @@ module _ (s : Session) (h f c d chunk : List ℕ) (p : Progress) (h′ f′ c′
       }
   look-steps false zero k w g =
       let x = w (k .0) in
-      let e : goOn (later false 0) (drop taken chunk) ≡ read library (deskOf before) (bytes ++ more) =
+      let e : goOn (later false 0) (drop taken chunk) ≡ read library (replayStateOf before) (bytes ++ more) =
       goOn-reads (later false 0) (drop taken chunk) refl ∙ (unfold unfinished in rw (x .1, x .2, k .1) refl) in
       record {
         text = [];
@@ -153,8 +153,8 @@ module _ (s : Session) (h f c d chunk : List ℕ) (p : Progress) (h′ f′ c′
       }
   look-steps false (suc u) k w g =
       let x = g (k .1) (k .2) (k .3) in
-      let e : goOn (later false (suc u)) (drop taken chunk) ≡ read library (desk p f′ c′ d′) (drop (suc u) bytes ++ more) =
-      goOn-none (later false (suc u)) (drop taken chunk) refl refl ∙ ap (read library (desk p f′ c′ d′)) (sym (x .0)) in
+      let e : goOn (later false (suc u)) (drop taken chunk) ≡ read library (replayState p f′ c′ d′) (drop (suc u) bytes ++ more) =
+      goOn-none (later false (suc u)) (drop taken chunk) refl refl ∙ ap (read library (replayState p f′ c′ d′)) (sym (x .0)) in
       record {
         text = k .0;
         writes = k .4;
@@ -173,7 +173,7 @@ module _ (s : Session) (h f c d chunk : List ℕ) (p : Progress) (out after : Li
   abbrev same-chunk : take (s .held) h ++ chunk ≡ chunk ++ []
   same-chunk = rw (none, append-nil chunk)
 
-  pub chunk-answered : (f′ c′ d′ : List ℕ) → Lengths h f′ c′ d′ → (stops : Bool) (used : ℕ) → 0 < used → Looks stops used (desk (s .progress) f c d) chunk out n (desk p f′ c′ d′) after
+  pub chunk-answered : (f′ c′ d′ : List ℕ) → Lengths h f′ c′ d′ → (stops : Bool) (used : ℕ) → 0 < used → Looks stops used (replayState (s .progress) f c d) chunk out n (replayState p f′ c′ d′) after
       → Steps (kept s h f c d) (kept (afterLook p stops used 0) h f′ c′ d′) chunk out used n after
   chunk-answered f′ c′ d′ l true used z k = absurd (omega (arith, k .0, z))
   chunk-answered f′ c′ d′ l false zero z k = absurd (omega (arith, z))
@@ -187,7 +187,7 @@ module _ (s : Session) (h f c d chunk : List ℕ) (p : Progress) (out after : Li
 
   -- all of it is held
   pub chunk-held : (h′ f′ c′ d′ : List ℕ) → Lengths h′ f′ c′ d′ → length h ≡ heldLimit → h′ ≡ stored 0 (length chunk) chunk h → (stops : Bool)
-      → Looks stops 0 (desk (s .progress) f c d) chunk out n (desk p f′ c′ d′) after
+      → Looks stops 0 (replayState (s .progress) f c d) chunk out n (replayState p f′ c′ d′) after
       → Steps (kept s h f c d) (kept (afterLook p stops 0 (length chunk)) h′ f′ c′ d′) chunk out (length chunk) n after
   chunk-held h′ f′ c′ d′ l lh e stops k =
       let most : length chunk ≤ length chunk = omega arith in
@@ -204,7 +204,7 @@ module _ (s : Session) (h f c d chunk : List ℕ) (p : Progress) (out after : Li
 
 pub held-step : (s : Session) (h f c d chunk : List ℕ) (p : Progress) (h′ f′ c′ d′ out after : List ℕ) (n m : ℕ) (stops : Bool) (used : ℕ) → s .stopped ≡ false → 0 < s .held
     → Holds (kept s h f c d) → 0 < length chunk → m ≡ min (recordLength (take (s .held) h) - s .held) (length chunk) → h′ ≡ stored (s .held) m chunk h → Lengths h′ f′ c′ d′
-    → Looks stops used (desk (s .progress) f c d) (take (s .held + m) h′) out n (desk p f′ c′ d′) after
+    → Looks stops used (replayState (s .progress) f c d) (take (s .held + m) h′) out n (replayState p f′ c′ d′) after
     → Steps (kept s h f c d) (kept (afterLook p stops used (s .held + m)) h′ f′ c′ d′) chunk out m n after
 held-step s h f c d chunk p h′ f′ c′ d′ out after n m stops used reads-on begun holds some e stored-is l k =
     look-steps s h f c d chunk p h′ f′ c′ d′ (take (s .held + m) h′) (drop m chunk) out after (s .held + m) m n reads-on whole l

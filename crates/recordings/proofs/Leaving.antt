@@ -13,14 +13,14 @@ use Rattle.frames.proofs.FirstRecord.{first-nothing}
 use Rattle.recordings.specs.declared.session.Session.{Session}
 use Rattle.nights.specs.Request.{recordLimit}
 use Rattle.nights.specs.Reading.{Reading, waits, printedBefore, read}
-use Rattle.recordings.specs.Kept.{Desk, Kept, kept, deskOf, heldLimit, unfinished, isUnfinished, library, leaves, feed, feedText}
+use Rattle.recordings.specs.Kept.{ReplayState, Kept, kept, replayStateOf, heldLimit, unfinished, isUnfinished, library, leaves, feed, feedText}
 use Rattle.recordings.specs.Steps.{halted, goOn, Holds, Reads}
 use Rattle.nights.proofs.Reading.{read-nothing, read-cut}
 use Rattle.recordings.proofs.Fronts.{rest-is}
 use Rattle.recordings.proofs.Chunk.{none-held, goOn-reads, goOn-halted}
 
 -- bytes that are not whole wait
-read-unfinished : (d : Desk) (u : List ℕ) → isUnfinished u ≡ true → read library d u ≡ waits d u
+read-unfinished : (d : ReplayState) (u : List ℕ) → isUnfinished u ≡ true → read library d u ≡ waits d u
 unfolding isUnfinished
 read-unfinished d u h = go (firstRecord recordLimit u) refl
   where
@@ -40,17 +40,17 @@ session-is : (s : Session) (h : ℕ) (b : Bool) → s .held ≡ h → s .stopped
 session-is s h b e f = ap (λ (x : ℕ). record { progress = s .progress; held = x; stopped = b }) (sym e) ∙ ap (λ (x : Bool). record { progress = s .progress; held = s .held; stopped = x }) (sym f)
 
 -- a reading that was at an end, or waits, leaves what is kept
-leaves-kept : (m : Kept) (r : Reading Desk) → r .left ≡ deskOf m → r .rest ≡ unfinished m → m .session .held ≡ length (r .rest) → m .session .stopped ≡ r .stopped → leaves r ≡ cleared m
+leaves-kept : (m : Kept) (r : Reading ReplayState) → r .left ≡ replayStateOf m → r .rest ≡ unfinished m → m .session .held ≡ length (r .rest) → m .session .stopped ≡ r .stopped → leaves r ≡ cleared m
 unfolding leaves
 leaves-kept m r l u h b =
-    ap (λ (d : Desk). kept (record { progress = d .progress; held = length (r .rest); stopped = r .stopped }) (r .rest ++ replicate (heldLimit - length (r .rest)) 0) (d .file) (d .claimed) (d .doubtful)) l
+    ap (λ (d : ReplayState). kept (record { progress = d .progress; held = length (r .rest); stopped = r .stopped }) (r .rest ++ replicate (heldLimit - length (r .rest)) 0) (d .file) (d .claimed) (d .doubtful)) l
     ∙ ap (λ (s : Session). kept s (r .rest ++ replicate (heldLimit - length (r .rest)) 0) (m .file) (m .claimed) (m .doubtful)) (session-is (m .session) (length (r .rest)) (r .stopped) h b)
     ∙ ap (λ n. kept (m .session) (r .rest ++ replicate (heldLimit - n) 0) (m .file) (m .claimed) (m .doubtful)) (sym h)
     ∙ ap (λ x. kept (m .session) (x ++ replicate (heldLimit - m .session .held) 0) (m .file) (m .claimed) (m .doubtful)) u
 
 module _ (k m : Kept) (chunk out : List ℕ) (n : ℕ) (after : List ℕ) (reads-on : k .session .stopped ≡ false) (t : Reads k m chunk out n after) where
-  abbrev all : Reading Desk
-  all = read library (deskOf k) (unfinished k ++ chunk)
+  abbrev all : Reading ReplayState
+  all = read library (replayStateOf k) (unfinished k ++ chunk)
 
   begins : all ≡ printedBefore (t .text) (goOn m [])
   begins = sym (goOn-reads k chunk reads-on) ∙ t .reading
@@ -59,18 +59,18 @@ module _ (k m : Kept) (chunk out : List ℕ) (n : ℕ) (after : List ℕ) (reads
   ends true b =
       let h = goOn-halted m [] b in
       let z = t .holds .halts b in
-      let e : all ≡ printedBefore (t .text) (halted (deskOf m)) = begins ∙ ap (printedBefore (t .text)) h in (
-        ap (λ (r : Reading Desk). r .text) e ∙ append-nil (t .text),
-        leaves-kept m all (ap (λ (r : Reading Desk). r .left) e) (ap (λ (r : Reading Desk). r .rest) e ∙ sym (none-held m z))
-            (z ∙ ap (λ (r : Reading Desk). length (r .rest)) (sym e)) (b ∙ ap (λ (r : Reading Desk). r .stopped) (sym e)),
+      let e : all ≡ printedBefore (t .text) (halted (replayStateOf m)) = begins ∙ ap (printedBefore (t .text)) h in (
+        ap (λ (r : Reading ReplayState). r .text) e ∙ append-nil (t .text),
+        leaves-kept m all (ap (λ (r : Reading ReplayState). r .left) e) (ap (λ (r : Reading ReplayState). r .rest) e ∙ sym (none-held m z))
+            (z ∙ ap (λ (r : Reading ReplayState). length (r .rest)) (sym e)) (b ∙ ap (λ (r : Reading ReplayState). r .stopped) (sym e)),
       )
   ends false b =
-      let h = goOn-reads m [] b ∙ ap (read library (deskOf m)) (append-nil (unfinished m)) ∙ read-unfinished (deskOf m) (unfinished m) (t .holds .ours) in
+      let h = goOn-reads m [] b ∙ ap (read library (replayStateOf m)) (append-nil (unfinished m)) ∙ read-unfinished (replayStateOf m) (unfinished m) (t .holds .ours) in
       let l : length (unfinished m) ≡ m .session .held = unfold unfinished in omega (arith, length-take (m .session .held) (m .held), t .holds .below, t .holds .held) in
-      let e : all ≡ printedBefore (t .text) (waits (deskOf m) (unfinished m)) = begins ∙ ap (printedBefore (t .text)) h in (
-        ap (λ (r : Reading Desk). r .text) e ∙ append-nil (t .text),
-        leaves-kept m all (ap (λ (r : Reading Desk). r .left) e) (ap (λ (r : Reading Desk). r .rest) e)
-            (sym l ∙ ap (λ (r : Reading Desk). length (r .rest)) (sym e)) (b ∙ ap (λ (r : Reading Desk). r .stopped) (sym e)),
+      let e : all ≡ printedBefore (t .text) (waits (replayStateOf m) (unfinished m)) = begins ∙ ap (printedBefore (t .text)) h in (
+        ap (λ (r : Reading ReplayState). r .text) e ∙ append-nil (t .text),
+        leaves-kept m all (ap (λ (r : Reading ReplayState). r .left) e) (ap (λ (r : Reading ReplayState). r .rest) e)
+            (sym l ∙ ap (λ (r : Reading ReplayState). length (r .rest)) (sym e)) (b ∙ ap (λ (r : Reading ReplayState). r .stopped) (sym e)),
       )
 
   pub reads-feed : (feedText k chunk ≡ t .text) × (feed k chunk .1 ≡ cleared m)

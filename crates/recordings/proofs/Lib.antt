@@ -2,7 +2,7 @@ pub mod Lines
 pub mod Fronts
 pub mod Turns
 pub mod Unfinished
-pub mod Desk
+pub mod Agreement
 pub mod Feeding
 pub mod Chunks
 pub mod Steps

@@ -14,7 +14,7 @@ use Rattle.frames.proofs.FirstRecord.{first-prefix-whole, first-prefix-long, fi
 use Rattle.nights.specs.Request.{recordLimit, requestOf}
 use Rattle.nights.specs.Lines.{recordLine}
 use Rattle.nights.specs.Reading.{Turn, prints, stops, stopsAt, printedBefore, read}
-use Rattle.recordings.specs.Kept.{Desk, isUnfinished, library, deskTurn}
+use Rattle.recordings.specs.Kept.{ReplayState, isUnfinished, library, libraryTurn}
 use Rattle.recordings.specs.Steps.{WritesText, Leads, Looks}
 use Rattle.nights.proofs.Requests.{request-short}
 use Rattle.nights.proofs.Reading.{read-prints, read-stops, read-long}
@@ -23,23 +23,23 @@ use Rattle.recordings.proofs.Unfinished.{unfinished-none, unfinished-cu
 -- ---- a record
 
 -- one that is not malformed has six bytes or more
-prints-six : (d v : Desk) (bytes text : List ℕ) → deskTurn d (requestOf bytes) ≡ prints text v → 6 ≤ length bytes
-unfolding deskTurn
+prints-six : (d v : ReplayState) (bytes text : List ℕ) → libraryTurn d (requestOf bytes) ≡ prints text v → 6 ≤ length bytes
+unfolding libraryTurn
 prints-six d v bytes text e = go (decLe 6 (length bytes))
   where
     go : Dec (6 ≤ length bytes) → 6 ≤ length bytes
     go (yes h) = h
     go (no h) =
         let r = request-short bytes (omega arith) in
-        let s : deskTurn d (requestOf bytes) ≡ stops = rw r in
+        let s : libraryTurn d (requestOf bytes) ≡ stops = rw r in
         let z : _≡_ {A = ℕ} 0 1 = cc (s, e) in absurd (omega (arith, z))
 
 -- what a turn that stopped was, and one that went on
-leads-stops : (x : Turn Desk) (d e : Desk) (out after : List ℕ) (n : ℕ) → Leads x d out true n e after → (x ≡ stops) × (e ≡ d) × (after ≡ out)
+leads-stops : (x : Turn ReplayState) (d e : ReplayState) (out after : List ℕ) (n : ℕ) → Leads x d out true n e after → (x ≡ stops) × (e ≡ d) × (after ≡ out)
 leads-stops (prints text v) d e out after n l = absurd (true≢false (l .0))
 leads-stops stops d e out after n l = (refl, l .1, l .2)
 
-leads-prints : (x : Turn Desk) (d e : Desk) (out after : List ℕ) (n : ℕ) → Leads x d out false n e after
+leads-prints : (x : Turn ReplayState) (d e : ReplayState) (out after : List ℕ) (n : ℕ) → Leads x d out false n e after
     → (text : List ℕ) × (x ≡ prints text e) × WritesText text out n after
 leads-prints (prints text v) d e out after n l = (text, ap (prints text) (sym (l .1)), l .2)
 leads-prints stops d e out after n l = absurd (false≢true (l .0))
@@ -57,7 +57,7 @@ is-whole bytes (inl q) = rw (q, isUnfinished)
 is-whole bytes (inr q) = rw (q .1, isUnfinished)
 
 -- as the code says it
-module _ (d : Desk) (bytes out : List ℕ) (stops : Bool) (used n : ℕ) (e : Desk) (after : List ℕ) (none : used ≡ 0) (same : e ≡ d) where
+module _ (d : ReplayState) (bytes out : List ℕ) (stops : Bool) (used n : ℕ) (e : ReplayState) (after : List ℕ) (none : used ≡ 0) (same : e ≡ d) where
   pub looks-waits : stops ≡ false → n ≡ 0 → after ≡ out → isUnfinished bytes ≡ true → Looks stops used d bytes out n e after
   looks-waits b z a q = rw (b, none) (q, same, z, a)
 
@@ -65,7 +65,7 @@ module _ (d : Desk) (bytes out : List ℕ) (stops : Bool) (used n : ℕ) (e : De
       → Looks stops used d bytes out n e after
   looks-stops b w r = rw b (none, same, w, r)
 
-module _ (d : Desk) (bytes : List ℕ) where
+module _ (d : ReplayState) (bytes : List ℕ) where
   pub long-stops : firstRecord recordLimit bytes ≡ TooLong → (more : List ℕ) → read library d (bytes ++ more) ≡ stopsAt library d
   long-stops q more = read-long library d (bytes ++ more) (first-prefix-long recordLimit bytes more q)
 
@@ -74,20 +74,20 @@ module _ (d : Desk) (bytes : List ℕ) where
     take-same : (more : List ℕ) → take m (bytes ++ more) ≡ take m bytes
     take-same more = take-append-le m bytes more (first-prefix-whole recordLimit bytes more m whole .1)
 
-    module _ (e : Desk) (out after : List ℕ) (n : ℕ) where
+    module _ (e : ReplayState) (out after : List ℕ) (n : ℕ) where
       -- a record that stopped the reading
-      pub answered-stops : Leads (deskTurn d (requestOf (take m bytes))) d out true n e after
+      pub answered-stops : Leads (libraryTurn d (requestOf (take m bytes))) d out true n e after
           → (e ≡ d) × (after ≡ out) × ((more : List ℕ) → read library d (bytes ++ more) ≡ stopsAt library d)
       answered-stops l =
-          let s = leads-stops (deskTurn d (requestOf (take m bytes))) d e out after n l in
+          let s = leads-stops (libraryTurn d (requestOf (take m bytes))) d e out after n l in
           (s .1, s .2, λ more. read-stops library d (bytes ++ more) m (first-prefix-whole recordLimit bytes more m whole .0) (rw (take-same more) (s .0)))
 
       -- and one after which it goes on
-      pub answered-prints : Leads (deskTurn d (requestOf (take m bytes))) d out false n e after → Looks false m d bytes out n e after
+      pub answered-prints : Leads (libraryTurn d (requestOf (take m bytes))) d out false n e after → Looks false m d bytes out n e after
       answered-prints l = go m refl
         where
-          s : (text : List ℕ) × (deskTurn d (requestOf (take m bytes)) ≡ prints text e) × WritesText text out n after
-          s = leads-prints (deskTurn d (requestOf (take m bytes))) d e out after n l
+          s : (text : List ℕ) × (libraryTurn d (requestOf (take m bytes)) ≡ prints text e) × WritesText text out n after
+          s = leads-prints (libraryTurn d (requestOf (take m bytes))) d e out after n l
 
           p : (firstRecord recordLimit (bytes ++ []) ≡ Whole m) × (m ≤ length bytes) × (4 ≤ m) × (m ≤ 4 + recordLimit)
           p = first-prefix-whole recordLimit bytes [] m whole

@@ -10,7 +10,7 @@ use borrow.Rule.Slice.PartMut.{putMid}
 use lib.ListN.{length, take, drop, length-append, length-drop, drop-of-length-le}
 use lib.Seq.{drop-drop}
 use Rattle.nights.specs.Reading.{Reading, printedBefore}
-use Rattle.recordings.specs.Kept.{WritesFront, Desk, Kept}
+use Rattle.recordings.specs.Kept.{WritesFront, ReplayState, Kept}
 use Rattle.recordings.specs.Steps.{goOn, Holds, Steps, Reads}
 use Rattle.recordings.proofs.Fronts.{rest-is, front-append}
 
@@ -85,7 +85,7 @@ module _ (k : Kept) (chunk out : List ℕ) (m v : Kept) (at w taken n : ℕ) (af
           room-held = held-after;
         }
       where
-        printed-printed : (a b : List ℕ) (r : Reading Desk) → printedBefore a (printedBefore b r) ≡ printedBefore (a ++ b) r
+        printed-printed : (a b : List ℕ) (r : Reading ReplayState) → printedBefore a (printedBefore b r) ≡ printedBefore (a ++ b) r
         printed-printed a b r = rw (append-assoc a b (r .text))
 
 -- the lent bytes stay as many

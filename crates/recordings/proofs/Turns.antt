@@ -38,7 +38,7 @@ use Rattle.recordings.specs.Asked.{asksBody, asks}
 use Rattle.nights.specs.Lines.{refusedWord, leftLine, pieceText}
 use Rattle.nights.specs.Reading.{Turn, prints, stops as unread}
 use Rattle.nights.specs.Night.{startedNight}
-use Rattle.recordings.specs.Kept.{WritesFront, Desk, desk, worldOn, nextNumber, putWorld, deskAnswer, deskTurn}
+use Rattle.recordings.specs.Kept.{WritesFront, ReplayState, replayState, worldIn, nextNumber, putWorld, libraryAnswer, libraryTurn}
 use Rattle.recordings.specs.Steps.{WritesText, Leads}
 use Rattle.recordings.proofs.Lines.{refused-words, length-numberLine, decimal-short}
 use Rattle.nights.proofs.Requests.{piece-within}
@@ -143,28 +143,28 @@ call-took w v c n bytes answer a e = (fits-without v fit, few)
         let t : TookAtMost (length bytes) (go .0) = rw m at (took-few (λ u b. takeByte u c b) bytes w 0) in
         rw (is-taken w c bytes accepted ∙ taken) at t
 
--- ---- the desk
+-- ---- the state
 
 -- with a world whose file and ledgers came back from the fronts that were lent
-pub desk-world : (d : Desk) (r : Receiver) (k a b : ℕ) (file claimed doubtful : List ℕ) → k ≡ nextNumber (d .progress .number) → length file ≡ a → length claimed ≡ b → length doubtful ≡ b
-    → desk (record { receiver = r; number = k; started = true }) (file ++ drop a (d .file)) (claimed ++ drop b (d .claimed)) (doubtful ++ drop b (d .doubtful))
+pub state-world : (d : ReplayState) (r : Receiver) (k a b : ℕ) (file claimed doubtful : List ℕ) → k ≡ nextNumber (d .progress .number) → length file ≡ a → length claimed ≡ b → length doubtful ≡ b
+    → replayState (record { receiver = r; number = k; started = true }) (file ++ drop a (d .file)) (claimed ++ drop b (d .claimed)) (doubtful ++ drop b (d .doubtful))
     ≡ putWorld d (world (r .transfer) file claimed doubtful)
 unfolding putWorld
-desk-world d r k a b file claimed doubtful e f g h = rw (e, f, g, h)
+state-world d r k a b file claimed doubtful e f g h = rw (e, f, g, h)
 
-pub start-leads : (d e : Desk) (w : World) (F R n : ℕ) (out after : List ℕ) → w ≡ startedNight F R → e ≡ putWorld d w
+pub start-leads : (d e : ReplayState) (w : World) (F R n : ℕ) (out after : List ℕ) → w ≡ startedNight F R → e ≡ putWorld d w
     → (length (lineFor (w .t) (w .lent .claimed) (w .lent .doubtful)) ≤ 80) × WritesFront (lineFor (w .t) (w .lent .claimed) (w .lent .doubtful)) out n after
-    → Leads (deskTurn d (starts F R)) d out false n e after
-unfolding deskTurn
+    → Leads (libraryTurn d (starts F R)) d out false n e after
+unfolding libraryTurn
 start-leads d e w F R n out after s i l =
     subst (λ v. Leads (prints (lineOf v) (putWorld d v)) d out false n e after) s (refl, i, rw (line-world w) (omega (arith, l .0), l .1))
 
 -- ---- a piece
 
 -- the world that is lent: all that the transfer is for, where there is as much
-pub world-lent : (d : Desk) (a b : ℕ) → let t = d .progress .receiver .transfer in
+pub world-lent : (d : ReplayState) (a b : ℕ) → let t = d .progress .receiver .transfer in
     a ≡ min (t .len) (length (d .file)) → b ≡ min (t .pairs) 256 → length (d .claimed) ≡ 512 → length (d .doubtful) ≡ 512
-    → world t (take a (d .file)) (take (2 * b) (d .claimed)) (take (2 * b) (d .doubtful)) ≡ worldOn d
+    → world t (take a (d .file)) (take (2 * b) (d .claimed)) (take (2 * b) (d .doubtful)) ≡ worldIn d
 world-lent d a b e f g h =
     let t = d .progress .receiver .transfer in
     rw (take-same a (t .len) (d .file) (omega arith), take-same (2 * b) (2 * t .pairs) (d .claimed) (omega arith), take-same (2 * b) (2 * t .pairs) (d .doubtful) (omega arith))
@@ -180,10 +180,10 @@ module _ (answer : Answered) (w : World) (k n m : ℕ) (out after : List ℕ) wh
   unfolding pieceText
   text-taken a l = rw (a, line-world w) l
 
-pub piece-leads : (d e : Desk) (w : World) (answer : Answered) (c m : ℕ) (bytes out after : List ℕ) → (toAnswer answer, w) ≡ receiveOf (worldOn d) c bytes → e ≡ putWorld d w
-    → WritesText (pieceText (toAnswer answer) w (length bytes)) out m after → Leads (deskAnswer d (length bytes) (receiveOf (worldOn d) c bytes)) d out false m e after
-unfolding deskAnswer
-piece-leads d e w answer c m bytes out after r i l = subst (λ a. Leads (deskAnswer d (length bytes) a) d out false m e after) r (refl, i, l)
+pub piece-leads : (d e : ReplayState) (w : World) (answer : Answered) (c m : ℕ) (bytes out after : List ℕ) → (toAnswer answer, w) ≡ receiveOf (worldIn d) c bytes → e ≡ putWorld d w
+    → WritesText (pieceText (toAnswer answer) w (length bytes)) out m after → Leads (libraryAnswer d (length bytes) (receiveOf (worldIn d) c bytes)) d out false m e after
+unfolding libraryAnswer
+piece-leads d e w answer c m bytes out after r i l = subst (λ a. Leads (libraryAnswer d (length bytes) a) d out false m e after) r (refl, i, l)
 
 -- ---- a record, by what the code answers of it
 
@@ -205,14 +205,14 @@ module _ (a : Asked) (bytes : List ℕ) (e : asks a bytes ≡ requestOf bytes) w
 
 -- ---- the turn that it leads to
 
-module _ (d : Desk) where
-  pub turn-piece : (c : ℕ) (p : List ℕ) (b : Bool) → d .progress .started ≡ b → deskTurn d (piece c p) ≡ cond b (deskAnswer d (length p) (receiveOf (worldOn d) c p)) unread
-  unfolding deskTurn
-  turn-piece c p b s = ap (λ x. cond x (deskAnswer d (length p) (receiveOf (worldOn d) c p)) unread) s
+module _ (d : ReplayState) where
+  pub turn-piece : (c : ℕ) (p : List ℕ) (b : Bool) → d .progress .started ≡ b → libraryTurn d (piece c p) ≡ cond b (libraryAnswer d (length p) (receiveOf (worldIn d) c p)) unread
+  unfolding libraryTurn
+  turn-piece c p b s = ap (λ x. cond x (libraryAnswer d (length p) (receiveOf (worldIn d) c p)) unread) s
 
-  pub turn-malformed : deskTurn d malformed ≡ unread
-  unfolding deskTurn
+  pub turn-malformed : libraryTurn d malformed ≡ unread
+  unfolding libraryTurn
   turn-malformed = refl
 
-  pub leads-as : (e : Desk) (t u : Turn Desk) (b : Bool) (n : ℕ) (out after : List ℕ) → t ≡ u → Leads u d out b n e after → Leads t d out b n e after
+  pub leads-as : (e : ReplayState) (t u : Turn ReplayState) (b : Bool) (n : ℕ) (out after : List ℕ) → t ≡ u → Leads u d out b n e after → Leads t d out b n e after
   leads-as e t u b n out after q l = rw q l

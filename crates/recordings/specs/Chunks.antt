@@ -8,7 +8,7 @@ use Rattle.answers.specs.Written.{roomRefusal}
 use Rattle.transfer.specs.Transfer.{World}
 use Rattle.nights.specs.Reading.{joined}
 use Rattle.nights.specs.Night.{transferring, after, soFar, printed}
-use Rattle.recordings.specs.Kept.{worldOn, firstSession, Kept, kept, deskOf, feed, feedRefusal, finishText}
+use Rattle.recordings.specs.Kept.{worldIn, firstSession, Kept, kept, replayStateOf, feed, feedRefusal, finishText}
 
 -- each chunk meets what the last one left: all texts that are handed back, one after the other, and what is kept at the end
 unfoldable pub feeds : Kept → List (List ℕ) → List ℕ × Kept
@@ -40,7 +40,7 @@ pub record Chunks : Type 0 where
   pub at-end : (k : Kept) (cs : List (List ℕ)) → Begun k → Counted (joined cs) → feeds k cs .0 ++ finishText (feeds k cs .1 .session) ≡ printed (joined cs)
   -- the transfer, file and ledgers that are kept are the definition's
   pub kept-is : (k : Kept) (cs : List (List ℕ)) (w : World) → Begun k → Counted (joined cs) → after (joined cs) .left .running ≡ transferring w
-      → worldOn (deskOf (feeds k cs .1)) ≡ w
+      → worldIn (replayStateOf (feeds k cs .1)) ≡ w
   -- nothing more is read exactly where the definition has stopped
   pub stops-is : (k : Kept) (cs : List (List ℕ)) → Begun k → Counted (joined cs) → feeds k cs .1 .session .stopped ≡ after (joined cs) .stopped
   -- what is held between chunks is shorter than the longest record that can be well-formed

@@ -29,18 +29,18 @@ abbrev pub WritesFront : List ℕ → List ℕ → ℕ → List ℕ → Type 0
 WritesFront text out n after = (n ≡ length text) × (after ≡ putFront text out)
 
 -- what the records so far have led to, with the lent file and ledgers
-pub record Desk : Type 0 where
+pub record ReplayState : Type 0 where
   pub progress : Progress
   pub file : List ℕ
   pub claimed : List ℕ
   pub doubtful : List ℕ
 
-abbrev pub desk : Progress → List ℕ → List ℕ → List ℕ → Desk
-desk p file claimed doubtful = record { progress = p; file = file; claimed = claimed; doubtful = doubtful }
+abbrev pub replayState : Progress → List ℕ → List ℕ → List ℕ → ReplayState
+replayState p file claimed doubtful = record { progress = p; file = file; claimed = claimed; doubtful = doubtful }
 
 -- the transfer, and as much of file and ledgers as it is for
-abbrev pub worldOn : Desk → World
-worldOn d =
+abbrev pub worldIn : ReplayState → World
+worldIn d =
     let t = d .progress .receiver .transfer in
     world t (take (t .len) (d .file)) (take (2 * t .pairs) (d .claimed)) (take (2 * t .pairs) (d .doubtful))
 
@@ -51,27 +51,27 @@ unfoldable pub nextNumber : ℕ → ℕ
 nextNumber k = cond (ltb k largest) (suc k) k
 
 -- after a record that is not malformed: this world at the front of what is lent, and the next number
-unfoldable pub putWorld : Desk → World → Desk
+unfoldable pub putWorld : ReplayState → World → ReplayState
 putWorld d w =
-    desk
+    replayState
     (record { receiver = record { transfer = w .t }; number = nextNumber (d .progress .number); started = true })
     (putFront (w .lent .file) (d .file))
     (putFront (w .lent .claimed) (d .claimed))
     (putFront (w .lent .doubtful) (d .doubtful))
 
 -- a piece of n bytes, by what its call answered and left
-unfoldable pub deskAnswer : Desk → ℕ → Answer × World → Turn Desk
-deskAnswer d n a = prints (pieceText (a .0) (a .1) n) (putWorld d (a .1))
+unfoldable pub libraryAnswer : ReplayState → ℕ → Answer × World → Turn ReplayState
+libraryAnswer d n a = prints (pieceText (a .0) (a .1) n) (putWorld d (a .1))
 
 -- a start takes the place of the transfer; a piece before any start is malformed
-unfoldable pub deskTurn : Desk → Request → Turn Desk
-deskTurn d (starts F R) = prints (lineOf (startedNight F R)) (putWorld d (startedNight F R))
-deskTurn d (piece c bytes) = cond (d .progress .started) (deskAnswer d (length bytes) (receiveOf (worldOn d) c bytes)) stops
-deskTurn d malformed = stops
+unfoldable pub libraryTurn : ReplayState → Request → Turn ReplayState
+libraryTurn d (starts F R) = prints (lineOf (startedNight F R)) (putWorld d (startedNight F R))
+libraryTurn d (piece c bytes) = cond (d .progress .started) (libraryAnswer d (length bytes) (receiveOf (worldIn d) c bytes)) stops
+libraryTurn d malformed = stops
 
 -- the reader that the code is proved to be
-abbrev pub library : Reader Desk
-library = record { turn = λ d bytes. deskTurn d (requestOf bytes); number = λ d. d .progress .number }
+abbrev pub library : Reader ReplayState
+library = record { turn = λ d bytes. libraryTurn d (requestOf bytes); number = λ d. d .progress .number }
 
 -- ---- a chunk
 
@@ -90,8 +90,8 @@ pub record Kept : Type 0 where
 abbrev pub kept : Session → List ℕ → List ℕ → List ℕ → List ℕ → Kept
 kept s held file claimed doubtful = record { session = s; held = held; file = file; claimed = claimed; doubtful = doubtful }
 
-abbrev pub deskOf : Kept → Desk
-deskOf k = desk (k .session .progress) (k .file) (k .claimed) (k .doubtful)
+abbrev pub replayStateOf : Kept → ReplayState
+replayStateOf k = replayState (k .session .progress) (k .file) (k .claimed) (k .doubtful)
 
 -- as much as the longest record that can be well-formed has, with its length field
 abbrev pub heldLimit : ℕ
@@ -106,7 +106,7 @@ unfoldable pub isUnfinished : List ℕ → Bool
 isUnfinished bytes = elim (firstRecord recordLimit bytes) [ Nothing ↦ true | Cut ↦ true | TooLong ↦ false | Whole n ↦ false ]
 
 -- what a reading leaves: what is not whole at the front of the held bytes, and zeros after it
-unfoldable pub leaves : Reading Desk → Kept
+unfoldable pub leaves : Reading ReplayState → Kept
 leaves r =
     kept
     (record { progress = r .left .progress; held = length (r .rest); stopped = r .stopped })
@@ -118,7 +118,7 @@ leaves r =
 -- a chunk is read behind what is held: its text, and what is kept then; after a malformed record nothing is read, and nothing changes
 unfoldable pub feed : Kept → List ℕ → List ℕ × Kept
 feed k chunk =
-    let r = read library (deskOf k) (unfinished k ++ chunk) in
+    let r = read library (replayStateOf k) (unfinished k ++ chunk) in
     cond (k .session .stopped) ([], k) (r .text, leaves r)
 
 -- the lent bytes that are enough for what a chunk of n bytes prints: no record prints more than 96, and all have six bytes of the chunk or more but

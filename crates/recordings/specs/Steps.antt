@@ -10,7 +10,7 @@ use Rattle.recordings.specs.declared.session.Progress.{Progress}
 use Rattle.recordings.specs.declared.session.Session.{Session}
 use Rattle.nights.specs.Lines.{recordLine}
 use Rattle.nights.specs.Reading.{Turn, prints, stops, Reading, stopsAt, printedBefore, read}
-use Rattle.recordings.specs.Kept.{WritesFront, Desk, Kept, deskOf, heldLimit, unfinished, isUnfinished, library}
+use Rattle.recordings.specs.Kept.{WritesFront, ReplayState, Kept, replayStateOf, heldLimit, unfinished, isUnfinished, library}
 
 -- no record prints more bytes
 abbrev pub textLimit : ℕ
@@ -22,15 +22,15 @@ WritesText text out n after = (length text ≤ textLimit) × WritesFront text ou
 
 -- ---- a record
 
--- a turn from the desk d, as the code leaves it: whether it stopped, how many bytes it wrote, the desk, and the lent bytes
-abbrev pub Leads : Turn Desk → Desk → List ℕ → Bool → ℕ → Desk → List ℕ → Type 0
+-- a turn from the state d, as the code leaves it: whether it stopped, how many bytes it wrote, the state, and the lent bytes
+abbrev pub Leads : Turn ReplayState → ReplayState → List ℕ → Bool → ℕ → ReplayState → List ℕ → Type 0
 Leads (prints text v) d out stopped n e after = (stopped ≡ false) × (e ≡ v) × WritesText text out n after
 Leads stops d out stopped n e after = (stopped ≡ true) × (e ≡ d) × (after ≡ out)
 
 -- ---- the first record of some bytes
 
 -- whatever follows them: malformed; not whole, where none of them are used; or answered
-abbrev pub Looks : Bool → ℕ → Desk → List ℕ → List ℕ → ℕ → Desk → List ℕ → Type 0
+abbrev pub Looks : Bool → ℕ → ReplayState → List ℕ → List ℕ → ℕ → ReplayState → List ℕ → Type 0
 Looks true used d bytes out n e after =
     (used ≡ 0) × (e ≡ d) × WritesText (recordLine (library .number d)) out n after × ((more : List ℕ) → read library d (bytes ++ more) ≡ stopsAt library d)
 Looks false zero d bytes out n e after = (isUnfinished bytes ≡ true) × (e ≡ d) × (n ≡ 0) × (after ≡ out)
@@ -40,12 +40,12 @@ Looks false (suc u) d bytes out n e after =
 
 -- ---- a step through a chunk
 
-abbrev pub halted : Desk → Reading Desk
+abbrev pub halted : ReplayState → Reading ReplayState
 halted d = record { text = []; left = d; stopped = true; rest = [] }
 
 -- what is still to come of what is kept and the bytes after it
-unfoldable pub goOn : Kept → List ℕ → Reading Desk
-goOn k bytes = cond (k .session .stopped) (halted (deskOf k)) (read library (deskOf k) (unfinished k ++ bytes))
+unfoldable pub goOn : Kept → List ℕ → Reading ReplayState
+goOn k bytes = cond (k .session .stopped) (halted (replayStateOf k)) (read library (replayStateOf k) (unfinished k ++ bytes))
 
 -- the session after a look: a record that is not whole is held
 abbrev pub afterLook : Progress → Bool → ℕ → ℕ → Session

@@ -13,7 +13,7 @@ ghost use Rattle.frames.specs.Frame.{firstRecord};
 ghost use Rattle.frames.specs.declared.frame.First.the-variants.{Whole};
 ghost use Rattle.nights.specs.Request.{recordLimit};
 ghost use Rattle.nights.specs.Lines.{recordLine};
-ghost use Rattle.recordings.specs.Kept.{desk};
+ghost use Rattle.recordings.specs.Kept.{replayState};
 ghost use Rattle.recordings.specs.Steps.{WritesText, Looks};
 
 // What was found: a malformed record stops, and one that is not whole uses no byte.
@@ -59,7 +59,7 @@ fn answered(
     out: &mut [u8],
 ) -> Looked
     requires { ⌜ (firstRecord recordLimit (now bytes) ≡ Whole n) × (length (now file) ≡ 32768) × (length (now claimed) ≡ 512) × (length (now doubtful) ≡ 512) × (96 ≤ length (now out)) ⌝ }
-    ensures { λ r. ⌜ Looks (r .stops) (r .used) (desk p (now (file .entry)) (now (claimed .entry)) (now (doubtful .entry))) (now (bytes .entry)) (now (out .entry)) (r .written) (desk (r .progress) (now (file .exit)) (now (claimed .exit)) (now (doubtful .exit))) (now (out .exit)) ⌝ }
+    ensures { λ r. ⌜ Looks (r .stops) (r .used) (replayState p (now (file .entry)) (now (claimed .entry)) (now (doubtful .entry))) (now (bytes .entry)) (now (out .entry)) (r .written) (replayState (r .progress) (now (file .exit)) (now (claimed .exit)) (now (doubtful .exit))) (now (out .exit)) ⌝ }
 {
     let turned = turn::of_record(p, &bytes[..n], file, claimed, doubtful, out);
     let after = turned.progress;
@@ -83,7 +83,7 @@ pub fn look(
     out: &mut [u8],
 ) -> Looked
     requires { ⌜ (length (now file) ≡ 32768) × (length (now claimed) ≡ 512) × (length (now doubtful) ≡ 512) × (96 ≤ length (now out)) ⌝ }
-    ensures { λ r. ⌜ Looks (r .stops) (r .used) (desk p (now (file .entry)) (now (claimed .entry)) (now (doubtful .entry))) (now (bytes .entry)) (now (out .entry)) (r .written) (desk (r .progress) (now (file .exit)) (now (claimed .exit)) (now (doubtful .exit))) (now (out .exit)) ⌝ }
+    ensures { λ r. ⌜ Looks (r .stops) (r .used) (replayState p (now (file .entry)) (now (claimed .entry)) (now (doubtful .entry))) (now (bytes .entry)) (now (out .entry)) (r .written) (replayState (r .progress) (now (file .exit)) (now (claimed .exit)) (now (doubtful .exit))) (now (out .exit)) ⌝ }
 {
     let found = frame::first_record(bytes, request::RECORD_LIMIT);
     match found {

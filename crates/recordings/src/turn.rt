@@ -20,7 +20,7 @@ ghost use Rattle.transfer.specs.Fit.{fitsWithoutFile};
 ghost use Rattle.screen.specs.Screen.{lineFor};
 ghost use Rattle.nights.specs.Request.{starts, requestOf};
 ghost use Rattle.nights.specs.Lines.{leftLine};
-ghost use Rattle.recordings.specs.Kept.{WritesFront, desk, worldOn, deskAnswer, deskTurn};
+ghost use Rattle.recordings.specs.Kept.{WritesFront, replayState, worldIn, libraryAnswer, libraryTurn};
 ghost use Rattle.recordings.specs.Steps.{WritesText, Leads};
 
 // The most pairs of a ledger.
@@ -71,7 +71,7 @@ fn start_turn(
     out: &mut [u8],
 ) -> Turned
     requires { ⌜ (len ≤ 32768) × (pairs ≤ 256) × (length (now file) ≡ 32768) × (length (now claimed) ≡ 512) × (length (now doubtful) ≡ 512) × (96 ≤ length (now out)) ⌝ }
-    ensures { λ r. ⌜ Leads (deskTurn (desk p (now (file .entry)) (now (claimed .entry)) (now (doubtful .entry))) (starts len pairs)) (desk p (now (file .entry)) (now (claimed .entry)) (now (doubtful .entry))) (now (out .entry)) (r .stops) (r .written) (desk (r .progress) (now (file .exit)) (now (claimed .exit)) (now (doubtful .exit))) (now (out .exit)) ⌝ }
+    ensures { λ r. ⌜ Leads (libraryTurn (replayState p (now (file .entry)) (now (claimed .entry)) (now (doubtful .entry))) (starts len pairs)) (replayState p (now (file .entry)) (now (claimed .entry)) (now (doubtful .entry))) (now (out .entry)) (r .stops) (r .written) (replayState (r .progress) (now (file .exit)) (now (claimed .exit)) (now (doubtful .exit))) (now (out .exit)) ⌝ }
 {
     let bytes = len as usize;
     let entries = 2 * pairs as usize;
@@ -101,7 +101,7 @@ fn piece_turn(
     out: &mut [u8],
 ) -> Turned
     requires { ⌜ (length (now piece) ≤ 16384) × (length (now file) ≡ 32768) × (length (now claimed) ≡ 512) × (length (now doubtful) ≡ 512) × (96 ≤ length (now out)) ⌝ }
-    ensures { λ r. ⌜ Leads (deskAnswer (desk p (now (file .entry)) (now (claimed .entry)) (now (doubtful .entry))) (length (now (piece .entry))) (receiveOf (worldOn (desk p (now (file .entry)) (now (claimed .entry)) (now (doubtful .entry)))) channel (now (piece .entry)))) (desk p (now (file .entry)) (now (claimed .entry)) (now (doubtful .entry))) (now (out .entry)) (r .stops) (r .written) (desk (r .progress) (now (file .exit)) (now (claimed .exit)) (now (doubtful .exit))) (now (out .exit)) ⌝ }
+    ensures { λ r. ⌜ Leads (libraryAnswer (replayState p (now (file .entry)) (now (claimed .entry)) (now (doubtful .entry))) (length (now (piece .entry))) (receiveOf (worldIn (replayState p (now (file .entry)) (now (claimed .entry)) (now (doubtful .entry)))) channel (now (piece .entry)))) (replayState p (now (file .entry)) (now (claimed .entry)) (now (doubtful .entry))) (now (out .entry)) (r .stops) (r .written) (replayState (r .progress) (now (file .exit)) (now (claimed .exit)) (now (doubtful .exit))) (now (out .exit)) ⌝ }
 {
     let receiver = p.receiver;
     let t = receiver.transfer;
@@ -156,7 +156,7 @@ pub fn of_record(
     out: &mut [u8],
 ) -> Turned
     requires { ⌜ (length (now file) ≡ 32768) × (length (now claimed) ≡ 512) × (length (now doubtful) ≡ 512) × (96 ≤ length (now out)) ⌝ }
-    ensures { λ r. ⌜ Leads (deskTurn (desk p (now (file .entry)) (now (claimed .entry)) (now (doubtful .entry))) (requestOf (now (bytes .entry)))) (desk p (now (file .entry)) (now (claimed .entry)) (now (doubtful .entry))) (now (out .entry)) (r .stops) (r .written) (desk (r .progress) (now (file .exit)) (now (claimed .exit)) (now (doubtful .exit))) (now (out .exit)) ⌝ }
+    ensures { λ r. ⌜ Leads (libraryTurn (replayState p (now (file .entry)) (now (claimed .entry)) (now (doubtful .entry))) (requestOf (now (bytes .entry)))) (replayState p (now (file .entry)) (now (claimed .entry)) (now (doubtful .entry))) (now (out .entry)) (r .stops) (r .written) (replayState (r .progress) (now (file .exit)) (now (claimed .exit)) (now (doubtful .exit))) (now (out .exit)) ⌝ }
 {
     let asked = request::of_record(bytes);
     match asked {

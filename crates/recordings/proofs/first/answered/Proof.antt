@@ -1,6 +1,6 @@
 -- `first::answered`.
 use borrow.Author.Needs.{needs}
-use Rattle.recordings.specs.Kept.{Desk, desk}
+use Rattle.recordings.specs.Kept.{ReplayState, replayState}
 use Rattle.nights.specs.Request.{recordLimit}
 use Rattle.frames.proofs.FirstRecord.{first-prefix-whole}
 use lib.ListN.{length-take}
@@ -40,13 +40,13 @@ returns c =
     let s = c .before .before .stops in
     let o = c .before .before .before .before .before .before .before .before .before .before .before .before .before .before .of-record in
     let x = c .before .before .before .before .before .before .before .before .before .before .before .before .before .before .before .before .before .before .before .before .before .before .before .before .before in
-    let d = desk (x .args .p) (x .args .file .now) (x .args .claimed .now) (x .args .doubtful .now) in
-    let e = desk (o .result .progress) (o .last .1 .1 .0) (o .last .1 .1 .1 .0) (o .last .1 .1 .1 .1 .0) in
+    let d = replayState (x .args .p) (x .args .file .now) (x .args .claimed .now) (x .args .doubtful .now) in
+    let e = replayState (o .result .progress) (o .last .1 .1 .0) (o .last .1 .1 .1 .0) (o .last .1 .1 .1 .1 .0) in
     let a = answered-stops d (x .args .bytes .now) (x .args .n) (x .pre .0) e (x .args .out .now) (o .last .1 .1 .1 .1 .1 .0) (o .result .written)
     (rw (c .before .before .before .before .if1 .taken) at (o .ensures)) in
-    let n : o .result .progress .number ≡ x .args .p .number = ap (λ (z : Desk). z .progress .number) (a .0) in
+    let n : o .result .progress .number ≡ x .args .p .number = ap (λ (z : ReplayState). z .progress .number) (a .0) in
     looks-stops d (x .args .bytes .now) (x .args .out .now) _ _ _ _ _ (s .ensures .1)
-    (ap (λ p. desk p (o .last .1 .1 .0) (o .last .1 .1 .1 .0) (o .last .1 .1 .1 .1 .0)) (s .ensures .0) ∙ a .0) (s .ensures .2) (rw (n, a .1) at (s .ensures .3)) (a .2)
+    (ap (λ p. replayState p (o .last .1 .1 .0) (o .last .1 .1 .1 .0) (o .last .1 .1 .1 .1 .0)) (s .ensures .0) ∙ a .0) (s .ensures .2) (rw (n, a .1) at (s .ensures .3)) (a .2)
 
 same-length-5 : tie.Need-same-length-5
 same-length-5 c = search needs
@@ -64,7 +64,7 @@ returns-2 : tie.Need-returns-2
 returns-2 c =
     let o = c .before .before .before .before .before .before .before .before .before .before .of-record in
     let x = c .before .before .before .before .before .before .before .before .before .before .before .before .before .before .before .before .before .before .before .before .before in
-    let d = desk (x .args .p) (x .args .file .now) (x .args .claimed .now) (x .args .doubtful .now) in
+    let d = replayState (x .args .p) (x .args .file .now) (x .args .claimed .now) (x .args .doubtful .now) in
     answered-prints d (x .args .bytes .now) (x .args .n) (x .pre .0) _ (x .args .out .now) _ (o .result .written) (rw (c .if1 .left) at (o .ensures))
 
 pub answered-spec : {M : Type 1} → statement M

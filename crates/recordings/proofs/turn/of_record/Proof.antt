@@ -8,7 +8,7 @@ use lib.ListN.{length, take, drop}
 use Rattle.recordings.specs.declared.turn.Turned.{Turned}
 use Rattle.nights.specs.Request.{starts, piece, requestOf}
 use Rattle.nights.specs.Reading.{stops}
-use Rattle.recordings.specs.Kept.{Desk, desk, deskTurn}
+use Rattle.recordings.specs.Kept.{ReplayState, replayState, libraryTurn}
 use Rattle.recordings.specs.Steps.{Leads}
 use Rattle.nights.proofs.Requests.{starts-within}
 use Rattle.recordings.proofs.Fronts.{rest-is}
@@ -19,8 +19,8 @@ use Rattle.recordings.proofs.turn.of_record.Tie as tie
 abbrev begun : tie.After-of-record → tie.Start
 begun c = c .before .before .before .before .before .before
 
-abbrev given : tie.After-of-record → Desk
-given c = let x = begun c .args in desk (x .p) (x .file .now) (x .claimed .now) (x .doubtful .now)
+abbrev given : tie.After-of-record → ReplayState
+given c = let x = begun c .args in replayState (x .p) (x .file .now) (x .claimed .now) (x .doubtful .now)
 
 -- what the record asks for
 is-start : (c : tie.After-asked) → requestOf (begun (c .before .before) .args .bytes .now) ≡ starts (c .asked .given .0 .0) (c .asked .given .0 .1 .0)
@@ -36,10 +36,10 @@ is-piece c =
 
 -- what a malformed one leaves
 unread : (c : tie.After-of-record) (r : Turned) → let x = begun c .args in
-    (r .progress ≡ x .p) × (r .stops ≡ true) → Leads stops (given c) (x .out .now) (r .stops) (r .written) (desk (r .progress) (x .file .now) (x .claimed .now) (x .doubtful .now)) (x .out .now)
+    (r .progress ≡ x .p) × (r .stops ≡ true) → Leads stops (given c) (x .out .now) (r .stops) (r .written) (replayState (r .progress) (x .file .now) (x .claimed .now) (x .doubtful .now)) (x .out .now)
 unread c r e =
     let x = begun c .args in
-    (e .1, ap (λ p. desk p (x .file .now) (x .claimed .now) (x .doubtful .now)) (e .0), refl)
+    (e .1, ap (λ p. replayState p (x .file .now) (x .claimed .now) (x .doubtful .now)) (e .0), refl)
 
 of-record-requires : tie.Need-of-record-requires
 of-record-requires c κs = search needs
@@ -92,7 +92,7 @@ returns c =
     let a = i .before .before in
     let o = a .before .before in
     let x = begun o .args in
-    let q = ap (deskTurn (given o)) (is-piece a .2) ∙ turn-piece (given o) (a .asked2 .given .0 .0) (drop 7 (x .bytes .now)) true (i .if1 .taken) in
+    let q = ap (libraryTurn (given o)) (is-piece a .2) ∙ turn-piece (given o) (a .asked2 .given .0 .0) (drop 7 (x .bytes .now)) true (i .if1 .taken) in
     leads-as (given o) _ _ _ _ _ (x .out .now) _ q (rw (rest-is (x .bytes .now) 7) at (t .piece-turn .ensures))
 
 malformed-requires : tie.Need-malformed-requires
@@ -121,14 +121,14 @@ returns-2 c =
     let t = c .before .before .before .before .before .before .before .before in
     let a = t .before .before .before .before .before .before in
     let o = a .before .before in
-    leads-as (given o) _ _ _ _ _ (begun o .args .out .now) _ (ap (deskTurn (given o)) (is-start a)) (t .start-turn .ensures)
+    leads-as (given o) _ _ _ _ _ (begun o .args .out .now) _ (ap (libraryTurn (given o)) (is-start a)) (t .start-turn .ensures)
 
 returns-3 : tie.Need-returns-3
 returns-3 c =
     let i = c .before in
     let a = i .before .before in
     let o = a .before .before in
-    let q = ap (deskTurn (given o)) (is-piece a .2) ∙ turn-piece (given o) (a .asked2 .given .0 .0) (drop 7 (begun o .args .bytes .now)) false (i .if1 .left) in
+    let q = ap (libraryTurn (given o)) (is-piece a .2) ∙ turn-piece (given o) (a .asked2 .given .0 .0) (drop 7 (begun o .args .bytes .now)) false (i .if1 .left) in
     leads-as (given o) _ _ stops _ _ (begun o .args .out .now) _ q (unread o (c .malformed .result) (c .malformed .ensures))
 
 returns-4 : tie.Need-returns-4
@@ -136,7 +136,7 @@ returns-4 c =
     let g = c .before in
     let o = g .before .before in
     let x = begun o .args in
-    let q = ap (deskTurn (given o)) (asked-malformed (o .of-record .result) (x .bytes .now) (o .of-record .ensures) (g .enum-told .given .1)) ∙ turn-malformed (given o) in
+    let q = ap (libraryTurn (given o)) (asked-malformed (o .of-record .result) (x .bytes .now) (o .of-record .ensures) (g .enum-told .given .1)) ∙ turn-malformed (given o) in
     leads-as (given o) _ _ stops _ _ (x .out .now) _ q (unread o (c .malformed2 .result) (c .malformed2 .ensures))
 
 pub of-record-spec : {M : Type 1} → statement M

@@ -13,11 +13,11 @@ use Rattle.transfer.specs.Fit.{fitsWithoutFile}
 use Rattle.receiver.specs.Answers.{toAnswer}
 use Rattle.screen.specs.Screen.{lineFor}
 use Rattle.nights.specs.Lines.{leftLine, pieceText}
-use Rattle.recordings.specs.Kept.{Desk, desk, worldOn}
+use Rattle.recordings.specs.Kept.{ReplayState, replayState, worldIn}
 use Rattle.recordings.specs.Steps.{WritesText}
 use Rattle.recordings.proofs.Lines.{decimal-short}
 use Rattle.recordings.proofs.Fronts.{length-after, fronts-back}
-use Rattle.recordings.proofs.Turns.{FitsWithoutFile, call-took, desk-world, world-lent, text-refused, text-taken, piece-leads}
+use Rattle.recordings.proofs.Turns.{FitsWithoutFile, call-took, state-world, world-lent, text-refused, text-taken, piece-leads}
 use Rattle.recordings.proofs.turn.piece_turn.Statement.{statement}
 use Rattle.recordings.proofs.turn.piece_turn.Tie as tie
 
@@ -26,8 +26,8 @@ use Rattle.recordings.proofs.turn.piece_turn.Tie as tie
 abbrev begun : tie.After-at-most → tie.Start
 begun c = c .before .before .before .before .before .before .before .before
 
-abbrev given : tie.After-at-most → Desk
-given c = let x = begun c .args in desk (x .p) (x .file .now) (x .claimed .now) (x .doubtful .now)
+abbrev given : tie.After-at-most → ReplayState
+given c = let x = begun c .args in replayState (x .p) (x .file .now) (x .claimed .now) (x .doubtful .now)
 
 file-front : (c : tie.After-at-most) → length (take (c .at-most .result) (begun c .args .file .now)) ≡ c .at-most .result
 file-front c = length-take-le (c .at-most .result) (begun c .args .file .now) (omega (arith, c .at-most .ensures))
@@ -89,7 +89,7 @@ kept c =
     (k .0 ∙ file-front (a .before), k .1 .0 ∙ claimed-front a, k .1 .1 .0 ∙ doubtful-front a)
 
 left-is : (c : tie.After-receive) → let a = lent c .before in
-    (toAnswer (c .receive .result .answer), left c) ≡ receiveOf (worldOn (given a)) (begun a .args .channel) (begun a .args .piece .now)
+    (toAnswer (c .receive .result .answer), left c) ≡ receiveOf (worldIn (given a)) (begun a .args .channel) (begun a .args .piece .now)
 left-is c =
     let b = lent c in
     let a = b .before in
@@ -212,7 +212,7 @@ returns c =
     let x = begun a .args in
     let k = kept r in
     piece-leads (given a) _ (left r) (r .receive .result .answer) (x .channel) _ (x .piece .now) (x .out .now) _ (left-is r)
-    (desk-world (given a) (r .receive .result .receiver) (c .next .result) (a .at-most .result) (2 * b .at-most2 .result) _ _ _ (c .next .ensures) (k .0) (k .1) (k .2))
+    (state-world (given a) (r .receive .result .receiver) (c .next .result) (a .at-most .result) (2 * b .at-most2 .result) _ _ _ (c .next .ensures) (k .0) (k .1) (k .2))
     (writes m)
 
 pub piece-turn-spec : {M : Type 1} → statement M

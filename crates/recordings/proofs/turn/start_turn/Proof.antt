@@ -10,9 +10,9 @@ use Rattle.transfer.specs.Transfer.{World, world}
 use Rattle.transfer.specs.Fit.{fitsWithoutFile}
 use Rattle.screen.specs.Screen.{lineFor}
 use Rattle.nights.specs.Night.{startedNight}
-use Rattle.recordings.specs.Kept.{WritesFront, desk}
+use Rattle.recordings.specs.Kept.{WritesFront, replayState}
 use Rattle.recordings.proofs.Fronts.{fronts-back}
-use Rattle.recordings.proofs.Turns.{FitsWithoutFile, started-is, started-fits, desk-world, start-leads}
+use Rattle.recordings.proofs.Turns.{FitsWithoutFile, started-is, started-fits, state-world, start-leads}
 use Rattle.recordings.proofs.turn.start_turn.Statement.{statement}
 use Rattle.recordings.proofs.turn.start_turn.Tie as tie
 
@@ -127,10 +127,10 @@ returns c =
     let p = c .before .before .before in
     let s = p .before .before .before .before .before .before .before .before .before in
     let x = begun s .args in
-    let d = desk (x .p) (x .file .now) (x .claimed .now) (x .doubtful .now) in
+    let d = replayState (x .p) (x .file .now) (x .claimed .now) (x .doubtful .now) in
     let k = kept s in
     start-leads d _ (left s) (x .len) (x .pairs) _ (x .out .now) _ (left-is s)
-    (desk-world d (s .start .result .receiver) (c .next .result) (x .len) (2 * x .pairs) _ _ _ (c .next .ensures) (k .0) (k .1) (k .2))
+    (state-world d (s .start .result .receiver) (c .next .result) (x .len) (2 * x .pairs) _ _ _ (c .next .ensures) (k .0) (k .1) (k .2))
     (subst (λ (l : List ℕ). (length l ≤ 80) × WritesFront l (x .out .now) (p .put-screen .result) (p .put-screen .last .1 .1 .1 .0)) (fronts (lineFor (s .start .result .receiver .transfer)) s)
     (p .put-screen .ensures))
 
