@@ -1,17 +1,20 @@
 -- `HostLists` and `Filling` hold.
-use Prim.Native.Nat.{ℕ, _-_, _≤_}
-use mathlib.Core.Path.{_≡_, refl, sym, subst, _∙_}
-use mathlib.Core.Logic.{_⊎_, inl, inr}
+use Prim.Native.Nat.{ℕ, _-_, _≤_, _<_}
+use mathlib.Core.Path.{_≡_, refl, sym, ap, subst, _∙_}
+use mathlib.Core.Logic.{_⊎_, inl, inr, ⊎-elim}
 use mathlib.Core.List.{List, [], _∷_, _++_}
 use native.Mathlib.Omega.{arith}
+use native.Mathlib.Decide.{decLt}
 use borrow.Author.Tests.{lt-ltb, le-ltb}
 use mathlib.Core.Bool.{false}
 use lib.Dec.{ltb}
-use lib.ListN.{length, replicate}
+use lib.ListN.{length, getD, replicate}
+use Rattle.hostports.specs.HostPort.{hostPortAt, refusalNumber as hostPortNumber}
 use Rattle.hostports.specs.HostPorts.{HostPortNumerals}
 use Rattle.hostlists.specs.HostList.{hostLimit, ParsedList, parsed, trouble, hostsOf, answerOf, entriesOf, fillOf, fillAfter, refusalNumber, count}
-use Rattle.hostlists.specs.HostLists.{withSpaces, values, ListText, LongerText, TooShort, HostLists, Filling}
-use Rattle.hostlists.proofs.HostListsRead.{reads-list, spaceAfterEach, space-after-each, reads-longer, ReadList, ReadLonger, Read, read-list}
+use Rattle.hostlists.specs.HostLists.{withSpaces, spaceAfterEach, values, ListText, LongerText, TooShort, HostLists, Filling}
+use Rattle.hostlists.proofs.HostListsRead.{reads-list, reads-longer, reads-malformed, ReadList, ReadLonger, Read, read-list}
+use Rattle.hostlists.proofs.HostListsOnce.{same-text, same-entries, values-some}
 
 -- ---- what a text is read as
 
@@ -34,18 +37,14 @@ only text vs e =
 
 longer : (text : List ℕ) → LongerText text → hostsOf text ≡ trouble 42
 unfolding hostsOf
-longer text l = go (l .hosts) (l .are-64) (l .says)
-  where
-    go : (hosts : List HostPortNumerals) → length hosts ≡ 64 → text ≡ withSpaces hosts ++ (32 ∷ l .further ∷ l .rest) → hostsOf text ≡ trouble 42
-    go [] a e = absurd (omega arith)
-    go (h ∷ hs) a e = reads-longer hostLimit text 0 (h ∷ hs) (l .further) (l .rest) (omega arith) (e ∙ sym (space-after-each h hs (l .further ∷ l .rest)))
+longer text l = reads-longer hostLimit text 0 (l .hosts) (l .further) (l .rest) (l .are-64) (l .says)
 
 longer-text : (text : List ℕ) → ReadLonger hostLimit text 0 → LongerText text
-longer-text text r = go (r .hs) (r .are) (r .there)
-  where
-    go : (hosts : List HostPortNumerals) → length hosts ≡ hostLimit → text ≡ spaceAfterEach hosts (r .further ∷ r .rest) → LongerText text
-    go [] a e = absurd (omega arith)
-    go (h ∷ hs) a e = record { hosts = h ∷ hs; further = r .further; rest = r .rest; are-64 = omega arith; says = e ∙ space-after-each h hs (r .further ∷ r .rest) }
+longer-text text r = record { hosts = r .hs; further = r .further; rest = r .rest; are-64 = r .are; says = r .there }
+
+malformed : (text : List ℕ) (hosts : List HostPortNumerals) (rest : List ℕ) → length hosts < 64 → text ≡ spaceAfterEach hosts rest → hostPortNumber (hostPortAt rest 0) ≡ 41 → hostsOf text ≡ trouble 41
+unfolding hostsOf
+malformed text hosts rest few e h = reads-malformed hostLimit text 0 hosts rest few e h
 
 -- the two numbers of a trouble
 which : (text : List ℕ) (k : ℕ) → hostsOf text ≡ trouble k → (k ≡ 41) ⊎ ((k ≡ 42) × LongerText text)
@@ -78,6 +77,12 @@ unfolding values
 length-values [] = refl
 length-values (h ∷ hs) = rw (length-values hs)
 
+once : (s t vs : List ℕ) → hostsOf s ≡ parsed vs → hostsOf t ≡ parsed vs → s ≡ t
+once s t vs d e =
+    let p = only s vs d in
+    let q = only t vs e in
+    p .0 .says ∙ same-text (p .0 .hosts) (q .0 .hosts) (sym (p .1) ∙ q .1) ∙ sym (q .0 .says)
+
 pub host-lists : HostLists
 host-lists =
     record {
@@ -87,7 +92,9 @@ host-lists =
       longer-42 = longer;
       only-longer = only-longer-text;
       others-41 = others;
+      malformed-41 = malformed;
       no-other-trouble = λ text k e. first (which text k e);
+      one-text = once;
     }
   where
     sized : (text vs : List ℕ) → (l : ListText text) × (vs ≡ values (l .hosts)) → (1 ≤ length vs) × (length vs ≤ 64)
@@ -123,6 +130,24 @@ module _ (text list : List ℕ) (h : TooShort list → ⊥) where
       let n = length-values (l .hosts) in
       (rw (long-enough, e), rw (long-enough, e) n, rw (long-enough, e, n))
 
+-- a text that is not refused is a list, and the lent list has its host-ports and then zeros
+filled : (text list : List ℕ) → refusalNumber (fillOf text list) ≡ 0 → (l : ListText text) × (fillAfter text list ≡ values (l .hosts) ++ replicate (length list - length (l .hosts)) 0)
+filled text list h = go (decLt (length list) hostLimit) (hostsOf text) refl
+  where
+    go : Dec (length list < hostLimit) → (r : ParsedList) → hostsOf text ≡ r → (l : ListText text) × (fillAfter text list ≡ values (l .hosts) ++ replicate (length list - length (l .hosts)) 0)
+    go (yes s) r e = absurd (omega (arith, h, short text list s .0))
+    go (no s) (parsed vs) e =
+        let l = only text vs e .0 in
+        (l, accepted text list s l .2)
+    go (no s) (trouble k) e = absurd (⊎-elim (λ z. omega (arith, z, h, refused text list s k e .0)) (λ m. omega (arith, m .0, h, refused text list s k e .0)) (which text k e))
+
+filled-once : (s t list other : List ℕ) → refusalNumber (fillOf s list) ≡ 0 → refusalNumber (fillOf t other) ≡ 0 → ((i : ℕ) → getD (fillAfter s list) i 0 ≡ getD (fillAfter t other) i 0) → s ≡ t
+filled-once s t list other d e same =
+    let p = filled s list d in
+    let q = filled t other e in
+    let entries = same-entries _ _ _ _ (length list - length (p .0 .hosts)) (length other - length (q .0 .hosts)) (p .1) (q .1) (values-some (p .0 .hosts)) (values-some (q .0 .hosts)) same in
+    p .0 .says ∙ same-text (p .0 .hosts) (q .0 .hosts) entries ∙ sym (q .0 .says)
+
 pub filling : Filling
 filling =
     record {
@@ -130,4 +155,5 @@ filling =
       number-41 = λ text list h no-list no-longer. refused text list h 41 (others text no-list no-longer);
       number-42 = λ text list h l. refused text list h 42 (longer text l);
       number-0 = accepted;
+      one-text = filled-once;
     }

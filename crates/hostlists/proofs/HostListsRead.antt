@@ -10,7 +10,7 @@ use borrow.Author.Tests.{eqb-true, eqb-false}
 use lib.Dec.{eqb}
 use lib.ListN.{length, getD, drop, length-append, length-drop, drop-of-length-le}
 use lib.Seq.{drop-cons, getD-drop}
-use Rattle.hostports.specs.HostPort.{hostPortAt}
+use Rattle.hostports.specs.HostPort.{hostPortAt, refusalNumber as hostPortNumber}
 use Rattle.hostports.specs.HostPorts.{HostPortNumerals, hostPortText, WrittenAt}
 use Rattle.hostports.specs.declared.host_port.ParsedHostPort.{ParsedHostPort}
 use Rattle.hostports.specs.declared.host_port.ParsedHostPort.the-variants.{HostPort, Malformed}
@@ -18,8 +18,8 @@ use Rattle.hostports.proofs.HostPorts.{host-ports}
 use Rattle.hostports.proofs.HostPortsWritten.{after}
 use Rattle.hostports.proofs.HostPortsRead.{byte-there}
 use Rattle.hostlists.specs.HostList.{space, ParsedList, parsed, trouble, prepend, hostPortThen, listAt}
-use Rattle.hostlists.specs.HostLists.{withSpaces, value, values}
-use Rattle.hostlists.proofs.HostList.{list-ends, list-goes-on, list-full}
+use Rattle.hostlists.specs.HostLists.{withSpaces, spaceAfterEach, value, values}
+use Rattle.hostlists.proofs.HostList.{list-malformed, list-ends, list-goes-on, list-full}
 
 -- ---- a place of a text, and what is there
 
@@ -66,16 +66,6 @@ reads-list zero text at h hs l e = absurd (omega arith)
 reads-list (suc n) text at h [] l e = last-reads n text at h e
 reads-list (suc n) text at h (i ∷ hs) l e = one-reads n text at h (withSpaces (i ∷ hs)) e ∙ rw (reads-list n text (at + length (hostPortText h) + 1) i hs (omega arith) (after-space n text at h (withSpaces (i ∷ hs)) e))
 
--- host-ports with a space after each, and a rest
-unfoldable pub spaceAfterEach : List HostPortNumerals → List ℕ → List ℕ
-spaceAfterEach [] rest = rest
-spaceAfterEach (h ∷ hs) rest = hostPortText h ++ 32 ∷ spaceAfterEach hs rest
-
-pub space-after-each : (h : HostPortNumerals) (hs : List HostPortNumerals) (rest : List ℕ) → spaceAfterEach (h ∷ hs) rest ≡ withSpaces (h ∷ hs) ++ (32 ∷ rest)
-unfolding spaceAfterEach withSpaces
-space-after-each h [] rest = refl
-space-after-each h (i ∷ hs) rest = ap (λ (l : List ℕ). hostPortText h ++ 32 ∷ l) (space-after-each i hs rest) ∙ sym (append-assoc (hostPortText h) (32 ∷ withSpaces (i ∷ hs)) (32 ∷ rest))
-
 pub reads-longer : (n : ℕ) (text : List ℕ) (at : ℕ) (hs : List HostPortNumerals) (b : ℕ) (rest : List ℕ) → length hs ≡ n → drop at text ≡ spaceAfterEach hs (b ∷ rest) → listAt n text at ≡ trouble 42
 unfolding spaceAfterEach prepend
 reads-longer zero text at [] b rest l e = list-full 0 text at refl (λ z. omega (arith, place-inside text at b rest e))
@@ -84,6 +74,29 @@ reads-longer zero text at (h ∷ hs) b rest l e = absurd (omega arith)
 reads-longer (suc n) text at (h ∷ hs) b rest l e =
     one-reads n text at h (spaceAfterEach hs (b ∷ rest)) e
     ∙ rw (reads-longer n text (at + length (hostPortText h) + 1) hs b rest (omega arith) (after-space n text at h (spaceAfterEach hs (b ∷ rest)) e))
+
+-- a host-port is written at a place or not by what the text has from there on, so the same place may be counted from another start
+same-place : (text : List ℕ) (at : ℕ) (rest : List ℕ) → drop at text ≡ rest → hostPortNumber (hostPortAt rest 0) ≡ 41 → hostPortAt text at ≡ Malformed
+unfolding hostPortNumber
+same-place text at rest e h = malformed (hostPortAt text at) (host-ports .number-41 text at none .0)
+  where
+    none : (i : HostPortNumerals) → WrittenAt text at i → ⊥
+    none i w =
+        let z = host-ports .number-0 rest 0 i (record { rest = w .rest; there = sym e ∙ w .there; no-digit = w .no-digit }) .0 in
+        omega (arith, z, h)
+
+    malformed : (s : ParsedHostPort) → hostPortNumber s ≡ 41 → s ≡ Malformed
+    malformed Malformed e = refl
+    malformed (HostPort v next) e = absurd (omega arith)
+
+pub reads-malformed : (n : ℕ) (text : List ℕ) (at : ℕ) (hs : List HostPortNumerals) (rest : List ℕ) → length hs < n → drop at text ≡ spaceAfterEach hs rest → hostPortNumber (hostPortAt rest 0) ≡ 41
+    → listAt n text at ≡ trouble 41
+unfolding spaceAfterEach prepend
+reads-malformed zero text at hs rest l e h = absurd (omega arith)
+reads-malformed (suc n) text at [] rest l e h = list-malformed n text at (same-place text at rest e h)
+reads-malformed (suc n) text at (i ∷ hs) rest l e h =
+    one-reads n text at i (spaceAfterEach hs rest) e
+    ∙ rw (reads-malformed n text (at + length (hostPortText i) + 1) hs rest (omega arith) (after-space n text at i (spaceAfterEach hs rest) e) h)
 
 -- ---- from what is read to the host-ports
 

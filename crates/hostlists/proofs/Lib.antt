@@ -1,3 +1,4 @@
 pub mod HostList
 pub mod HostListsRead
+pub mod HostListsOnce
 pub mod HostLists

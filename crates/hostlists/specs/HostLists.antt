@@ -1,9 +1,10 @@
--- What a host-port list means, in the terms of document 01, "Control lines" and "Numbers the host sees".
+-- What a host-port list means, in the terms of document 01, "Control lines" and "Numbers the host sees", and of document 02, Item 10.
 use Prim.Native.Nat.{ℕ, _+_, _*_, _-_, _≤_, _<_}
 use mathlib.Core.Path.{_≡_}
 use mathlib.Core.Logic.{_⊎_}
 use mathlib.Core.List.{List, [], _∷_, _++_}
-use lib.ListN.{length, replicate}
+use lib.ListN.{length, getD, replicate}
+use Rattle.hostports.specs.HostPort.{hostPortAt, refusalNumber as hostPortNumber}
 use Rattle.hostports.specs.HostPorts.{HostPortNumerals, hostPortText, address, port}
 use Rattle.hostlists.specs.HostList.{parsed, trouble, hostsOf, fillOf, fillAfter, refusalNumber, count}
 
@@ -12,6 +13,11 @@ unfoldable pub withSpaces : List HostPortNumerals → List ℕ
 withSpaces [] = []
 withSpaces (h ∷ []) = hostPortText h
 withSpaces (h ∷ i ∷ hs) = hostPortText h ++ 32 ∷ withSpaces (i ∷ hs)
+
+-- host-ports as they are written, a space after each, and a rest
+unfoldable pub spaceAfterEach : List HostPortNumerals → List ℕ → List ℕ
+spaceAfterEach [] rest = rest
+spaceAfterEach (h ∷ hs) rest = hostPortText h ++ 32 ∷ spaceAfterEach hs rest
 
 -- what a host-port becomes, and what each of a list does
 abbrev pub value : HostPortNumerals → ℕ
@@ -34,7 +40,7 @@ pub record LongerText (text : List ℕ) : Type 0 where
   pub further : ℕ
   pub rest : List ℕ
   pub are-64 : length hosts ≡ 64
-  pub says : text ≡ withSpaces hosts ++ (32 ∷ further ∷ rest)
+  pub says : text ≡ spaceAfterEach hosts (further ∷ rest)
 
 -- what a text is read as
 pub record HostLists : Type 0 where
@@ -48,7 +54,12 @@ pub record HostLists : Type 0 where
   pub only-longer : (text : List ℕ) → hostsOf text ≡ trouble 42 → LongerText text
   -- 41: every other text
   pub others-41 : (text : List ℕ) → (ListText text → ⊥) → (LongerText text → ⊥) → hostsOf text ≡ trouble 41
+  -- in reading order: 41 is at the first of the 64 that is malformed, whatever follows it
+  pub malformed-41 : (text : List ℕ) (hosts : List HostPortNumerals) (rest : List ℕ) → length hosts < 64 → text ≡ spaceAfterEach hosts rest → hostPortNumber (hostPortAt rest 0) ≡ 41
+      → hostsOf text ≡ trouble 41
   pub no-other-trouble : (text : List ℕ) (k : ℕ) → hostsOf text ≡ trouble k → (k ≡ 41) ⊎ (k ≡ 42)
+  -- unequal texts never mean the same host-ports
+  pub one-text : (s t vs : List ℕ) → hostsOf s ≡ parsed vs → hostsOf t ≡ parsed vs → s ≡ t
 
 -- a list lent with fewer than 64 entries
 abbrev pub TooShort : List ℕ → Type 0
@@ -68,3 +79,7 @@ pub record Filling : Type 0 where
       → (refusalNumber (fillOf text list) ≡ 0)
       × (count (fillOf text list) ≡ length (l .hosts))
       × (fillAfter text list ≡ values (l .hosts) ++ replicate (length list - length (l .hosts)) 0)
+  -- two texts that are not refused and leave the same entries are one text, whatever the lengths of the lent lists: an entry past the last is
+  -- 0, and no host-port is
+  pub one-text : (s t list other : List ℕ) → refusalNumber (fillOf s list) ≡ 0 → refusalNumber (fillOf t other) ≡ 0
+      → ((i : ℕ) → getD (fillAfter s list) i 0 ≡ getD (fillAfter t other) i 0) → s ≡ t

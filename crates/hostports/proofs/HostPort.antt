@@ -1,25 +1,26 @@
 -- One number of a host-port, and six of them: what is parsed, case by case, and how large it can be.
-use Prim.Native.Nat.{ℕ, zero, suc, _+_, _*_, _-_, _^_, _≤_, _<_}
-use mathlib.Core.Path.{_≡_, refl, subst}
+use Prim.Native.Nat.{ℕ, zero, suc, _+_, _*_, _-_, _%_, _^_, _≤_, _<_}
+use mathlib.Core.Path.{_≡_, refl, sym, subst, _∙_}
 use mathlib.Core.Bool.{Bool, true, false, cond, _&&_, and-eq-true-iff, and-false}
 use mathlib.Core.List.{List}
 use native.Mathlib.Omega.{arith}
 use native.Mathlib.Numerals.{add-one}
 use native.Mathlib.Nat.{pow-suc, pow-le-pow-right, zero-add, suc-add, add-suc}
 use borrow.Author.Tests.{le-leb, lt-leb, leb-true, eq-eqb, ne-eqb}
-use lib.Dec.{leb, eqb}
+use lib.Dec.{leb, ltb, eqb}
 use lib.ListN.{length, getD, take, drop, length-drop, drop-of-length-le}
-use lib.Seq.{length-take-le, take-all}
-use Rattle.octets.specs.Decimal.{decimalValue, readOf}
+use lib.Seq.{length-take-le, take-all, getD-take}
+use Rattle.octets.specs.Decimal.{decimalValue, noLeadingZero, readOf}
 use Rattle.texts.specs.Text.{isDigit, leadingCount}
 use Rattle.octets.specs.declared.decimal.Number.{Number as Read}
 use Rattle.octets.specs.declared.decimal.Number.the-variants.{Value, Nothing}
 use Rattle.texts.proofs.Texts.{leading-le, all-leading}
+use Rattle.octets.proofs.Decimals.{leading-zero, plain-unless, plain-some}
 use Rattle.hostports.specs.declared.host_port.ParsedNumber.{ParsedNumber}
 use Rattle.hostports.specs.declared.host_port.ParsedNumber.the-variants.{Number, Malformed as NoNumber}
 use Rattle.hostports.specs.declared.host_port.ParsedHostPort.{ParsedHostPort}
 use Rattle.hostports.specs.declared.host_port.ParsedHostPort.the-variants.{HostPort, Malformed}
-use Rattle.hostports.specs.HostPort.{comma, digitLimit, valueLimit, numberAt, andThen, moreAt, hostPortAt}
+use Rattle.hostports.specs.HostPort.{comma, digitLimit, valueLimit, numberAt, andThen, moreAt, portOf, refusePortZero, hostPortAt}
 
 -- a part that is lent up to the end is all that is left
 pub rest-is : (text : List ℕ) (at : ℕ) → take (length text - at) (drop at text) ≡ drop at text
@@ -27,29 +28,53 @@ rest-is text at = take-all (length text - at) (drop at text) (simp length-drop (
 
 -- ---- one number
 
+-- the digits at a place
+abbrev pub digitsAt : List ℕ → ℕ → List ℕ
+digitsAt text at = take (leadingCount isDigit (drop at text)) (drop at text)
+
+pub length-digits : (text : List ℕ) (at : ℕ) → length (digitsAt text at) ≡ leadingCount isDigit (drop at text)
+length-digits text at = length-take-le (leadingCount isDigit (drop at text)) (drop at text) (leading-le isDigit (drop at text))
+
+-- the first of them is the first byte there
+first-digit : (text : List ℕ) (at : ℕ) → 1 < leadingCount isDigit (drop at text) → getD (digitsAt text at) 0 0 ≡ getD (drop at text) 0 0
+first-digit text at h = getD-take (leadingCount isDigit (drop at text)) (drop at text) 0 0 (omega arith)
+
 pub number-past : (text : List ℕ) (at : ℕ) → length text ≤ at → numberAt text at ≡ NoNumber
-unfolding numberAt leadingCount
+unfolding numberAt leadingCount noLeadingZero
 number-past text at h = rw (drop-of-length-le text h)
+
+pub number-zero : (text : List ℕ) (at : ℕ) → 1 < leadingCount isDigit (drop at text) → getD (drop at text) 0 0 ≡ 48 → numberAt text at ≡ NoNumber
+unfolding numberAt
+number-zero text at h e = rw (leading-zero (digitsAt text at) (omega (arith, length-digits text at)) (first-digit text at h ∙ e))
 
 pub number-long : (text : List ℕ) (at : ℕ) → digitLimit < leadingCount isDigit (drop at text) → numberAt text at ≡ NoNumber
 unfolding numberAt
-number-long text at h = rw (lt-leb (leadingCount isDigit (drop at text)) digitLimit h, and-false (leb 1 (leadingCount isDigit (drop at text))))
+number-long text at h = rw (lt-leb (leadingCount isDigit (drop at text)) digitLimit h, and-false (noLeadingZero (digitsAt text at)))
 
 -- what reading digits answers, with the place after them
 abbrev pub parsedOf : ℕ → Read → ParsedNumber
 parsedOf next (Value n) = Number n next
 parsedOf next Nothing = NoNumber
 
-pub number-short : (text : List ℕ) (at : ℕ) → let k = leadingCount isDigit (drop at text) in k ≤ digitLimit → numberAt text at ≡ parsedOf (at + k) (readOf (take k (drop at text)) valueLimit)
+pub number-short : (text : List ℕ) (at : ℕ) → let k = leadingCount isDigit (drop at text) in k ≤ digitLimit → (1 < k → getD (drop at text) 0 0 ≡ 48 → ⊥)
+    → numberAt text at ≡ parsedOf (at + k) (readOf (take k (drop at text)) valueLimit)
 unfolding numberAt readOf
-number-short text at h =
-    rw (le-leb k digitLimit h, length-take-le k (drop at text) (leading-le isDigit (drop at text)), all-leading isDigit (drop at text)) (go (leb 1 k && leb n valueLimit))
+number-short text at h g =
+    rw (le-leb k digitLimit h, plain-unless digits (all-leading isDigit (drop at text)) plain, all-leading isDigit (drop at text)) (go (ltb 0 (length digits) && leb n valueLimit))
   where
     k : ℕ
     k = leadingCount isDigit (drop at text)
 
+    digits : List ℕ
+    digits = digitsAt text at
+
     n : ℕ
-    n = decimalValue (take k (drop at text))
+    n = decimalValue digits
+
+    plain : 2 ≤ length digits → getD digits 0 0 ≡ 48 → ⊥
+    plain two e =
+        let more : 1 < k = omega (arith, length-digits text at) in
+        g more (sym (first-digit text at more) ∙ e)
 
     go : (b : Bool) → cond b (Number n (at + k)) NoNumber ≡ parsedOf (at + k) (cond b (Value n) Nothing)
     go true = refl
@@ -62,10 +87,10 @@ unfolding moreAt
 more-done text v at = refl
 
 pub first-malformed : (text : List ℕ) (at : ℕ) → numberAt text at ≡ NoNumber → hostPortAt text at ≡ Malformed
-unfolding hostPortAt andThen
+unfolding hostPortAt andThen refusePortZero
 first-malformed text at e = rw e
 
-pub first-number : (text : List ℕ) (at v next : ℕ) → numberAt text at ≡ Number v next → hostPortAt text at ≡ moreAt 5 text v next
+pub first-number : (text : List ℕ) (at v next : ℕ) → numberAt text at ≡ Number v next → hostPortAt text at ≡ refusePortZero (moreAt 5 text v next)
 unfolding hostPortAt andThen
 first-number text at v next e = rw e
 
@@ -80,6 +105,20 @@ more-malformed n text v at h e = rw (eq-eqb (getD text at 0) comma h, e)
 pub one-more : (n : ℕ) (text : List ℕ) (v at w next : ℕ) → getD text at 0 ≡ comma → numberAt text (at + 1) ≡ Number w next → moreAt (suc n) text v at ≡ moreAt n text (v * 256 + w) next
 unfolding moreAt andThen
 one-more n text v at w next h e = rw (eq-eqb (getD text at 0) comma h, e)
+
+-- ---- port 0
+
+pub still-malformed : (s : ParsedHostPort) → s ≡ Malformed → refusePortZero s ≡ Malformed
+unfolding refusePortZero
+still-malformed s e = rw e
+
+pub port-zero : (v next : ℕ) → v % 65536 ≡ 0 → refusePortZero (HostPort v next) ≡ Malformed
+unfolding refusePortZero
+port-zero v next e = rw (eq-eqb (portOf v) 0 (omega (arith, e)))
+
+pub port-some : (v next : ℕ) → (v % 65536 ≡ 0 → ⊥) → refusePortZero (HostPort v next) ≡ HostPort v next
+unfolding refusePortZero
+port-some v next h = rw (ne-eqb (portOf v) 0 (λ z. h (omega (arith, z))))
 
 -- ---- how large
 
@@ -101,20 +140,23 @@ Within text bound (HostPort v next) = (v < bound) × (next ≤ length text)
 
 within-number : (text : List ℕ) (at : ℕ) → NumberWithin text (numberAt text at)
 unfolding numberAt
-within-number text at = go (leb 1 k && (leb k digitLimit && leb n valueLimit)) refl
+within-number text at = go (noLeadingZero digits && (leb k digitLimit && leb n valueLimit)) refl
   where
     k : ℕ
     k = leadingCount isDigit (drop at text)
 
-    n : ℕ
-    n = decimalValue (take k (drop at text))
+    digits : List ℕ
+    digits = digitsAt text at
 
-    go : (b : Bool) → leb 1 k && (leb k digitLimit && leb n valueLimit) ≡ b → NumberWithin text (cond b (Number n (at + k)) NoNumber)
+    n : ℕ
+    n = decimalValue digits
+
+    go : (b : Bool) → noLeadingZero digits && (leb k digitLimit && leb n valueLimit) ≡ b → NumberWithin text (cond b (Number n (at + k)) NoNumber)
     go false e = tt
     go true e =
-        let p = and-eq-true-iff (leb 1 k) (leb k digitLimit && leb n valueLimit) .0 e in
+        let p = and-eq-true-iff (noLeadingZero digits) (leb k digitLimit && leb n valueLimit) .0 e in
         let q = and-eq-true-iff (leb k digitLimit) (leb n valueLimit) .0 (p .1) in
-        let one : 1 ≤ k = leb-true 1 k (p .0) in
+        let one : 1 ≤ k = omega (arith, length-digits text at, plain-some digits (p .0)) in
         let low : n ≤ valueLimit = leb-true n valueLimit (q .1) in
         (omega arith, omega (arith, leading-le isDigit (drop at text), length-drop at text))
 
@@ -133,9 +175,18 @@ within-more (suc n) text j v at h l = rw (suc-add n j, ← add-suc n j) (go (eqb
     go true NoNumber w on = tt
     go true (Number u next) w on = on (v * 256 + u) next (rw (pow-suc 256 j) (omega arith)) (w .1)
 
+within-port : (text : List ℕ) (bound : ℕ) (s : ParsedHostPort) → Within text bound s → Within text bound (refusePortZero s)
+unfolding refusePortZero
+within-port text bound Malformed w = tt
+within-port text bound (HostPort v next) w = go (eqb (portOf v) 0)
+  where
+    go : (t : Bool) → Within text bound (cond t Malformed (HostPort v next))
+    go true = tt
+    go false = w
+
 pub within-host-port : (text : List ℕ) (at : ℕ) → Within text (2 ^ 48) (hostPortAt text at)
 unfolding hostPortAt andThen
-within-host-port text at = go (numberAt text at) (within-number text at)
+within-host-port text at = within-port text (2 ^ 48) (andThen (numberAt text at) (moreAt 5 text)) (go (numberAt text at) (within-number text at))
   where
     go : (s : ParsedNumber) → NumberWithin text s → Within text (2 ^ 48) (andThen s (moreAt 5 text))
     go NoNumber w = tt

@@ -1,6 +1,6 @@
 -- `HostPorts` holds.
 use Prim.Native.Nat.{ℕ, _^_}
-use mathlib.Core.Path.{_≡_, refl, subst}
+use mathlib.Core.Path.{_≡_, refl, ap, subst}
 use mathlib.Core.List.{List}
 use Rattle.hostports.specs.declared.host_port.ParsedHostPort.{ParsedHostPort}
 use Rattle.hostports.specs.declared.host_port.ParsedHostPort.the-variants.{HostPort, Malformed}
@@ -8,7 +8,9 @@ use Rattle.hostports.specs.HostPort.{hostPortAt, refusalNumber, valueOf,
 use Rattle.hostports.specs.HostPorts.{HostPortNumerals, WrittenAt, HostPorts}
 use Rattle.hostports.proofs.HostPort.{Within, within-host-port}
 use Rattle.hostports.proofs.HostPortsWritten.{six-written}
-use Rattle.hostports.proofs.HostPortsRead.{six-read}
+use Rattle.hostports.proofs.HostPortsRead.{six-read, port-not-zero}
+use Rattle.hostports.proofs.HostPortsOnce.{same-bytes, one-text}
+use Rattle.hostports.proofs.HostPortsRefused.{leading-zero-malformed, port-zero-malformed}
 
 numbered-0 : (s : ParsedHostPort) (v next : ℕ) → s ≡ HostPort v next → (refusalNumber s ≡ 0) × (valueOf s ≡ v) × (placeAfter s ≡ next)
 unfolding refusalNumber valueOf placeAfter
@@ -24,11 +26,17 @@ numbered-41 text at none = go (hostPortAt text at) refl
     go (HostPort v next) e = let f = six-read text at v next e in absurd (none (f .0) (f .1))
 
 pub host-ports : HostPorts
+unfolding refusalNumber
 host-ports =
     record {
       written-reads = six-written;
       reads-written = six-read;
       number-0 = λ text at h w. numbered-0 (hostPortAt text at) _ _ (six-written text at h w);
       number-41 = numbered-41;
+      no-leading-zero = λ text at d h w few. ap refusalNumber (leading-zero-malformed text at d h w few);
+      no-port-0 = λ text at w four. ap refusalNumber (port-zero-malformed text at w four);
+      port-not-0 = port-not-zero;
+      one-text = one-text;
+      same-bytes = same-bytes;
       fits-48-bits = λ text at v next e. subst (Within text (2 ^ 48)) e (within-host-port text at) .0;
     }

@@ -1,23 +1,25 @@
 -- What reads as a host-port is written as one.
-use Prim.Native.Nat.{ℕ, suc, _+_, _*_, _≤_, _<_}
+use Prim.Native.Nat.{ℕ, suc, _+_, _*_, _%_, _≤_, _<_}
 use mathlib.Core.Path.{_≡_, refl, sym, ap, _∙_}
 use mathlib.Core.Bool.{Bool, true, false, cond, _&&_, and-eq-true-iff}
 use mathlib.Core.List.{List, [], _∷_, _++_}
 use native.Mathlib.Omega.{arith}
 use native.Mathlib.Numerals.{add-one}
-use borrow.Author.Tests.{ltb-true, ltb-false, leb-true, eqb-true}
+use borrow.Author.Tests.{ltb-true, ltb-false, leb-true, eqb-true, eqb-false}
 use lib.Dec.{leb, ltb, eqb}
 use lib.ListN.{length, getD, take, drop, take-append-drop, List·getD-eq-default}
-use lib.Seq.{length-take-le, drop-cons}
-use Rattle.octets.specs.Decimal.{decimalValue}
+use lib.Seq.{drop-cons}
+use Rattle.octets.specs.Decimal.{decimalValue, noLeadingZero}
+use Rattle.octets.proofs.Decimals.{plain-some, plain-first}
 use Rattle.texts.specs.Text.{isDigit, leadingCount}
-use Rattle.texts.proofs.Texts.{leading-le, all-leading, leading-rest}
+use Rattle.texts.proofs.Texts.{all-leading, leading-rest}
 use Rattle.hostports.specs.declared.host_port.ParsedNumber.{ParsedNumber}
 use Rattle.hostports.specs.declared.host_port.ParsedNumber.the-variants.{Number, Malformed as NoNumber}
+use Rattle.hostports.specs.declared.host_port.ParsedHostPort.{ParsedHostPort}
 use Rattle.hostports.specs.declared.host_port.ParsedHostPort.the-variants.{HostPort, Malformed}
-use Rattle.hostports.specs.HostPort.{comma, digitLimit, valueLimit, numberAt, andThen, moreAt, hostPortAt}
+use Rattle.hostports.specs.HostPort.{comma, digitLimit, valueLimit, numberAt, andThen, moreAt, portOf, refusePortZero, hostPortAt}
 use Rattle.hostports.specs.HostPorts.{Numeral, StartsWithNoDigit, HostPortNumerals, hostPortText, address, port, WrittenAt}
-use Rattle.hostports.proofs.HostPort.{more-done}
+use Rattle.hostports.proofs.HostPort.{digitsAt, length-digits, more-done}
 use Rattle.hostports.proofs.HostPortsWritten.{after, commaThen, after-more, written-rest, written-place}
 
 -- after the digits that a text begins with there is no digit
@@ -48,30 +50,29 @@ never v next e = let z : _≡_ {A = ℕ} 0 1 = cc in omega arith
 same-host-port : (v p w q : ℕ) → HostPort v p ≡ HostPort w q → (v ≡ w) × (p ≡ q)
 same-host-port v p w q e = (cc, cc)
 
-number-read : (text : List ℕ) (at v next : ℕ) → numberAt text at ≡ Number v next → NumeralAt text at v next
+pub number-read : (text : List ℕ) (at v next : ℕ) → numberAt text at ≡ Number v next → NumeralAt text at v next
 unfolding numberAt
-number-read text at v next = go (leb 1 k && (leb k digitLimit && leb n valueLimit)) refl
+number-read text at v next = go (noLeadingZero digits && (leb k digitLimit && leb n valueLimit)) refl
   where
     k : ℕ
     k = leadingCount isDigit (drop at text)
 
     digits : List ℕ
-    digits = take k (drop at text)
+    digits = digitsAt text at
 
     n : ℕ
     n = decimalValue digits
 
-    go : (t : Bool) → leb 1 k && (leb k digitLimit && leb n valueLimit) ≡ t → cond t (Number n (at + k)) NoNumber ≡ Number v next → NumeralAt text at v next
+    go : (t : Bool) → noLeadingZero digits && (leb k digitLimit && leb n valueLimit) ≡ t → cond t (Number n (at + k)) NoNumber ≡ Number v next → NumeralAt text at v next
     go false e h = absurd (let z : _≡_ {A = ℕ} 0 1 = cc in omega arith)
     go true e h =
-        let p = and-eq-true-iff (leb 1 k) (leb k digitLimit && leb n valueLimit) .0 e in
+        let p = and-eq-true-iff (noLeadingZero digits) (leb k digitLimit && leb n valueLimit) .0 e in
         let q = and-eq-true-iff (leb k digitLimit) (leb n valueLimit) .0 (p .1) in
-        let one : 1 ≤ k = leb-true 1 k (p .0) in
         let three : k ≤ digitLimit = leb-true k digitLimit (q .0) in
         let low : n ≤ valueLimit = leb-true n valueLimit (q .1) in
-        let size : length digits ≡ k = length-take-le k (drop at text) (leading-le isDigit (drop at text)) in
+        let size : length digits ≡ k = length-digits text at in
         record {
-          a = record { text = digits; value = n; digits = all-leading isDigit (drop at text); one-or-more = omega arith; at-most-three = omega arith; says = refl; small = omega arith };
+          a = record { text = digits; value = n; digits = all-leading isDigit (drop at text); one-or-more = plain-some digits (p .0); at-most-three = omega arith; says = refl; small = omega arith; no-leading-zero = plain-first digits (p .0) };
           rest = drop k (drop at text);
           there = sym (take-append-drop k (drop at text));
           no-digit = run-stops (drop at text);
@@ -120,11 +121,27 @@ more-read n text v at w next = go (eqb (getD text at 0) comma) refl (numberAt te
 given : {A R : Type 0} → A → (A → R) → R
 given x f = f x
 
+-- what is read as a host-port is six numbers, and the port that they make is not 0
+port-read : (s : ParsedHostPort) (v next : ℕ) → refusePortZero s ≡ HostPort v next → (s ≡ HostPort v next) × (0 < v % 65536)
+unfolding refusePortZero
+port-read Malformed v next e = absurd (never v next e)
+port-read (HostPort u place) v next is = go (eqb (portOf u) 0) refl is
+  where
+    go : (t : Bool) → eqb (portOf u) 0 ≡ t → cond t Malformed (HostPort u place) ≡ HostPort v next → (HostPort u place ≡ HostPort v next) × (0 < v % 65536)
+    go true c e = absurd (never v next e)
+    go false c e =
+        let same = same-host-port u place v next e in
+        (e, rw (← same .0) (omega (arith, eqb-false (portOf u) 0 c)))
+
+pub port-not-zero : (text : List ℕ) (at v next : ℕ) → hostPortAt text at ≡ HostPort v next → 0 < v % 65536
+unfolding hostPortAt
+port-not-zero text at v next e = port-read (andThen (numberAt text at) (moreAt 5 text)) v next e .1
+
 -- six numbers, commas between, are written where they are read
 pub six-read : (text : List ℕ) (at v next : ℕ) → hostPortAt text at ≡ HostPort v next
     → (h : HostPortNumerals) × WrittenAt text at h × (v ≡ address h * 65536 + port h) × (next ≡ at + length (hostPortText h))
 unfolding hostPortAt andThen
-six-read text at v next = go (numberAt text at) refl
+six-read text at v next is = go (numberAt text at) refl (port-read (andThen (numberAt text at) (moreAt 5 text)) v next is .0)
   where
     go : (s : ParsedNumber) → numberAt text at ≡ s → andThen s (moreAt 5 text) ≡ HostPort v next
         → (h : HostPortNumerals) × WrittenAt text at h × (v ≡ address h * 65536 + port h) × (next ≡ at + length (hostPortText h))
@@ -136,7 +153,9 @@ six-read text at v next = go (numberAt text at) refl
         given (more-read 2 text _ _ v next (m₂ .on)) (λ m₃.
         given (more-read 1 text _ _ v next (m₃ .on)) (λ m₄.
         given (more-read 0 text _ _ v next (m₄ .on)) (λ m₅.
-        let h : HostPortNumerals = record { a = m₀ .a; b = m₁ .a; c = m₂ .a; d = m₃ .a; e = m₄ .a; f = m₅ .a } in
+        given (same-host-port _ _ v next (sym (more-done text _ _) ∙ m₅ .on)) (λ end.
+        given {A = (m₄ .a .value ≡ 0) × (m₅ .a .value ≡ 0) → ⊥} (λ z. omega (arith, port-not-zero text at v next is, end .0, z .0, z .1)) (λ some.
+        let h : HostPortNumerals = record { a = m₀ .a; b = m₁ .a; c = m₂ .a; d = m₃ .a; e = m₄ .a; f = m₅ .a; has-port = some } in
         let p₁ = at + length (h .a .text) in
         let p₂ = p₁ + 1 + length (h .b .text) in
         let p₃ = p₂ + 1 + length (h .c .text) in
@@ -147,5 +166,4 @@ six-read text at v next = go (numberAt text at) refl
         let r₃ : m₃ .rest ≡ commaThen (h .e) (m₄ .rest) = sym (after-more text p₃ (h .d) (m₃ .rest) (m₃ .there)) ∙ m₄ .there in
         let r₄ : m₄ .rest ≡ commaThen (h .f) (m₅ .rest) = sym (after-more text p₄ (h .e) (m₄ .rest) (m₄ .there)) ∙ m₅ .there in
         let there : drop at text ≡ hostPortText h ++ m₅ .rest = m₀ .there ∙ rw (r₀, r₁, r₂, r₃, r₄) (sym (written-rest h (m₅ .rest))) in
-        let end = same-host-port _ _ v next (sym (more-done text _ _) ∙ m₅ .on) in
-        (h, record { rest = m₅ .rest; there = there; no-digit = m₅ .no-digit }, omega (arith, end .0), sym (end .1) ∙ written-place h at)))))))
+        (h, record { rest = m₅ .rest; there = there; no-digit = m₅ .no-digit }, omega (arith, end .0), sym (end .1) ∙ written-place h at)))))))))

@@ -1,34 +1,40 @@
 -- A host-port as it is written reads as its number.
-use Prim.Native.Nat.{ℕ, suc, _+_, _*_}
-use mathlib.Core.Path.{_≡_, refl, sym, _∙_}
+use Prim.Native.Nat.{ℕ, suc, _+_, _*_, _%_}
+use mathlib.Core.Path.{_≡_, refl, sym, ap, _∙_}
 use mathlib.Core.Bool.{true}
 use mathlib.Core.List.{List, [], _∷_, _++_, append-assoc}
 use native.Mathlib.Omega.{arith}
 use native.Mathlib.Nat.{add-zero}
-use borrow.Author.Tests.{le-leb}
+use borrow.Author.Tests.{lt-ltb, le-leb}
 use lib.ListN.{length, getD, drop, length-append}
 use lib.Seq.{take-append-seam, drop-append-seam, drop-drop, getD-drop}
+use Rattle.octets.specs.Decimal.{noLeadingZero}
+use Rattle.octets.proofs.Decimals.{plain-unless}
 use Rattle.texts.specs.Text.{isDigit, all, leadingCount}
 use Rattle.texts.proofs.Texts.{leading-append}
 use Rattle.hostports.specs.declared.host_port.ParsedNumber.the-variants.{Number}
 use Rattle.hostports.specs.declared.host_port.ParsedHostPort.the-variants.{HostPort}
-use Rattle.hostports.specs.HostPort.{digitLimit, valueLimit, numberAt, moreAt, hostPortAt}
+use Rattle.hostports.specs.HostPort.{digitLimit, valueLimit, numberAt, moreAt, refusePortZero, hostPortAt}
 use Rattle.hostports.specs.HostPorts.{Numeral, StartsWithNoDigit, HostPortNumerals, hostPortText, address, port, WrittenAt}
-use Rattle.hostports.proofs.HostPort.{first-number, one-more, more-done}
+use Rattle.hostports.proofs.HostPort.{first-number, one-more, more-done, port-some}
 
 run-none : (rest : List ℕ) → StartsWithNoDigit rest → leadingCount isDigit rest ≡ 0
 unfolding leadingCount
 run-none [] h = refl
 run-none (b ∷ bs) h = rw h
 
-run-all : (digits rest : List ℕ) → all isDigit digits ≡ true → StartsWithNoDigit rest → leadingCount isDigit (digits ++ rest) ≡ length digits
+pub run-all : (digits rest : List ℕ) → all isDigit digits ≡ true → StartsWithNoDigit rest → leadingCount isDigit (digits ++ rest) ≡ length digits
 run-all digits rest h g = omega (arith, leading-append isDigit digits rest h, run-none rest g)
 
 -- a text with a part at a place has after that part what follows there
 pub after : (text : List ℕ) (at : ℕ) (part rest : List ℕ) → drop at text ≡ part ++ rest → drop (at + length part) text ≡ rest
 after text at part rest e = sym (drop-drop (length part) at text) ∙ rw e (drop-append-seam part rest)
 
-number-written : (text : List ℕ) (at : ℕ) (a : Numeral) (rest : List ℕ) → drop at text ≡ a .text ++ rest → StartsWithNoDigit rest → numberAt text at ≡ Number (a .value) (at + length (a .text))
+-- a numeral's digits are a number without leading zeros
+pub numeral-plain : (a : Numeral) → noLeadingZero (a .text) ≡ true
+numeral-plain a = plain-unless (a .text) (a .digits) (a .no-leading-zero) ∙ lt-ltb 0 (length (a .text)) (a .one-or-more)
+
+pub number-written : (text : List ℕ) (at : ℕ) (a : Numeral) (rest : List ℕ) → drop at text ≡ a .text ++ rest → StartsWithNoDigit rest → numberAt text at ≡ Number (a .value) (at + length (a .text))
 unfolding numberAt
 number-written text at a rest e g =
     rw (
@@ -36,7 +42,7 @@ number-written text at a rest e g =
       run-all (a .text) rest (a .digits) g,
       take-append-seam (a .text) rest,
       a .says,
-      le-leb 1 (length (a .text)) (a .one-or-more),
+      numeral-plain a,
       le-leb (length (a .text)) digitLimit (a .at-most-three),
       le-leb (a .value) valueLimit (a .small),
     )
@@ -69,6 +75,13 @@ pub written-place : (h : HostPortNumerals) (at : ℕ)
 unfolding hostPortText
 written-place h at = simp length-append (omega arith)
 
+-- a port of two numbers below 256 is what is left of the host-port by 65,536, and it is not 0
+pub port-is : (h : HostPortNumerals) → (address h * 65536 + port h) % 65536 ≡ port h
+port-is h = omega (arith, h .e .small, h .f .small)
+
+pub port-is-some : (h : HostPortNumerals) → port h ≡ 0 → ⊥
+port-is-some h z = h .has-port (omega arith, omega arith)
+
 -- six numbers are read one after the other
 pub six-written : (text : List ℕ) (at : ℕ) (h : HostPortNumerals) → WrittenAt text at h → hostPortAt text at ≡ HostPort (address h * 65536 + port h) (at + length (hostPortText h))
 six-written text at h w =
@@ -89,11 +102,15 @@ six-written text at h w =
     let d₄ : drop p₄ text ≡ s₄ = after-more text p₃ (h .d) s₄ d₃ in
     let d₅ : drop p₅ text ≡ s₅ = after-more text p₄ (h .e) s₅ d₄ in
     let number : (address h * 256 + h .e .value) * 256 + h .f .value ≡ address h * 65536 + port h = omega arith in
-    first-number text at (h .a .value) p₁ (number-written text at (h .a) s₁ d₀ refl)
-    ∙ more-written text p₁ (h .b) s₂ d₁ 4 _ refl
+    let more : moreAt 5 text (h .a .value) p₁ ≡ HostPort (address h * 65536 + port h) (at + length (hostPortText h)) =
+    more-written text p₁ (h .b) s₂ d₁ 4 _ refl
     ∙ more-written text p₂ (h .c) s₃ d₂ 3 _ refl
     ∙ more-written text p₃ (h .d) s₄ d₃ 2 _ refl
     ∙ more-written text p₄ (h .e) s₅ d₄ 1 _ refl
     ∙ more-written text p₅ (h .f) (w .rest) d₅ 0 _ (w .no-digit)
     ∙ more-done text _ _
     ∙ rw (written-place h at, number)
+    in
+    first-number text at (h .a .value) p₁ (number-written text at (h .a) s₁ d₀ refl)
+    ∙ ap refusePortZero more
+    ∙ port-some _ _ (λ z. port-is-some h (sym (port-is h) ∙ z))

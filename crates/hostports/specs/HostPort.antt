@@ -1,10 +1,10 @@
--- A host-port (document 01, "Control lines"): six decimal numbers with commas between.
-use Prim.Native.Nat.{ℕ, zero, suc, _+_, _*_}
+-- A host-port (document 01, "Control lines"; document 02, Item 10): six decimal numbers with commas between, without leading zeros, the port not 0.
+use Prim.Native.Nat.{ℕ, zero, suc, _+_, _*_, _%_}
 use mathlib.Core.Bool.{cond, _&&_}
 use mathlib.Core.List.{List}
 use lib.Dec.{leb, eqb}
 use lib.ListN.{getD, take, drop}
-use Rattle.octets.specs.Decimal.{decimalValue}
+use Rattle.octets.specs.Decimal.{decimalValue, noLeadingZero}
 use Rattle.texts.specs.Text.{isDigit, leadingCount}
 use Rattle.hostports.specs.declared.host_port.ParsedNumber.{ParsedNumber}
 use Rattle.hostports.specs.declared.host_port.ParsedNumber.the-variants.{Number, Malformed as NoNumber}
@@ -22,12 +22,12 @@ digitLimit = 3
 abbrev pub valueLimit : ℕ
 valueLimit = 255
 
--- one number at a place: 1 to 3 digits, at most 255; its value and the place after it
+-- one number at a place: 1 to 3 digits, at most 255, of which the first is not 0 where there are more; its value and the place after it
 unfoldable pub numberAt : List ℕ → ℕ → ParsedNumber
 numberAt text at =
     let k = leadingCount isDigit (drop at text) in
-    let n = decimalValue (take k (drop at text)) in
-    cond (leb 1 k && (leb k digitLimit && leb n valueLimit)) (Number n (at + k)) NoNumber
+    let digits = take k (drop at text) in
+    cond (noLeadingZero digits && (leb k digitLimit && leb (decimalValue digits) valueLimit)) (Number (decimalValue digits) (at + k)) NoNumber
 
 -- goes on with a number's value and the place after it; malformed where there is no number
 unfoldable pub andThen : ParsedNumber → (ℕ → ℕ → ParsedHostPort) → ParsedHostPort
@@ -40,9 +40,18 @@ moreAt zero text v at = HostPort v at
 moreAt (suc n) text v at =
     cond (eqb (getD text at 0) comma) (andThen (numberAt text (at + 1)) (λ w next. moreAt n text (v * 256 + w) next)) Malformed
 
--- six numbers, which make address * 65,536 + port
+-- the port of a host-port: what the last two numbers make
+abbrev pub portOf : ℕ → ℕ
+portOf v = v % 65536
+
+-- port 0 is malformed
+unfoldable pub refusePortZero : ParsedHostPort → ParsedHostPort
+refusePortZero Malformed = Malformed
+refusePortZero (HostPort v next) = cond (eqb (portOf v) 0) Malformed (HostPort v next)
+
+-- six numbers, which make address * 65,536 + port, the port not 0
 unfoldable pub hostPortAt : List ℕ → ℕ → ParsedHostPort
-hostPortAt text at = andThen (numberAt text at) (moreAt 5 text)
+hostPortAt text at = refusePortZero (andThen (numberAt text at) (moreAt 5 text))
 
 -- document 01's number for each case, 0 where nothing is refused
 unfoldable pub refusalNumber : ParsedHostPort → ℕ

@@ -1,15 +1,15 @@
--- What host-ports mean, in the terms of document 01, "Control lines".
-use Prim.Native.Nat.{ℕ, _+_, _*_, _^_, _≤_, _<_}
+-- What host-ports mean, in the terms of document 01, "Control lines", and of document 02, Item 10.
+use Prim.Native.Nat.{ℕ, _+_, _*_, _-_, _%_, _^_, _≤_, _<_}
 use mathlib.Core.Path.{_≡_}
 use mathlib.Core.Bool.{true, false}
 use mathlib.Core.List.{List, [], _∷_, _++_}
-use lib.ListN.{length, drop}
+use lib.ListN.{length, getD, take, drop}
 use Rattle.octets.specs.Decimal.{decimalValue}
 use Rattle.texts.specs.Text.{isDigit, all}
 use Rattle.hostports.specs.declared.host_port.ParsedHostPort.the-variants.{HostPort}
 use Rattle.hostports.specs.HostPort.{hostPortAt, refusalNumber, valueOf, placeAfter}
 
--- a number of at most 255, written in 1 to 3 digits, leading zeros being fine
+-- a number of at most 255, written in 1 to 3 digits, without a leading zero, which a lone 0 is not
 pub record Numeral : Type 0 where
   pub text : List ℕ
   pub value : ℕ
@@ -18,13 +18,14 @@ pub record Numeral : Type 0 where
   pub at-most-three : length text ≤ 3
   pub says : decimalValue text ≡ value
   pub small : value ≤ 255
+  pub no-leading-zero : 2 ≤ length text → getD text 0 0 ≡ 48 → ⊥
 
 -- nothing, or first a byte that is no digit
 abbrev pub StartsWithNoDigit : List ℕ → Type 0
 StartsWithNoDigit [] = Unit {0}
 StartsWithNoDigit (b ∷ bs) = isDigit b ≡ false
 
--- the six numbers of a host-port: four of address, two of port
+-- the six numbers of a host-port: four of address, two of port, and the last two not both 0
 pub record HostPortNumerals : Type 0 where
   pub a : Numeral
   pub b : Numeral
@@ -32,6 +33,7 @@ pub record HostPortNumerals : Type 0 where
   pub d : Numeral
   pub e : Numeral
   pub f : Numeral
+  pub has-port : (e .value ≡ 0) × (f .value ≡ 0) → ⊥
 
 -- six numbers, commas between
 unfoldable pub hostPortText : HostPortNumerals → List ℕ
@@ -50,6 +52,23 @@ pub record WrittenAt (text : List ℕ) (at : ℕ) (h : HostPortNumerals) : Type 
   pub there : drop at text ≡ hostPortText h ++ rest
   pub no-digit : StartsWithNoDigit rest
 
+-- runs of digits as they are written, a comma after each
+unfoldable pub commaAfterEach : List (List ℕ) → List ℕ
+commaAfterEach [] = []
+commaAfterEach (run ∷ runs) = run ++ 44 ∷ commaAfterEach runs
+
+-- each of the runs has digits alone
+abbrev pub AllDigits : List (List ℕ) → Type 0
+AllDigits [] = Unit {0}
+AllDigits (run ∷ runs) = (all isDigit run ≡ true) × AllDigits runs
+
+-- at a place there are runs of digits with a comma after each, and then these bytes, whatever follows them
+pub record AfterNumbers (text : List ℕ) (at : ℕ) (then : List ℕ) : Type 0 where
+  pub runs : List (List ℕ)
+  pub digits : AllDigits runs
+  pub rest : List ℕ
+  pub there : drop at text ≡ commaAfterEach runs ++ (then ++ rest)
+
 pub record HostPorts : Type 0 where
   -- six numbers with commas between, at any place of a text, with nothing or a byte that is no digit after them, are a host-port:
   -- address * 65,536 + port, and the place after it
@@ -65,3 +84,15 @@ pub record HostPorts : Type 0 where
       → (refusalNumber (hostPortAt text at) ≡ 41) × (valueOf (hostPortAt text at) ≡ 0) × (placeAfter (hostPortAt text at) ≡ 0)
   -- whatever text it is read from, a host-port fits 48 bits
   pub fits-48-bits : (text : List ℕ) (at v next : ℕ) → hostPortAt text at ≡ HostPort v next → v < 2 ^ 48
+  -- a number with a leading zero, other than a lone 0, is malformed: a 0 and a further digit where one of the six begins, whatever the
+  -- numbers before it say and whatever follows
+  pub no-leading-zero : (text : List ℕ) (at d : ℕ) → isDigit d ≡ true → (w : AfterNumbers text at (48 ∷ d ∷ [])) → length (w .runs) ≤ 5
+      → refusalNumber (hostPortAt text at) ≡ 41
+  -- and so is port 0: `0,0` where the last two of the six begin, whatever the four before them say and whatever follows
+  pub no-port-0 : (text : List ℕ) (at : ℕ) → (w : AfterNumbers text at (48 ∷ 44 ∷ 48 ∷ [])) → length (w .runs) ≡ 4 → refusalNumber (hostPortAt text at) ≡ 41
+  -- so no host-port that is read has port 0
+  pub port-not-0 : (text : List ℕ) (at v next : ℕ) → hostPortAt text at ≡ HostPort v next → 0 < v % 65536
+  -- unequal texts never mean the same host-port: two texts that are a host-port each, of one value, are one text, whatever their lengths
+  pub one-text : (s t : List ℕ) (v : ℕ) → hostPortAt s 0 ≡ HostPort v (length s) → hostPortAt t 0 ≡ HostPort v (length t) → s ≡ t
+  -- and the bytes of two host-ports of one value are the same, at any places of any texts
+  pub same-bytes : (s t : List ℕ) (a b v p q : ℕ) → hostPortAt s a ≡ HostPort v p → hostPortAt t b ≡ HostPort v q → take (p - a) (drop a s) ≡ take (q - b) (drop b t)

@@ -1,2 +1,3 @@
 pub mod HostPort
 pub mod HostPorts
+pub mod HostPortCases

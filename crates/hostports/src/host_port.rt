@@ -7,6 +7,8 @@ ghost use Rattle.hostports.specs.HostPort.{numberAt, hostPortAt};
 
 const COMMA: u8 = 44;
 
+const ZERO: u8 = 48;
+
 // One of the six numbers at a place of a text: its value and the place after it, or nothing that is well formed.
 pub enum ParsedNumber {
     Number { value: u64, next: usize },
@@ -19,7 +21,7 @@ pub enum ParsedHostPort {
     Malformed,
 }
 
-// One of the six numbers: 1 to 3 digits, at most 255.
+// One of the six numbers: 1 to 3 digits, at most 255, of which the first is not 0 where there are more.
 fn number_at(text: &[u8], at: usize) -> ParsedNumber
     ensures { λ r. ⌜ r ≡ numberAt (now (text .entry)) at ⌝ }
 {
@@ -31,6 +33,11 @@ fn number_at(text: &[u8], at: usize) -> ParsedNumber
     if 3 < k {
         return ParsedNumber::Malformed;
     }
+    if 1 < k {
+        if rest[0] == ZERO {
+            return ParsedNumber::Malformed;
+        }
+    }
     let number = decimal::read(&rest[..k], 255);
     let decimal::Number::Value(value) = number else {
         return ParsedNumber::Malformed;
@@ -41,7 +48,7 @@ fn number_at(text: &[u8], at: usize) -> ParsedNumber
     }
 }
 
-// Six numbers, a comma before each but the first.
+// Six numbers, a comma before each but the first, the last two not both 0.
 fn host_port_at(text: &[u8], at: usize) -> ParsedHostPort
     ensures { λ r. ⌜ r ≡ hostPortAt (now (text .entry)) at ⌝ }
 {
@@ -66,6 +73,9 @@ fn host_port_at(text: &[u8], at: usize) -> ParsedHostPort
         v = v * 256 + value;
         place = next;
         k += 1;
+    }
+    if v % 65536 == 0 {
+        return ParsedHostPort::Malformed;
     }
     ParsedHostPort::HostPort {
         value: v,

@@ -8,8 +8,8 @@ use native.Mathlib.Omega.{arith}
 use native.Mathlib.Numerals.{add-one}
 use native.Mathlib.Nat.{pow-suc, one-le-pow, le-refl, mod-eq-of-lt}
 use native.Mathlib.Decide.{decLt}
-use borrow.Author.Tests.{lt-ltb, le-ltb, lt-leb, ne-eqb, eqb-false, not-true}
-use lib.Dec.{leb, eqb}
+use borrow.Author.Tests.{lt-ltb, le-ltb, lt-leb, eq-eqb, ne-eqb, eqb-false, not-true}
+use lib.Dec.{leb, ltb, eqb}
 use lib.ListN.{length, getD, take, drop, length-map, take-append-drop}
 use lib.Seq.{take-suc}
 use Rattle.octets.specs.Digits.{AllBelow, fromBigEndian, toBigEndian, toLittleEndian}
@@ -248,3 +248,27 @@ pub decimal-is-plain : (n : ℕ) → noLeadingZero (decimal n) ≡ true
 unfolding noLeadingZero
 decimal-is-plain zero = rw (decimal-small 0 (omega arith))
 decimal-is-plain (suc n) = leads-plain (decimal (suc n)) (decimal-leads (suc n) (suc n) (le-refl (suc n)) (omega arith))
+
+-- ---- no leading zero, by a text's length and its first byte
+
+-- two digits or more of which the first is 0
+pub leading-zero : (text : List ℕ) → 2 ≤ length text → getD text 0 0 ≡ 48 → noLeadingZero text ≡ false
+unfolding noLeadingZero
+leading-zero [] h e = refl
+leading-zero (b ∷ []) h e = absurd (omega arith)
+leading-zero (b ∷ c ∷ rest) h e = rw (eq-eqb b 48 e)
+
+-- digits that are no such text are a number without leading zeros, where there is one
+pub plain-unless : (text : List ℕ) → all isDigit text ≡ true → (2 ≤ length text → getD text 0 0 ≡ 48 → ⊥) → noLeadingZero text ≡ ltb 0 (length text)
+unfolding noLeadingZero all
+plain-unless [] h g = refl
+plain-unless (b ∷ []) h g = and-eq-true-iff (isDigit b) true .0 h .0
+plain-unless (b ∷ c ∷ rest) h g = rw (ne-eqb b 48 (g (omega arith)), lt-ltb 0 (length (b ∷ c ∷ rest)) (omega arith)) h
+
+pub plain-some : (text : List ℕ) → noLeadingZero text ≡ true → 1 ≤ length text
+unfolding noLeadingZero
+plain-some [] h = absurd (false≢true h)
+plain-some (b ∷ rest) h = omega arith
+
+pub plain-first : (text : List ℕ) → noLeadingZero text ≡ true → 2 ≤ length text → getD text 0 0 ≡ 48 → ⊥
+plain-first text h g e = false≢true (sym (leading-zero text g e) ∙ h)

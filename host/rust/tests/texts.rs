@@ -98,6 +98,51 @@ fn host_ports() {
     assert_eq!(number(hosts::read(&many)), 42);
     let most = &many[..many.len() - 12];
     assert_eq!(hosts::read(most).unwrap().len(), hosts::LIMIT);
+
+    for bad in ["01,2,3,4,5,6", "1,2,3,4,5,06", "1,2,3,4,0,0"] {
+        assert_eq!(number(hosts::read(format!("{most} {bad}"))), 42);
+        assert_eq!(number(hosts::read(format!("1,2,3,4,5,6 {bad} {many}"))), 41);
+        let last = format!("{} {bad}", &most[12..]);
+        assert_eq!(number(hosts::read(&last)), 41);
+        assert_eq!(number(hosts::read(format!("{last} 1,2,3,4,5,6"))), 41);
+    }
+}
+
+/// Refused as a list, and not found in a text.
+fn malformed(host_port: &str) {
+    assert_eq!(number(hosts::read(host_port)), 41, "{host_port}");
+    assert_eq!(hosts::at(host_port, 0), None, "{host_port}");
+}
+
+#[test]
+fn host_ports_with_leading_zeros() {
+    for place in 0..6 {
+        for padded in ["00", "01", "07", "000", "001", "010", "099"] {
+            let mut numbers = ["10", "20", "30", "40", "4", "21"];
+            numbers[place] = padded;
+            malformed(&numbers.join(","));
+        }
+    }
+    // Neither 8,0,0,1 nor 10,0,0,1.
+    malformed("010,0,0,1,0,21");
+}
+
+#[test]
+fn host_ports_with_lone_zeros() {
+    for (text, address, port) in [
+        ("10,0,0,1,4,0", [10, 0, 0, 1], 1_024),
+        ("10,0,0,1,0,21", [10, 0, 0, 1], 21),
+        ("0,10,20,30,1,0", [0, 10, 20, 30], 256),
+        ("10,20,30,0,0,255", [10, 20, 30, 0], 255),
+        ("0,0,0,0,0,1", [0, 0, 0, 0], 1),
+    ] {
+        let socket = SocketAddrV4::new(address.into(), port);
+        assert_eq!(hosts::read(text), Ok(vec![socket]));
+        assert_eq!(hosts::at(text, 0), Some((socket, text.len())));
+    }
+    malformed("10,0,0,1,0,0");
+    malformed("0,0,0,0,0,0");
+    malformed("10,0,0,1,00,0");
 }
 
 #[test]

@@ -8,7 +8,7 @@ use std::collections::BTreeMap;
 type Table = [(&'static str, &'static [u64])];
 
 /// 0 is an answer without refusal. Faults and descriptors are counted by their numbers, words by the header's.
-pub const ENTRIES: [(&str, &[u64]); 24] = [
+pub const ENTRIES: [(&str, &[u64]); 29] = [
     ("start", &[0, 5]),
     ("unequal start", &[5]),
     ("receive", &[0, 1, 2, 3, 4]),
@@ -27,6 +27,13 @@ pub const ENTRIES: [(&str, &[u64]); 24] = [
     ("line", &[0, 31, 32, 33, 34, 35]),
     ("reply", &[0, 36]),
     ("hosts", &[0, 41, 42, 43]),
+    ("hosts found", &[1, 2, 63, 64]),
+    // In one host-port, where all the others are good.
+    ("leading zero", &[41, 42]),
+    ("port 0", &[41, 42]),
+    ("above 255", &[41, 42]),
+    // Which of the six numbers, in accepted lists.
+    ("lone zero", &[0, 1, 2, 3, 4, 5]),
     ("ranges read", &[0, 51, 52, 53]),
     ("ranges write", &[0, 1, 53, 54, 55]),
     ("saved read", &[0, 53, 61, 62, 63, 64]),

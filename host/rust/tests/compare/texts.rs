@@ -90,25 +90,15 @@ pub fn replies(random: &Random, seen: &mut Seen) {
 }
 
 pub fn hosts(random: &Random, seen: &mut Seen) {
-    let count = *random.pick(&[
-        random.between(1, 4),
-        random.between(MOST_HOSTS - 1, MOST_HOSTS + 2),
-    ]);
-    let words: Vec<String> = (0..count).map(|_| host_port(random)).collect();
+    let mut list: Vec<[String; 6]> = (0..how_many(random)).map(|_| host_port(random)).collect();
+    let flaw = random.one_in(4).then(|| spoil(&mut list, random));
+    let words: Vec<String> = list.iter().map(|numbers| numbers.join(",")).collect();
     let mut text = words.join(" ").into_bytes();
-    if random.one_in(4) {
-        text.push(b' ');
+    let edited = random.one_in(6);
+    if edited {
+        edit_list(&mut text, random);
     }
-    for _ in 0..random.size(2) {
-        edit(&mut text, random, b"  ,,0123456789x.-");
-    }
-    let lent = *random.pick(&[
-        MOST_HOSTS - 1,
-        MOST_HOSTS,
-        MOST_HOSTS,
-        MOST_HOSTS + 1,
-        random.size(200),
-    ]);
+    let lent = room(random);
     let answer = buffers::read(
         lent,
         random,
@@ -116,24 +106,109 @@ pub fn hosts(random: &Random, seen: &mut Seen) {
         |list| library::hosts(&text, list),
     );
     seen.note("hosts", &answer);
+    if let Ok(found) = answer {
+        seen.note_number("hosts found", found as u64);
+    }
+    if let Some(flaw) = flaw.filter(|_| !edited) {
+        seen.note(flaw, &answer);
+    }
 
-    let at = *random.pick(&[0, random.size(text.len() + 2), random.wild() as usize]);
-    assert_eq!(
-        library::host_at(&text, at),
-        control::host_at(&text, at),
-        "{text:?} at {at}"
-    );
+    host_at(&text, random.size(text.len() + 2));
+    host_at(&text, random.wild() as usize);
+    if random.one_in(4) {
+        each_host_at(&text, answer.is_ok(), seen);
+    }
 }
 
-fn host_port(random: &Random) -> String {
-    let limit = if random.one_in(60) { 256 } else { 255 };
-    let numbers: Vec<String> = (0..6)
-        .map(
-            |_| match (random.pick(&[random.size(255), limit]), random.below(3)) {
-                (number, 0) => format!("{number:03}"),
-                (number, _) => number.to_string(),
-            },
-        )
-        .collect();
-    numbers.join(",")
+fn how_many(random: &Random) -> usize {
+    let few = random.between(1, 4);
+    let more = random.between(MOST_HOSTS + 1, MOST_HOSTS + 2);
+    *random.pick(&[1, 2, few, MOST_HOSTS - 1, MOST_HOSTS, MOST_HOSTS, more])
+}
+
+/// How many entries are lent.
+fn room(random: &Random) -> usize {
+    if random.one_in(8) {
+        *random.pick(&[MOST_HOSTS - 1, random.size(MOST_HOSTS - 1)])
+    } else {
+        MOST_HOSTS + random.size(136)
+    }
+}
+
+/// The numbers of a good one, with many a 0.
+fn host_port(random: &Random) -> [String; 6] {
+    let most = *random.pick(&[0, 255, 255, 255]);
+    let [a, b, c, d] = [most; 4].map(|most| *random.pick(&[0, most, random.size(most)]));
+    let half = 1 + random.size(254);
+    let port = *random.pick(&[half, half * 256, 1 + random.size(65_534), 65_535]);
+    [a, b, c, d, port / 256, port % 256].map(|number| number.to_string())
+}
+
+/// Makes one of them malformed, and answers how.
+fn spoil(list: &mut [[String; 6]], random: &Random) -> &'static str {
+    let last = list.len() - 1;
+    let at = *random.pick(&[
+        0,
+        random.between(0, last),
+        last.min(MOST_HOSTS - 1),
+        last.min(MOST_HOSTS),
+        last.min(MOST_HOSTS),
+    ]);
+    let place = random.below(6);
+    match random.below(4) {
+        0 => {
+            list[at][4..].fill("0".to_string());
+            "port 0"
+        }
+        1 => {
+            list[at][place] = random.pick(&[256, random.between(257, 999)]).to_string();
+            "above 255"
+        }
+        _ => {
+            list[at][place] = padded(random);
+            "leading zero"
+        }
+    }
+}
+
+/// From 00 to 09, or from 000 to 099.
+fn padded(random: &Random) -> String {
+    let digits = random.between(1, 2);
+    let most = 10usize.pow(digits as u32) - 1;
+    let number = *random.pick(&[random.size(most), random.between(0, most)]);
+    format!("0{number:0digits$}")
+}
+
+fn edit_list(text: &mut Vec<u8>, random: &Random) {
+    if random.one_in(3) {
+        text.push(b' ');
+    }
+    for _ in 0..random.between(0, 2) {
+        edit(text, random, b"  ,,00123456789x.-");
+    }
+}
+
+/// Compares what is found at a place.
+fn host_at(text: &[u8], at: usize) -> Option<(u64, usize)> {
+    let found = control::host_at(text, at);
+    assert_eq!(library::host_at(text, at), found, "{text:?} at {at}");
+    found
+}
+
+/// Where the text begins and after each space.
+fn each_host_at(text: &[u8], accepted: bool, seen: &mut Seen) {
+    for at in (0..=text.len()).filter(|at| *at == 0 || text[at - 1] == b' ') {
+        match host_at(text, at) {
+            Some((value, _)) if accepted => note_zeros(value, seen),
+            _ => {}
+        }
+    }
+}
+
+fn note_zeros(value: u64, seen: &mut Seen) {
+    for (place, number) in (0..).zip(&value.to_be_bytes()[2..]) {
+        if *number == 0 {
+            seen.note_number("lone zero", place);
+        }
+    }
 }

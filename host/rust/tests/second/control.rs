@@ -91,11 +91,14 @@ pub fn host_at(text: &[u8], at: usize) -> Option<(u64, usize)> {
         value = value * 256 + number(&rest[..digits])?;
         place += digits;
     }
-    Some((value, place))
+    let port = value % 65_536;
+    (port != 0).then_some((value, place))
 }
 
+/// At most 255. Only 0 itself may begin with a zero.
 fn number(digits: &[u8]) -> Option<u64> {
-    if !(1..=3).contains(&digits.len()) {
+    let padded = digits.len() > 1 && digits[0] == b'0';
+    if padded || !(1..=3).contains(&digits.len()) {
         return None;
     }
     let value = digits

@@ -1,24 +1,25 @@
 -- `host_port::host_port_at`: the numbers read, and those that are to come after them, make the host-port.
 use Prim.Native.Nat.{suc, _+_, _-_, _^_, _≤_, _<_}
-use mathlib.Core.Path.{_≡_, sym, _∙_}
+use mathlib.Core.Path.{_≡_, sym, ap, _∙_}
 use native.Mathlib.Omega.{arith}
 use borrow.Author.Needs.{needs}
 use lib.ListN.{List·getD-eq-default}
-use Rattle.hostports.specs.HostPort.{numberAt, moreAt, hostPortAt}
+use Rattle.hostports.specs.HostPort.{numberAt, moreAt, refusePortZero, hostPortAt}
 use Rattle.hostports.specs.declared.host_port.ParsedNumber.the-variants.{Number}
-use Rattle.hostports.proofs.HostPort.{first-malformed, first-number, no-comma, more-malformed, one-more, has-room, grows, number-bound}
+use Rattle.hostports.specs.declared.host_port.ParsedHostPort.the-variants.{HostPort}
+use Rattle.hostports.proofs.HostPort.{first-malformed, first-number, no-comma, more-malformed, one-more, more-done, still-malformed, port-zero, port-some, has-room, grows, number-bound}
 use Rattle.hostports.proofs.host_port.host_port_at.Statement.{statement}
 use Rattle.hostports.proofs.host_port.host_port_at.Tie as tie
 
 abbrev Inv-loop : tie.InvT-loop
-Inv-loop text at value next v₀ place₀ k₀ v place k = (k ≤ 5) × (v < 256 ^ (k + 1)) × (moreAt (5 - k) text v place ≡ hostPortAt text at)
+Inv-loop text at value next v₀ place₀ k₀ v place k = (k ≤ 5) × (v < 256 ^ (k + 1)) × (refusePortZero (moreAt (5 - k) text v place) ≡ hostPortAt text at)
 
 abbrev μ-loop : tie.MeasureT-loop
 μ-loop text at value next v₀ place₀ k₀ v place k = 5 - k
 
 -- one of the numbers that are to come is the next
 host-port : (c : tie.In-loop Inv-loop μ-loop) → let l = c .before in let x = l .before .before .before .before .before .before .args in
-    hostPortAt (x .text .now) (x .at) ≡ moreAt (suc (5 - (l .loop .k + 1))) (x .text .now) (l .loop .v) (l .loop .place)
+    hostPortAt (x .text .now) (x .at) ≡ refusePortZero (moreAt (suc (5 - (l .loop .k + 1))) (x .text .now) (l .loop .v) (l .loop .place))
 host-port c =
     let l = c .before in
     let m : suc (5 - (l .loop .k + 1)) ≡ 5 - l .loop .k = omega arith in
@@ -58,7 +59,7 @@ returns-2 c =
     let l = c .before .before in
     let s = l .before .before .before .before .before .before .args .text .now in
     let z = List·getD-eq-default s 0 (c .if1 .taken) in
-    sym (host-port (c .before) ∙ no-comma _ s (l .loop .v) (l .loop .place) (λ e. omega (arith, z, e)))
+    sym (host-port (c .before) ∙ still-malformed _ (no-comma _ s (l .loop .v) (l .loop .place) (λ e. omega (arith, z, e))))
 
 shared-slice-read-if2 : tie.Need-shared-slice-read-if2 Inv-loop μ-loop
 shared-slice-read-if2 c = omega arith
@@ -67,7 +68,7 @@ returns-3 : tie.Need-returns-3 Inv-loop μ-loop
 returns-3 c =
     let d = c .before .before .before in
     let l = d .before in
-    sym (host-port d ∙ no-comma _ (l .before .before .before .before .before .before .args .text .now) (l .loop .v) (l .loop .place) (c .if2 .taken))
+    sym (host-port d ∙ still-malformed _ (no-comma _ (l .before .before .before .before .before .before .args .text .now) (l .loop .v) (l .loop .place) (c .if2 .taken)))
 
 add-number-at : tie.Need-add-number-at Inv-loop μ-loop
 add-number-at c = omega arith
@@ -87,7 +88,7 @@ returns-4 c =
     let d = e .before .before .before in
     let l = d .before in
     let s = l .before .before .before .before .before .before .args .text .now in
-    sym (host-port d ∙ more-malformed _ s (l .loop .v) (l .loop .place) (e .if2 .left) (sym (c .before .before .number-at2 .ensures) ∙ c .enum-told2 .given .1))
+    sym (host-port d ∙ still-malformed _ (more-malformed _ s (l .loop .v) (l .loop .place) (e .if2 .left) (sym (c .before .before .number-at2 .ensures) ∙ c .enum-told2 .given .1)))
 
 mul-v : tie.Need-mul-v Inv-loop μ-loop
 mul-v c =
@@ -115,15 +116,22 @@ loop-again c =
     let s = l .before .before .before .before .before .before .args .text .now in (
       omega arith,
       grows (l .loop .v) (n .number .given .0 .0) (l .loop .k) (l .loop .inv .1) (number-bound s (l .loop .place + 1) _ _ (next-is n)),
-      sym (host-port d ∙ one-more (5 - (l .loop .k + 1)) s (l .loop .v) (l .loop .place) _ _ (e .if2 .left) (next-is n)),
+      sym (host-port d ∙ ap refusePortZero (one-more (5 - (l .loop .k + 1)) s (l .loop .v) (l .loop .place) _ _ (e .if2 .left) (next-is n))),
     )
 
-returns-5 : tie.Need-returns-5 Inv-loop μ-loop
-unfolding moreAt
-returns-5 c =
+-- after the sixth number nothing more is read
+six : (c : tie.After-loop Inv-loop μ-loop) → let l = c .before in let x = l .before .before .before .before .before .before .args in
+    hostPortAt (x .text .now) (x .at) ≡ refusePortZero (HostPort (l .loop .v) (l .loop .place))
+six c =
     let l = c .before in
     let z : 5 - l .loop .k ≡ 0 = omega arith in
-    rw z at (l .loop .inv .2)
+    sym (l .loop .inv .2) ∙ ap refusePortZero (rw z (more-done _ (l .loop .v) (l .loop .place)))
+
+returns-5 : tie.Need-returns-5 Inv-loop μ-loop
+returns-5 c = sym (six (c .before) ∙ port-zero _ _ (c .if3 .taken))
+
+returns-6 : tie.Need-returns-6 Inv-loop μ-loop
+returns-6 c = sym (six (c .before) ∙ port-some _ _ (c .if3 .left))
 
 pub host-port-at-spec : {M : Type 1} → statement M
 host-port-at-spec =
@@ -149,4 +157,5 @@ host-port-at-spec =
     add-k
     loop-less
     loop-again
-    returns-5)
+    returns-5
+    returns-6)

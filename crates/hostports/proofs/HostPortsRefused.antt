@@ -1,0 +1,138 @@
+-- A number with a leading zero is malformed, and so is port 0, whatever comes before and after.
+use Prim.Native.Nat.{ℕ, suc, _+_, _*_, _-_, _≤_, _<_}
+use mathlib.Core.Path.{_≡_, refl, sym, ap, _∙_}
+use mathlib.Core.Bool.{true}
+use mathlib.Core.List.{List, [], _∷_, _++_, append-assoc}
+use native.Mathlib.Omega.{arith}
+use native.Mathlib.Nat.{zero-add, suc-add, add-zero}
+use borrow.Author.Tests.{eq-eqb}
+use lib.ListN.{length, getD, drop}
+use lib.Seq.{getD-drop}
+use Rattle.octets.specs.Decimal.{decimalValue}
+use Rattle.octets.proofs.Reading.{reading}
+use Rattle.texts.specs.Text.{isDigit, all, leadingCount}
+use Rattle.hostports.specs.declared.host_port.ParsedNumber.{ParsedNumber}
+use Rattle.hostports.specs.declared.host_port.ParsedNumber.the-variants.{Number, Malformed as NoNumber}
+use Rattle.hostports.specs.declared.host_port.ParsedHostPort.{ParsedHostPort}
+use Rattle.hostports.specs.declared.host_port.ParsedHostPort.the-variants.{HostPort, Malformed}
+use Rattle.hostports.specs.HostPort.{comma, numberAt, andThen, moreAt, refusePortZero, hostPortAt}
+use Rattle.hostports.specs.HostPorts.{Numeral, AllDigits, commaAfterEach, AfterNumbers}
+use Rattle.hostports.proofs.HostPort.{number-zero, port-zero}
+use Rattle.hostports.proofs.HostPortsWritten.{run-all, after}
+use Rattle.hostports.proofs.HostPortsRead.{number-read}
+
+-- a number, and after it n more, a comma before each; v is the value so far
+unfoldable numbersFrom : ℕ → List ℕ → ℕ → ℕ → ParsedHostPort
+numbersFrom n text v at = andThen (numberAt text at) (λ u next. moreAt n text (v * 256 + u) next)
+
+from-none : (n : ℕ) (text : List ℕ) (v at : ℕ) → numberAt text at ≡ NoNumber → refusePortZero (numbersFrom n text v at) ≡ Malformed
+unfolding numbersFrom andThen refusePortZero
+from-none n text v at e = rw e
+
+from-number : (n : ℕ) (text : List ℕ) (v at u next : ℕ) → numberAt text at ≡ Number u next → numbersFrom n text v at ≡ moreAt n text (v * 256 + u) next
+unfolding numbersFrom andThen
+from-number n text v at u next e = rw e
+
+-- after a comma there is a further number
+after-comma : (n : ℕ) (text : List ℕ) (v at : ℕ) (rest : List ℕ) → drop at text ≡ 44 ∷ rest → moreAt (suc n) text v at ≡ numbersFrom n text v (at + 1)
+unfolding moreAt numbersFrom
+after-comma n text v at rest e =
+    let here : getD text at 0 ≡ comma = rw (← add-zero at, ← getD-drop at text 0 0, e) in
+    rw (eq-eqb (getD text at 0) comma here)
+
+-- from the first number on
+from-first : (text : List ℕ) (at : ℕ) → refusePortZero (numbersFrom 5 text 0 at) ≡ hostPortAt text at
+unfolding hostPortAt numbersFrom andThen
+from-first text at = go (numberAt text at)
+  where
+    go : (s : ParsedNumber) → refusePortZero (andThen s (λ u next. moreAt 5 text (0 * 256 + u) next)) ≡ refusePortZero (andThen s (moreAt 5 text))
+    go NoNumber = refl
+    go (Number u next) =
+        let z : 0 * 256 + u ≡ u = omega arith in
+        rw z
+
+-- a run of digits with a comma after it: where it is a number, that number ends before the comma
+skip-run : (n : ℕ) (text : List ℕ) (v at : ℕ) (run rest : List ℕ) → all isDigit run ≡ true → drop at text ≡ run ++ 44 ∷ rest
+    → ((u : ℕ) → numberAt text at ≡ Number u (at + length run) → refusePortZero (numbersFrom n text (v * 256 + u) (at + length run + 1)) ≡ Malformed)
+    → refusePortZero (numbersFrom (suc n) text v at) ≡ Malformed
+skip-run n text v at run rest digits there on = go (numberAt text at) refl
+  where
+    go : (s : ParsedNumber) → numberAt text at ≡ s → refusePortZero (numbersFrom (suc n) text v at) ≡ Malformed
+    go NoNumber e = from-none (suc n) text v at e
+    go (Number u next) e =
+        let m = number-read text at u next e in
+        let k : leadingCount isDigit (drop at text) ≡ length run = rw there (run-all run (44 ∷ rest) digits refl) in
+        let j : leadingCount isDigit (drop at text) ≡ length (m .a .text) = rw (m .there) (run-all (m .a .text) (m .rest) (m .a .digits) (m .no-digit)) in
+        let place : next ≡ at + length run = omega (arith, m .place) in
+        let is : numberAt text at ≡ Number u (at + length run) = e ∙ ap (Number u) place in
+        ap refusePortZero (from-number (suc n) text v at u (at + length run) is ∙ after-comma n text (v * 256 + u) (at + length run) rest (after text at run (44 ∷ rest) there)) ∙ on u is
+
+-- so many runs, a comma after each, and what comes then
+skip-runs : (runs : List (List ℕ)) (m : ℕ) (text : List ℕ) (v at : ℕ) (then : List ℕ) → AllDigits runs → drop at text ≡ commaAfterEach runs ++ then
+    → ((w place : ℕ) → drop place text ≡ then → refusePortZero (numbersFrom m text w place) ≡ Malformed)
+    → refusePortZero (numbersFrom (length runs + m) text v at) ≡ Malformed
+unfolding commaAfterEach
+skip-runs [] m text v at then digits there last = rw (zero-add m) (last v at there)
+skip-runs (run ∷ runs) m text v at then digits there last =
+    let here : drop at text ≡ run ++ 44 ∷ (commaAfterEach runs ++ then) = there ∙ append-assoc run (44 ∷ commaAfterEach runs) then in
+    let on : drop (at + length run + 1) text ≡ commaAfterEach runs ++ then =
+    after text (at + length run) (44 ∷ []) (commaAfterEach runs ++ then) (after text at run (44 ∷ (commaAfterEach runs ++ then)) here)
+    in
+    rw (suc-add (length runs) m) (skip-run (length runs + m) text v at run (commaAfterEach runs ++ then) (digits .0) here (λ u e. skip-runs runs m text (v * 256 + u) (at + length run + 1) then (digits .1) on last))
+
+-- ---- a leading zero
+
+zero-there : (text : List ℕ) (at d : ℕ) (rest : List ℕ) → isDigit d ≡ true → drop at text ≡ 48 ∷ d ∷ rest → numberAt text at ≡ NoNumber
+unfolding leadingCount
+zero-there text at d rest h e =
+    let two : 1 < leadingCount isDigit (drop at text) = rw (e, h) (omega arith) in
+    number-zero text at two (rw e)
+
+pub leading-zero-malformed : (text : List ℕ) (at d : ℕ) → isDigit d ≡ true → (w : AfterNumbers text at (48 ∷ d ∷ [])) → length (w .runs) ≤ 5 → hostPortAt text at ≡ Malformed
+leading-zero-malformed text at d h w few =
+    let m : length (w .runs) + (5 - length (w .runs)) ≡ 5 = omega arith in
+    sym (from-first text at)
+    ∙ rw (← m) (skip-runs (w .runs) (5 - length (w .runs)) text 0 at (48 ∷ d ∷ w .rest) (w .digits) (w .there) (λ v place e. from-none _ text v place (zero-there text place d (w .rest) h e)))
+
+-- ---- port 0
+
+zero-says : decimalValue (48 ∷ []) ≡ 0
+zero-says = reading .digits-more [] 48 ∙ rw (reading .digits-none)
+
+-- a numeral that begins with 0 is 0
+zero-first : (text : List ℕ) → 1 ≤ length text → (2 ≤ length text → getD text 0 0 ≡ 48 → ⊥) → getD text 0 0 ≡ 48 → decimalValue text ≡ 0
+zero-first [] one plain e = absurd (omega arith)
+zero-first (b ∷ []) one plain e = rw e zero-says
+zero-first (b ∷ c ∷ rest) one plain e = absurd (plain (omega arith) e)
+
+-- a number that is read where a 0 is, is 0
+zero-read : (text : List ℕ) (at u next : ℕ) (rest : List ℕ) → drop at text ≡ 48 ∷ rest → numberAt text at ≡ Number u next → u ≡ 0
+zero-read text at u next rest there e =
+    let m = number-read text at u next e in
+    let a = m .a in
+    m .says ∙ sym (a .says) ∙ zero-first (a .text) (a .one-or-more) (a .no-leading-zero) (first (a .text) (m .rest) (a .one-or-more) (sym (m .there) ∙ there))
+  where
+    first : (xs ys : List ℕ) → 1 ≤ length xs → xs ++ ys ≡ 48 ∷ rest → getD xs 0 0 ≡ 48
+    first [] ys one same = absurd (omega arith)
+    first (x ∷ xs) ys one same = ap (λ (l : List ℕ). getD l 0 0) same
+
+-- the last of the six
+last-zero : (text : List ℕ) (w at : ℕ) (rest : List ℕ) → drop at text ≡ 48 ∷ rest → refusePortZero (numbersFrom 0 text (w * 256 + 0) at) ≡ Malformed
+unfolding moreAt
+last-zero text w at rest there = go (numberAt text at) refl
+  where
+    go : (s : ParsedNumber) → numberAt text at ≡ s → refusePortZero (numbersFrom 0 text (w * 256 + 0) at) ≡ Malformed
+    go NoNumber e = from-none 0 text (w * 256 + 0) at e
+    go (Number u next) e = ap refusePortZero (from-number 0 text (w * 256 + 0) at u next e) ∙ port-zero _ next (omega (arith, zero-read text at u next rest there e))
+
+last-two : (text : List ℕ) (v at : ℕ) (rest : List ℕ) → drop at text ≡ 48 ∷ 44 ∷ 48 ∷ rest → refusePortZero (numbersFrom 1 text v at) ≡ Malformed
+unfolding all
+last-two text v at rest there =
+    skip-run 0 text v at (48 ∷ []) (48 ∷ rest) refl there (λ u e.
+    let z = zero-read text at u _ (44 ∷ 48 ∷ rest) there e in
+    rw z (last-zero text v (at + 1 + 1) rest (after text (at + 1) (44 ∷ []) (48 ∷ rest) (after text at (48 ∷ []) (44 ∷ 48 ∷ rest) there))))
+
+pub port-zero-malformed : (text : List ℕ) (at : ℕ) → (w : AfterNumbers text at (48 ∷ 44 ∷ 48 ∷ [])) → length (w .runs) ≡ 4 → hostPortAt text at ≡ Malformed
+port-zero-malformed text at w four =
+    let m : length (w .runs) + 1 ≡ 5 = omega arith in
+    sym (from-first text at) ∙ rw (← m) (skip-runs (w .runs) 1 text 0 at (48 ∷ 44 ∷ 48 ∷ w .rest) (w .digits) (w .there) (λ v place e. last-two text v place (w .rest) e))
