@@ -245,10 +245,10 @@ cob_command cob_line_read(const uint8_t *line, size_t line_len);
 
 cob_reply cob_reply_class(uint16_t code);
 
-/* Fills the list; entries that hold no host-port become 0. */
+/* Fills the list; entries that hold no host-port become 0. A number with a leading zero and port 0 are malformed. */
 cob_list cob_hosts_read(const uint8_t *text, size_t text_len, uint64_t *list, size_t list_len);
 
-/* The host-port that begins at one place, for a host that walks a text. */
+/* The host-port that begins at one place, for a host that walks a text; what stands before the place is not looked at. */
 cob_found cob_host_at(const uint8_t *text, size_t text_len, size_t at);
 
 /* ---- ledgers as text and as saved bytes; the readers answer the number of the refusal, or 0 */

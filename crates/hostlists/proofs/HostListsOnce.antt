@@ -1,10 +1,10 @@
 -- Lists of host-ports with the same values are written in the same bytes, and no value is 0.
 use Prim.Native.Nat.{ℕ, zero, suc, _<_}
-use mathlib.Core.Path.{_≡_, refl, sym, ap, _∙_}
+use mathlib.Core.Path.{_≡_, refl, ap}
 use mathlib.Core.List.{List, [], _∷_, _++_}
 use native.Mathlib.Omega.{arith}
 use lib.ListN.{length, getD, replicate}
-use Rattle.hostports.specs.HostPorts.{HostPortNumerals, hostPortText}
+use Rattle.hostports.specs.HostPorts.{HostPortNumerals}
 use Rattle.hostports.proofs.HostPortsWritten.{port-is-some}
 use Rattle.hostports.proofs.HostPortsOnce.{written-once}
 use Rattle.hostlists.specs.HostLists.{withSpaces, value, values}

@@ -7,7 +7,7 @@ use native.Mathlib.Omega.{arith}
 use native.Mathlib.Numerals.{add-one}
 use borrow.Author.Tests.{ltb-true, ltb-false, leb-true, eqb-true, eqb-false}
 use lib.Dec.{leb, ltb, eqb}
-use lib.ListN.{length, getD, take, drop, take-append-drop, List·getD-eq-default}
+use lib.ListN.{length, getD, drop, take-append-drop, List·getD-eq-default}
 use lib.Seq.{drop-cons}
 use Rattle.octets.specs.Decimal.{decimalValue, noLeadingZero}
 use Rattle.octets.proofs.Decimals.{plain-some, plain-first}

@@ -14,9 +14,9 @@ use Rattle.texts.specs.Text.{isDigit, all, leadingCount}
 use Rattle.hostports.specs.declared.host_port.ParsedNumber.{ParsedNumber}
 use Rattle.hostports.specs.declared.host_port.ParsedNumber.the-variants.{Number, Malformed as NoNumber}
 use Rattle.hostports.specs.declared.host_port.ParsedHostPort.{ParsedHostPort}
-use Rattle.hostports.specs.declared.host_port.ParsedHostPort.the-variants.{HostPort, Malformed}
+use Rattle.hostports.specs.declared.host_port.ParsedHostPort.the-variants.{Malformed}
 use Rattle.hostports.specs.HostPort.{comma, numberAt, andThen, moreAt, refusePortZero, hostPortAt}
-use Rattle.hostports.specs.HostPorts.{Numeral, AllDigits, commaAfterEach, AfterNumbers}
+use Rattle.hostports.specs.HostPorts.{AllDigits, commaAfterEach, AfterNumbers}
 use Rattle.hostports.proofs.HostPort.{number-zero, port-zero}
 use Rattle.hostports.proofs.HostPortsWritten.{run-all, after}
 use Rattle.hostports.proofs.HostPortsRead.{number-read}

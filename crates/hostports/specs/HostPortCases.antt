@@ -4,7 +4,7 @@ use mathlib.Core.Path.{_≡_}
 use mathlib.Core.List.{List, [], _∷_}
 use lib.ListN.{length}
 use Rattle.octets.specs.Cases.{AllHold}
-use Rattle.hostports.specs.declared.host_port.ParsedHostPort.the-variants.{HostPort, Malformed}
+use Rattle.hostports.specs.declared.host_port.ParsedHostPort.the-variants.{HostPort}
 use Rattle.hostports.specs.HostPort.{hostPortAt, refusalNumber}
 
 pub data Case : Type 0 where

@@ -12,7 +12,8 @@ fn socket(value: u64) -> SocketAddrV4 {
     SocketAddrV4::new(address.into(), value as u16)
 }
 
-/// Reads 1 to 64 host-ports with one space between.
+/// Reads 1 to 64 host-ports with one space between. A number with a leading zero and port 0 are malformed, so two texts that are read
+/// as the same addresses are the same text.
 pub fn read(text: impl AsRef<[u8]>) -> Result<Vec<SocketAddrV4>, Refusal> {
     let text = text.as_ref();
     let mut list = [0; LIMIT];
@@ -22,7 +23,7 @@ pub fn read(text: impl AsRef<[u8]>) -> Result<Vec<SocketAddrV4>, Refusal> {
     Refusal::unless(answer.refused, found.collect())
 }
 
-/// The host-port at a place of a text, and the place after it.
+/// The host-port at a place of a text, and the place after it. What stands before the place is not looked at.
 pub fn at(text: impl AsRef<[u8]>, at: usize) -> Option<(SocketAddrV4, usize)> {
     let text = text.as_ref();
     let step = unsafe { raw::cob_host_at(text.as_ptr(), text.len(), at) };
