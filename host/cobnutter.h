@@ -245,7 +245,8 @@ cob_command cob_line_read(const uint8_t *line, size_t line_len);
 
 cob_reply cob_reply_class(uint16_t code);
 
-/* Fills the list; entries that hold no host-port become 0. A number with a leading zero and port 0 are malformed. */
+/* Fills the list; entries that hold no host-port become 0. Malformed (41) are a number with a leading zero, which a lone 0
+ * is not, and port 0. */
 cob_list cob_hosts_read(const uint8_t *text, size_t text_len, uint64_t *list, size_t list_len);
 
 /* The host-port that begins at one place, for a host that walks a text; what stands before the place is not looked at. */

@@ -14,7 +14,7 @@ use Rattle.hostports.specs.HostPorts.{HostPortNumerals}
 use Rattle.hostlists.specs.HostList.{hostLimit, ParsedList, parsed, trouble, hostsOf, answerOf, entriesOf, fillOf, fillAfter, refusalNumber, count}
 use Rattle.hostlists.specs.HostLists.{withSpaces, spaceAfterEach, values, ListText, LongerText, TooShort, HostLists, Filling}
 use Rattle.hostlists.proofs.HostListsRead.{reads-list, reads-longer, reads-malformed, ReadList, ReadLonger, Read, read-list}
-use Rattle.hostlists.proofs.HostListsOnce.{same-text, same-entries, values-some}
+use Rattle.hostlists.proofs.HostListsOnce.{same-text, same-entries, values-not-0}
 
 -- ---- what a text is read as
 
@@ -145,7 +145,7 @@ filled-once : (s t list other : List ℕ) → refusalNumber (fillOf s list) ≡ 
 filled-once s t list other d e same =
     let p = filled s list d in
     let q = filled t other e in
-    let entries = same-entries _ _ _ _ (length list - length (p .0 .hosts)) (length other - length (q .0 .hosts)) (p .1) (q .1) (values-some (p .0 .hosts)) (values-some (q .0 .hosts)) same in
+    let entries = same-entries _ _ _ _ (length list - length (p .0 .hosts)) (length other - length (q .0 .hosts)) (p .1) (q .1) (values-not-0 (p .0 .hosts)) (values-not-0 (q .0 .hosts)) same in
     p .0 .says ∙ same-text (p .0 .hosts) (q .0 .hosts) entries ∙ sym (q .0 .says)
 
 pub filling : Filling

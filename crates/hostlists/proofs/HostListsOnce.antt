@@ -5,7 +5,7 @@ use mathlib.Core.List.{List, [], _∷_, _++_}
 use native.Mathlib.Omega.{arith}
 use lib.ListN.{length, getD, replicate}
 use Rattle.hostports.specs.HostPorts.{HostPortNumerals}
-use Rattle.hostports.proofs.HostPortsWritten.{port-is-some}
+use Rattle.hostports.proofs.HostPortsWritten.{port-is-not-0}
 use Rattle.hostports.proofs.HostPortsOnce.{written-once}
 use Rattle.hostlists.specs.HostLists.{withSpaces, value, values}
 
@@ -32,10 +32,10 @@ abbrev pub NoneZero : List ℕ → Type 0
 NoneZero [] = Unit {0}
 NoneZero (v ∷ vs) = (0 < v) × NoneZero vs
 
-pub values-some : (hs : List HostPortNumerals) → NoneZero (values hs)
+pub values-not-0 : (hs : List HostPortNumerals) → NoneZero (values hs)
 unfolding values
-values-some [] = tt
-values-some (h ∷ hs) = (omega (arith, port-is-some h), values-some hs)
+values-not-0 [] = tt
+values-not-0 (h ∷ hs) = (omega (arith, port-is-not-0 h), values-not-0 hs)
 
 zero-entry : (n : ℕ) → _≡_ {A = ℕ} (getD (replicate n 0) 0 0) 0
 zero-entry zero = refl

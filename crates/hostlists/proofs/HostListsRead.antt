@@ -5,17 +5,16 @@ use mathlib.Core.Bool.{Bool, true, false, cond}
 use mathlib.Core.Logic.{_⊎_, inl, inr}
 use mathlib.Core.List.{List, [], _∷_, _++_, append-nil}
 use native.Mathlib.Omega.{arith}
-use native.Mathlib.Nat.{add-zero}
 use borrow.Author.Tests.{eqb-true, eqb-false}
 use lib.Dec.{eqb}
-use lib.ListN.{length, getD, drop, length-append, length-drop, drop-of-length-le}
-use lib.Seq.{drop-cons, getD-drop}
+use lib.ListN.{length, getD, drop, length-drop, drop-of-length-le}
+use lib.Seq.{drop-cons}
 use Rattle.hostports.specs.HostPort.{hostPortAt, refusalNumber as hostPortNumber}
 use Rattle.hostports.specs.HostPorts.{HostPortNumerals, hostPortText, WrittenAt}
 use Rattle.hostports.specs.declared.host_port.ParsedHostPort.{ParsedHostPort}
 use Rattle.hostports.specs.declared.host_port.ParsedHostPort.the-variants.{HostPort, Malformed}
 use Rattle.hostports.proofs.HostPorts.{host-ports}
-use Rattle.hostports.proofs.HostPortsWritten.{after}
+use Rattle.hostports.proofs.HostPortsWritten.{after, byte-is, written-some}
 use Rattle.hostports.proofs.HostPortsRead.{byte-there}
 use Rattle.hostlists.specs.HostList.{space, ParsedList, parsed, trouble, prepend, hostPortThen, listAt}
 use Rattle.hostlists.specs.HostLists.{withSpaces, spaceAfterEach, value, values}
@@ -30,10 +29,6 @@ ends-there text at part h e = omega (arith, length-drop at text, ap length e)
 -- a place where a byte is comes before the end
 place-inside : (text : List ℕ) (at b : ℕ) (rest : List ℕ) → drop at text ≡ b ∷ rest → at < length text
 place-inside text at b rest e = omega (arith, length-drop at text, ap length e)
-
-written-some : (h : HostPortNumerals) → 1 ≤ length (hostPortText h)
-unfolding hostPortText
-written-some h = simp length-append (omega arith)
 
 -- ---- from the host-ports to what is read
 
@@ -57,8 +52,7 @@ module _ (n : ℕ) (text : List ℕ) (at : ℕ) (h : HostPortNumerals) where
         let place = at + length (hostPortText h) in
         let found = host-ports .written-reads text at h (record { rest = 32 ∷ rest; there = e; no-digit = refl }) in
         let inside : place < length text = place-inside text place 32 rest space-there in
-        let byte : getD text place 0 ≡ 32 = rw (← add-zero place, ← getD-drop place text 0 0, space-there) in
-        list-goes-on n text at _ _ found (λ z. omega arith) byte
+        list-goes-on n text at _ _ found (λ z. omega arith) (byte-is text place 32 rest space-there)
 
 pub reads-list : (n : ℕ) (text : List ℕ) (at : ℕ) (h : HostPortNumerals) (hs : List HostPortNumerals) → length hs < n → drop at text ≡ withSpaces (h ∷ hs) → listAt n text at ≡ parsed (values (h ∷ hs))
 unfolding withSpaces values prepend
@@ -75,10 +69,10 @@ reads-longer (suc n) text at (h ∷ hs) b rest l e =
     one-reads n text at h (spaceAfterEach hs (b ∷ rest)) e
     ∙ rw (reads-longer n text (at + length (hostPortText h) + 1) hs b rest (omega arith) (after-space n text at h (spaceAfterEach hs (b ∷ rest)) e))
 
--- a host-port is written at a place or not by what the text has from there on, so the same place may be counted from another start
-same-place : (text : List ℕ) (at : ℕ) (rest : List ℕ) → drop at text ≡ rest → hostPortNumber (hostPortAt rest 0) ≡ 41 → hostPortAt text at ≡ Malformed
+-- whether a host-port is malformed depends on what the text has from its place on
+malformed-there : (text : List ℕ) (at : ℕ) (rest : List ℕ) → drop at text ≡ rest → hostPortNumber (hostPortAt rest 0) ≡ 41 → hostPortAt text at ≡ Malformed
 unfolding hostPortNumber
-same-place text at rest e h = malformed (hostPortAt text at) (host-ports .number-41 text at none .0)
+malformed-there text at rest e h = malformed (hostPortAt text at) (host-ports .number-41 text at none .0)
   where
     none : (i : HostPortNumerals) → WrittenAt text at i → ⊥
     none i w =
@@ -93,7 +87,7 @@ pub reads-malformed : (n : ℕ) (text : List ℕ) (at : ℕ) (hs : List HostPort
     → listAt n text at ≡ trouble 41
 unfolding spaceAfterEach prepend
 reads-malformed zero text at hs rest l e h = absurd (omega arith)
-reads-malformed (suc n) text at [] rest l e h = list-malformed n text at (same-place text at rest e h)
+reads-malformed (suc n) text at [] rest l e h = list-malformed n text at (malformed-there text at rest e h)
 reads-malformed (suc n) text at (i ∷ hs) rest l e h =
     one-reads n text at i (spaceAfterEach hs rest) e
     ∙ rw (reads-malformed n text (at + length (hostPortText i) + 1) hs rest (omega arith) (after-space n text at i (spaceAfterEach hs rest) e) h)

@@ -54,11 +54,11 @@ pub record HostLists : Type 0 where
   pub only-longer : (text : List ℕ) → hostsOf text ≡ trouble 42 → LongerText text
   -- 41: every other text
   pub others-41 : (text : List ℕ) → (ListText text → ⊥) → (LongerText text → ⊥) → hostsOf text ≡ trouble 41
-  -- in reading order: 41 is at the first of the 64 that is malformed, whatever follows it
+  -- in reading order: fewer than 64 host-ports with a space after each, and then what is none, is 41, whatever follows
   pub malformed-41 : (text : List ℕ) (hosts : List HostPortNumerals) (rest : List ℕ) → length hosts < 64 → text ≡ spaceAfterEach hosts rest → hostPortNumber (hostPortAt rest 0) ≡ 41
       → hostsOf text ≡ trouble 41
   pub no-other-trouble : (text : List ℕ) (k : ℕ) → hostsOf text ≡ trouble k → (k ≡ 41) ⊎ (k ≡ 42)
-  -- unequal texts never mean the same host-ports
+  -- a list has one text
   pub one-text : (s t vs : List ℕ) → hostsOf s ≡ parsed vs → hostsOf t ≡ parsed vs → s ≡ t
 
 -- a list lent with fewer than 64 entries
@@ -79,7 +79,7 @@ pub record Filling : Type 0 where
       → (refusalNumber (fillOf text list) ≡ 0)
       × (count (fillOf text list) ≡ length (l .hosts))
       × (fillAfter text list ≡ values (l .hosts) ++ replicate (length list - length (l .hosts)) 0)
-  -- two texts that are not refused and leave the same entries are one text, whatever the lengths of the lent lists: an entry past the last is
-  -- 0, and no host-port is
+  -- two texts that are not refused and leave the same entries are one text, whatever the lengths of the lent lists: past the end of a lent
+  -- list an entry counts as 0, and no host-port is 0
   pub one-text : (s t list other : List ℕ) → refusalNumber (fillOf s list) ≡ 0 → refusalNumber (fillOf t other) ≡ 0
       → ((i : ℕ) → getD (fillAfter s list) i 0 ≡ getD (fillAfter t other) i 0) → s ≡ t

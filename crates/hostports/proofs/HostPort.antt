@@ -1,13 +1,13 @@
--- One number of a host-port, and six of them: what is parsed, case by case, and how large it can be.
-use Prim.Native.Nat.{ℕ, zero, suc, _+_, _*_, _-_, _%_, _^_, _≤_, _<_}
-use mathlib.Core.Path.{_≡_, refl, sym, subst, _∙_}
-use mathlib.Core.Bool.{Bool, true, false, cond, _&&_, and-eq-true-iff, and-false}
+-- One number of a host-port, and six of them: what is parsed, case by case, and that six fit 64 bits.
+use Prim.Native.Nat.{ℕ, suc, _+_, _*_, _-_, _%_, _^_, _≤_, _<_}
+use mathlib.Core.Path.{_≡_, refl, sym, _∙_}
+use mathlib.Core.Bool.{Bool, true, false, cond, _&&_, and-false}
 use mathlib.Core.List.{List}
 use native.Mathlib.Omega.{arith}
 use native.Mathlib.Numerals.{add-one}
-use native.Mathlib.Nat.{pow-suc, pow-le-pow-right, zero-add, suc-add, add-suc}
-use borrow.Author.Tests.{le-leb, lt-leb, leb-true, eq-eqb, ne-eqb}
-use lib.Dec.{leb, ltb, eqb}
+use native.Mathlib.Nat.{pow-suc, pow-le-pow-right}
+use borrow.Author.Tests.{le-leb, lt-leb, eq-eqb, ne-eqb}
+use lib.Dec.{leb, ltb}
 use lib.ListN.{length, getD, take, drop, length-drop, drop-of-length-le}
 use lib.Seq.{length-take-le, take-all, getD-take}
 use Rattle.octets.specs.Decimal.{decimalValue, noLeadingZero, readOf}
@@ -15,7 +15,7 @@ use Rattle.texts.specs.Text.{isDigit, leadingCount}
 use Rattle.octets.specs.declared.decimal.Number.{Number as Read}
 use Rattle.octets.specs.declared.decimal.Number.the-variants.{Value, Nothing}
 use Rattle.texts.proofs.Texts.{leading-le, all-leading}
-use Rattle.octets.proofs.Decimals.{leading-zero, plain-unless, plain-some}
+use Rattle.octets.proofs.Decimals.{leading-zero, plain-unless}
 use Rattle.hostports.specs.declared.host_port.ParsedNumber.{ParsedNumber}
 use Rattle.hostports.specs.declared.host_port.ParsedNumber.the-variants.{Number, Malformed as NoNumber}
 use Rattle.hostports.specs.declared.host_port.ParsedHostPort.{ParsedHostPort}
@@ -98,13 +98,27 @@ pub no-comma : (n : ℕ) (text : List ℕ) (v at : ℕ) → (getD text at 0 ≡ 
 unfolding moreAt
 no-comma n text v at h = rw (ne-eqb (getD text at 0) comma h)
 
+-- a number, and after it n more, a comma before each; v is the value so far
+unfoldable pub numbersFrom : ℕ → List ℕ → ℕ → ℕ → ParsedHostPort
+numbersFrom n text v at = andThen (numberAt text at) (λ u next. moreAt n text (v * 256 + u) next)
+
+pub from-none : (n : ℕ) (text : List ℕ) (v at : ℕ) → numberAt text at ≡ NoNumber → numbersFrom n text v at ≡ Malformed
+unfolding numbersFrom andThen
+from-none n text v at e = rw e
+
+pub from-number : (n : ℕ) (text : List ℕ) (v at u next : ℕ) → numberAt text at ≡ Number u next → numbersFrom n text v at ≡ moreAt n text (v * 256 + u) next
+unfolding numbersFrom andThen
+from-number n text v at u next e = rw e
+
+pub comma-there : (n : ℕ) (text : List ℕ) (v at : ℕ) → getD text at 0 ≡ comma → moreAt (suc n) text v at ≡ numbersFrom n text v (at + 1)
+unfolding moreAt numbersFrom
+comma-there n text v at h = rw (eq-eqb (getD text at 0) comma h)
+
 pub more-malformed : (n : ℕ) (text : List ℕ) (v at : ℕ) → getD text at 0 ≡ comma → numberAt text (at + 1) ≡ NoNumber → moreAt (suc n) text v at ≡ Malformed
-unfolding moreAt andThen
-more-malformed n text v at h e = rw (eq-eqb (getD text at 0) comma h, e)
+more-malformed n text v at h e = comma-there n text v at h ∙ from-none n text v (at + 1) e
 
 pub one-more : (n : ℕ) (text : List ℕ) (v at w next : ℕ) → getD text at 0 ≡ comma → numberAt text (at + 1) ≡ Number w next → moreAt (suc n) text v at ≡ moreAt n text (v * 256 + w) next
-unfolding moreAt andThen
-one-more n text v at w next h e = rw (eq-eqb (getD text at 0) comma h, e)
+one-more n text v at w next h e = comma-there n text v at h ∙ from-number n text v (at + 1) w next e
 
 -- ---- port 0
 
@@ -116,9 +130,9 @@ pub port-zero : (v next : ℕ) → v % 65536 ≡ 0 → refusePortZero (HostPort 
 unfolding refusePortZero
 port-zero v next e = rw (eq-eqb (portOf v) 0 (omega (arith, e)))
 
-pub port-some : (v next : ℕ) → (v % 65536 ≡ 0 → ⊥) → refusePortZero (HostPort v next) ≡ HostPort v next
+pub port-kept : (v next : ℕ) → (v % 65536 ≡ 0 → ⊥) → refusePortZero (HostPort v next) ≡ HostPort v next
 unfolding refusePortZero
-port-some v next h = rw (ne-eqb (portOf v) 0 (λ z. h (omega (arith, z))))
+port-kept v next h = rw (ne-eqb (portOf v) 0 (λ z. h (omega (arith, z))))
 
 -- ---- how large
 
@@ -128,69 +142,3 @@ has-room v k h g = omega (arith, pow-le-pow-right {n = 256} (omega arith) {i = k
 
 pub grows : (v w k : ℕ) → v < 256 ^ (k + 1) → w < 256 → v * 256 + w < 256 ^ (k + 1 + 1)
 grows v w k h g = rw (add-one (k + 1), pow-suc 256 (k + 1)) (omega arith)
-
--- a number is below 256 and a host-port below a bound, and the place after it is in the text or at its end
-abbrev pub NumberWithin : List ℕ → ParsedNumber → Type 0
-NumberWithin text NoNumber = Unit {0}
-NumberWithin text (Number v next) = (v < 256) × (next ≤ length text)
-
-abbrev pub Within : List ℕ → ℕ → ParsedHostPort → Type 0
-Within text bound Malformed = Unit {0}
-Within text bound (HostPort v next) = (v < bound) × (next ≤ length text)
-
-within-number : (text : List ℕ) (at : ℕ) → NumberWithin text (numberAt text at)
-unfolding numberAt
-within-number text at = go (noLeadingZero digits && (leb k digitLimit && leb n valueLimit)) refl
-  where
-    k : ℕ
-    k = leadingCount isDigit (drop at text)
-
-    digits : List ℕ
-    digits = digitsAt text at
-
-    n : ℕ
-    n = decimalValue digits
-
-    go : (b : Bool) → noLeadingZero digits && (leb k digitLimit && leb n valueLimit) ≡ b → NumberWithin text (cond b (Number n (at + k)) NoNumber)
-    go false e = tt
-    go true e =
-        let p = and-eq-true-iff (noLeadingZero digits) (leb k digitLimit && leb n valueLimit) .0 e in
-        let q = and-eq-true-iff (leb k digitLimit) (leb n valueLimit) .0 (p .1) in
-        let one : 1 ≤ k = omega (arith, length-digits text at, plain-some digits (p .0)) in
-        let low : n ≤ valueLimit = leb-true n valueLimit (q .1) in
-        (omega arith, omega (arith, leading-le isDigit (drop at text), length-drop at text))
-
-pub number-bound : (text : List ℕ) (at v next : ℕ) → numberAt text at ≡ Number v next → v < 256
-number-bound text at v next e = subst (NumberWithin text) e (within-number text at) .0
-
--- with n more numbers the bound is 256 ^ n times as large
-within-more : (n : ℕ) (text : List ℕ) (j v at : ℕ) → v < 256 ^ j → at ≤ length text → Within text (256 ^ (n + j)) (moreAt n text v at)
-unfolding moreAt andThen
-within-more zero text j v at h l = rw (zero-add j) (h, l)
-within-more (suc n) text j v at h l = rw (suc-add n j, ← add-suc n j) (go (eqb (getD text at 0) comma) (numberAt text (at + 1)) (within-number text (at + 1)) (within-more n text (suc j)))
-  where
-    go : (b : Bool) (s : ParsedNumber) → NumberWithin text s → ((w place : ℕ) → w < 256 ^ suc j → place ≤ length text → Within text (256 ^ (n + suc j)) (moreAt n text w place))
-        → Within text (256 ^ (n + suc j)) (cond b (andThen s (λ w next. moreAt n text (v * 256 + w) next)) Malformed)
-    go false s w on = tt
-    go true NoNumber w on = tt
-    go true (Number u next) w on = on (v * 256 + u) next (rw (pow-suc 256 j) (omega arith)) (w .1)
-
-within-port : (text : List ℕ) (bound : ℕ) (s : ParsedHostPort) → Within text bound s → Within text bound (refusePortZero s)
-unfolding refusePortZero
-within-port text bound Malformed w = tt
-within-port text bound (HostPort v next) w = go (eqb (portOf v) 0)
-  where
-    go : (t : Bool) → Within text bound (cond t Malformed (HostPort v next))
-    go true = tt
-    go false = w
-
-pub within-host-port : (text : List ℕ) (at : ℕ) → Within text (2 ^ 48) (hostPortAt text at)
-unfolding hostPortAt andThen
-within-host-port text at = within-port text (2 ^ 48) (andThen (numberAt text at) (moreAt 5 text)) (go (numberAt text at) (within-number text at))
-  where
-    go : (s : ParsedNumber) → NumberWithin text s → Within text (2 ^ 48) (andThen s (moreAt 5 text))
-    go NoNumber w = tt
-    go (Number v next) w = within-more 5 text 1 v next (w .0) (w .1)
-
-pub host-port-place : (text : List ℕ) (at v next : ℕ) → hostPortAt text at ≡ HostPort v next → next ≤ length text
-host-port-place text at v next e = subst (Within text (2 ^ 48)) e (within-host-port text at) .1

@@ -1,14 +1,13 @@
 -- `HostPorts` holds.
-use Prim.Native.Nat.{ℕ, _^_}
-use mathlib.Core.Path.{_≡_, refl, ap, subst}
+use Prim.Native.Nat.{ℕ}
+use mathlib.Core.Path.{_≡_, refl, ap}
 use mathlib.Core.List.{List}
 use Rattle.hostports.specs.declared.host_port.ParsedHostPort.{ParsedHostPort}
 use Rattle.hostports.specs.declared.host_port.ParsedHostPort.the-variants.{HostPort, Malformed}
 use Rattle.hostports.specs.HostPort.{hostPortAt, refusalNumber, valueOf, placeAfter}
 use Rattle.hostports.specs.HostPorts.{HostPortNumerals, WrittenAt, HostPorts}
-use Rattle.hostports.proofs.HostPort.{Within, within-host-port}
 use Rattle.hostports.proofs.HostPortsWritten.{six-written}
-use Rattle.hostports.proofs.HostPortsRead.{six-read, port-not-zero}
+use Rattle.hostports.proofs.HostPortsRead.{six-read, port-not-zero, fits-48-bits}
 use Rattle.hostports.proofs.HostPortsOnce.{same-bytes, one-text}
 use Rattle.hostports.proofs.HostPortsRefused.{leading-zero-malformed, port-zero-malformed}
 
@@ -38,5 +37,5 @@ host-ports =
       port-not-0 = port-not-zero;
       one-text = one-text;
       same-bytes = same-bytes;
-      fits-48-bits = λ text at v next e. subst (Within text (2 ^ 48)) e (within-host-port text at) .0;
+      fits-48-bits = fits-48-bits;
     }

@@ -1,5 +1,5 @@
 -- What reads as a host-port is written as one.
-use Prim.Native.Nat.{ℕ, suc, _+_, _*_, _%_, _≤_, _<_}
+use Prim.Native.Nat.{ℕ, suc, _+_, _*_, _-_, _%_, _^_, _≤_, _<_}
 use mathlib.Core.Path.{_≡_, refl, sym, ap, _∙_}
 use mathlib.Core.Bool.{Bool, true, false, cond, _&&_, and-eq-true-iff}
 use mathlib.Core.List.{List, [], _∷_, _++_}
@@ -7,7 +7,7 @@ use native.Mathlib.Omega.{arith}
 use native.Mathlib.Numerals.{add-one}
 use borrow.Author.Tests.{ltb-true, ltb-false, leb-true, eqb-true, eqb-false}
 use lib.Dec.{leb, ltb, eqb}
-use lib.ListN.{length, getD, drop, take-append-drop, List·getD-eq-default}
+use lib.ListN.{length, getD, drop, take-append-drop, length-append, length-drop, List·getD-eq-default}
 use lib.Seq.{drop-cons}
 use Rattle.octets.specs.Decimal.{decimalValue, noLeadingZero}
 use Rattle.octets.proofs.Decimals.{plain-some, plain-first}
@@ -20,7 +20,7 @@ use Rattle.hostports.specs.declared.host_port.ParsedHostPort.the-variant
 use Rattle.hostports.specs.HostPort.{comma, digitLimit, valueLimit, numberAt, andThen, moreAt, portOf, refusePortZero, hostPortAt}
 use Rattle.hostports.specs.HostPorts.{Numeral, StartsWithNoDigit, HostPortNumerals, hostPortText, address, port, WrittenAt}
 use Rattle.hostports.proofs.HostPort.{digitsAt, length-digits, more-done}
-use Rattle.hostports.proofs.HostPortsWritten.{after, commaThen, after-more, written-rest, written-place}
+use Rattle.hostports.proofs.HostPortsWritten.{after, commaThen, after-more, written-rest, written-some, written-place}
 
 -- after the digits that a text begins with there is no digit
 none-leads : (rest : List ℕ) → leadingCount isDigit rest ≡ 0 → StartsWithNoDigit rest
@@ -79,6 +79,11 @@ number-read text at v next = go (noLeadingZero digits && (leb k digitLimit && le
           says = cc;
           place = rw size (cc);
         }
+
+pub number-bound : (text : List ℕ) (at v next : ℕ) → numberAt text at ≡ Number v next → v < 256
+number-bound text at v next e =
+    let m = number-read text at v next e in
+    omega (arith, m .says, m .a .small)
 
 -- a comma and a number are written where a further number is read, and what comes after them is read on from there
 record MoreAt (n : ℕ) (text : List ℕ) (v at w next : ℕ) : Type 0 where
@@ -167,3 +172,16 @@ six-read text at v next is = go (numberAt text at) refl (port-read (andThen (num
         let r₄ : m₄ .rest ≡ commaThen (h .f) (m₅ .rest) = sym (after-more text p₄ (h .e) (m₄ .rest) (m₄ .there)) ∙ m₅ .there in
         let there : drop at text ≡ hostPortText h ++ m₅ .rest = m₀ .there ∙ rw (r₀, r₁, r₂, r₃, r₄) (sym (written-rest h (m₅ .rest))) in
         (h, record { rest = m₅ .rest; there = there; no-digit = m₅ .no-digit }, omega (arith, end .0), sym (end .1) ∙ written-place h at)))))))))
+
+pub fits-48-bits : (text : List ℕ) (at v next : ℕ) → hostPortAt text at ≡ HostPort v next → v < 2 ^ 48
+fits-48-bits text at v next e =
+    let f = six-read text at v next e in
+    let h = f .0 in
+    omega (arith, f .2, h .a .small, h .b .small, h .c .small, h .d .small, h .e .small, h .f .small)
+
+-- the place after a host-port is in the text or at its end
+pub host-port-place : (text : List ℕ) (at v next : ℕ) → hostPortAt text at ≡ HostPort v next → next ≤ length text
+host-port-place text at v next e =
+    let f = six-read text at v next e in
+    let all : length text - at ≡ length (hostPortText (f .0)) + length (f .1 .rest) = sym (length-drop at text) ∙ ap length (f .1 .there) ∙ length-append (hostPortText (f .0)) (f .1 .rest) in
+    omega (arith, f .3, written-some (f .0))

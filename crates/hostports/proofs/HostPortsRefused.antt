@@ -4,41 +4,19 @@ use mathlib.Core.Path.{_≡_, refl, sym, ap, _∙_}
 use mathlib.Core.Bool.{true}
 use mathlib.Core.List.{List, [], _∷_, _++_, append-assoc}
 use native.Mathlib.Omega.{arith}
-use native.Mathlib.Nat.{zero-add, suc-add, add-zero}
-use borrow.Author.Tests.{eq-eqb}
+use native.Mathlib.Nat.{zero-add, suc-add}
 use lib.ListN.{length, getD, drop}
-use lib.Seq.{getD-drop}
 use Rattle.octets.specs.Decimal.{decimalValue}
 use Rattle.octets.proofs.Reading.{reading}
 use Rattle.texts.specs.Text.{isDigit, all, leadingCount}
 use Rattle.hostports.specs.declared.host_port.ParsedNumber.{ParsedNumber}
 use Rattle.hostports.specs.declared.host_port.ParsedNumber.the-variants.{Number, Malformed as NoNumber}
-use Rattle.hostports.specs.declared.host_port.ParsedHostPort.{ParsedHostPort}
 use Rattle.hostports.specs.declared.host_port.ParsedHostPort.the-variants.{Malformed}
 use Rattle.hostports.specs.HostPort.{comma, numberAt, andThen, moreAt, refusePortZero, hostPortAt}
 use Rattle.hostports.specs.HostPorts.{AllDigits, commaAfterEach, AfterNumbers}
-use Rattle.hostports.proofs.HostPort.{number-zero, port-zero}
-use Rattle.hostports.proofs.HostPortsWritten.{run-all, after}
+use Rattle.hostports.proofs.HostPort.{number-zero, numbersFrom, from-none, from-number, comma-there, still-malformed, port-zero}
+use Rattle.hostports.proofs.HostPortsWritten.{run-all, after, byte-is}
 use Rattle.hostports.proofs.HostPortsRead.{number-read}
-
--- a number, and after it n more, a comma before each; v is the value so far
-unfoldable numbersFrom : ℕ → List ℕ → ℕ → ℕ → ParsedHostPort
-numbersFrom n text v at = andThen (numberAt text at) (λ u next. moreAt n text (v * 256 + u) next)
-
-from-none : (n : ℕ) (text : List ℕ) (v at : ℕ) → numberAt text at ≡ NoNumber → refusePortZero (numbersFrom n text v at) ≡ Malformed
-unfolding numbersFrom andThen refusePortZero
-from-none n text v at e = rw e
-
-from-number : (n : ℕ) (text : List ℕ) (v at u next : ℕ) → numberAt text at ≡ Number u next → numbersFrom n text v at ≡ moreAt n text (v * 256 + u) next
-unfolding numbersFrom andThen
-from-number n text v at u next e = rw e
-
--- after a comma there is a further number
-after-comma : (n : ℕ) (text : List ℕ) (v at : ℕ) (rest : List ℕ) → drop at text ≡ 44 ∷ rest → moreAt (suc n) text v at ≡ numbersFrom n text v (at + 1)
-unfolding moreAt numbersFrom
-after-comma n text v at rest e =
-    let here : getD text at 0 ≡ comma = rw (← add-zero at, ← getD-drop at text 0 0, e) in
-    rw (eq-eqb (getD text at 0) comma here)
 
 -- from the first number on
 from-first : (text : List ℕ) (at : ℕ) → refusePortZero (numbersFrom 5 text 0 at) ≡ hostPortAt text at
@@ -58,14 +36,14 @@ skip-run : (n : ℕ) (text : List ℕ) (v at : ℕ) (run rest : List ℕ) → al
 skip-run n text v at run rest digits there on = go (numberAt text at) refl
   where
     go : (s : ParsedNumber) → numberAt text at ≡ s → refusePortZero (numbersFrom (suc n) text v at) ≡ Malformed
-    go NoNumber e = from-none (suc n) text v at e
+    go NoNumber e = still-malformed _ (from-none (suc n) text v at e)
     go (Number u next) e =
         let m = number-read text at u next e in
         let k : leadingCount isDigit (drop at text) ≡ length run = rw there (run-all run (44 ∷ rest) digits refl) in
         let j : leadingCount isDigit (drop at text) ≡ length (m .a .text) = rw (m .there) (run-all (m .a .text) (m .rest) (m .a .digits) (m .no-digit)) in
         let place : next ≡ at + length run = omega (arith, m .place) in
         let is : numberAt text at ≡ Number u (at + length run) = e ∙ ap (Number u) place in
-        ap refusePortZero (from-number (suc n) text v at u (at + length run) is ∙ after-comma n text (v * 256 + u) (at + length run) rest (after text at run (44 ∷ rest) there)) ∙ on u is
+        ap refusePortZero (from-number (suc n) text v at u (at + length run) is ∙ comma-there n text (v * 256 + u) (at + length run) (byte-is text (at + length run) 44 rest (after text at run (44 ∷ rest) there))) ∙ on u is
 
 -- so many runs, a comma after each, and what comes then
 skip-runs : (runs : List (List ℕ)) (m : ℕ) (text : List ℕ) (v at : ℕ) (then : List ℕ) → AllDigits runs → drop at text ≡ commaAfterEach runs ++ then
@@ -92,7 +70,7 @@ pub leading-zero-malformed : (text : List ℕ) (at d : ℕ) → isDigit d ≡ tr
 leading-zero-malformed text at d h w few =
     let m : length (w .runs) + (5 - length (w .runs)) ≡ 5 = omega arith in
     sym (from-first text at)
-    ∙ rw (← m) (skip-runs (w .runs) (5 - length (w .runs)) text 0 at (48 ∷ d ∷ w .rest) (w .digits) (w .there) (λ v place e. from-none _ text v place (zero-there text place d (w .rest) h e)))
+    ∙ rw (← m) (skip-runs (w .runs) (5 - length (w .runs)) text 0 at (48 ∷ d ∷ w .rest) (w .digits) (w .there) (λ v place e. still-malformed _ (from-none _ text v place (zero-there text place d (w .rest) h e))))
 
 -- ---- port 0
 
@@ -122,7 +100,7 @@ unfolding moreAt
 last-zero text w at rest there = go (numberAt text at) refl
   where
     go : (s : ParsedNumber) → numberAt text at ≡ s → refusePortZero (numbersFrom 0 text (w * 256 + 0) at) ≡ Malformed
-    go NoNumber e = from-none 0 text (w * 256 + 0) at e
+    go NoNumber e = still-malformed _ (from-none 0 text (w * 256 + 0) at e)
     go (Number u next) e = ap refusePortZero (from-number 0 text (w * 256 + 0) at u next e) ∙ port-zero _ next (omega (arith, zero-read text at u next rest there e))
 
 last-two : (text : List ℕ) (v at : ℕ) (rest : List ℕ) → drop at text ≡ 48 ∷ 44 ∷ 48 ∷ rest → refusePortZero (numbersFrom 1 text v at) ≡ Malformed

@@ -1,5 +1,5 @@
 -- A host-port as it is written reads as its number.
-use Prim.Native.Nat.{ℕ, suc, _+_, _*_, _%_}
+use Prim.Native.Nat.{ℕ, suc, _+_, _*_, _%_, _≤_}
 use mathlib.Core.Path.{_≡_, refl, sym, ap, _∙_}
 use mathlib.Core.Bool.{true}
 use mathlib.Core.List.{List, [], _∷_, _++_, append-assoc}
@@ -16,7 +16,7 @@ use Rattle.hostports.specs.declared.host_port.ParsedNumber.the-variants.
 use Rattle.hostports.specs.declared.host_port.ParsedHostPort.the-variants.{HostPort}
 use Rattle.hostports.specs.HostPort.{digitLimit, valueLimit, numberAt, moreAt, refusePortZero, hostPortAt}
 use Rattle.hostports.specs.HostPorts.{Numeral, StartsWithNoDigit, HostPortNumerals, hostPortText, address, port, WrittenAt}
-use Rattle.hostports.proofs.HostPort.{first-number, one-more, more-done, port-some}
+use Rattle.hostports.proofs.HostPort.{first-number, one-more, more-done, port-kept}
 
 run-none : (rest : List ℕ) → StartsWithNoDigit rest → leadingCount isDigit rest ≡ 0
 unfolding leadingCount
@@ -34,7 +34,11 @@ after text at part rest e = sym (drop-drop (length part) at text) ∙ rw e (drop
 pub numeral-plain : (a : Numeral) → noLeadingZero (a .text) ≡ true
 numeral-plain a = plain-unless (a .text) (a .digits) (a .no-leading-zero) ∙ lt-ltb 0 (length (a .text)) (a .one-or-more)
 
-pub number-written : (text : List ℕ) (at : ℕ) (a : Numeral) (rest : List ℕ) → drop at text ≡ a .text ++ rest → StartsWithNoDigit rest → numberAt text at ≡ Number (a .value) (at + length (a .text))
+-- the byte at a place
+pub byte-is : (text : List ℕ) (at b : ℕ) (rest : List ℕ) → drop at text ≡ b ∷ rest → getD text at 0 ≡ b
+byte-is text at b rest e = rw (← add-zero at, ← getD-drop at text 0 0, e)
+
+number-written : (text : List ℕ) (at : ℕ) (a : Numeral) (rest : List ℕ) → drop at text ≡ a .text ++ rest → StartsWithNoDigit rest → numberAt text at ≡ Number (a .value) (at + length (a .text))
 unfolding numberAt
 number-written text at a rest e g =
     rw (
@@ -60,14 +64,17 @@ module _ (text : List ℕ) (at : ℕ) (a : Numeral) (rest : List ℕ) (e : drop 
 
   more-written : (n v : ℕ) → StartsWithNoDigit rest → moreAt (suc n) text v at ≡ moreAt n text (v * 256 + a .value) (at + 1 + length (a .text))
   more-written n v g =
-      let here : getD text at 0 ≡ 44 = rw (← add-zero at, ← getD-drop at text 0 0, e) in
-      one-more n text v at (a .value) (at + 1 + length (a .text)) here (number-written text (at + 1) a rest after-comma g)
+      one-more n text v at (a .value) (at + 1 + length (a .text)) (byte-is text at 44 (a .text ++ rest) e) (number-written text (at + 1) a rest after-comma g)
 
 -- the first number, and the five after it
 pub written-rest : (h : HostPortNumerals) (rest : List ℕ)
     → hostPortText h ++ rest ≡ h .a .text ++ commaThen (h .b) (commaThen (h .c) (commaThen (h .d) (commaThen (h .e) (commaThen (h .f) rest))))
 unfolding hostPortText
 written-rest h rest = simp append-assoc
+
+pub written-some : (h : HostPortNumerals) → 1 ≤ length (hostPortText h)
+unfolding hostPortText
+written-some h = simp length-append (omega arith)
 
 -- the place after six numbers
 pub written-place : (h : HostPortNumerals) (at : ℕ)
@@ -76,11 +83,11 @@ unfolding hostPortText
 written-place h at = simp length-append (omega arith)
 
 -- a port of two numbers below 256 is what is left of the host-port by 65,536, and it is not 0
-pub port-is : (h : HostPortNumerals) → (address h * 65536 + port h) % 65536 ≡ port h
+port-is : (h : HostPortNumerals) → (address h * 65536 + port h) % 65536 ≡ port h
 port-is h = omega (arith, h .e .small, h .f .small)
 
-pub port-is-some : (h : HostPortNumerals) → port h ≡ 0 → ⊥
-port-is-some h z = h .has-port (omega arith, omega arith)
+pub port-is-not-0 : (h : HostPortNumerals) → port h ≡ 0 → ⊥
+port-is-not-0 h z = h .has-port (omega arith, omega arith)
 
 -- six numbers are read one after the other
 pub six-written : (text : List ℕ) (at : ℕ) (h : HostPortNumerals) → WrittenAt text at h → hostPortAt text at ≡ HostPort (address h * 65536 + port h) (at + length (hostPortText h))
@@ -113,4 +120,4 @@ six-written text at h w =
     in
     first-number text at (h .a .value) p₁ (number-written text at (h .a) s₁ d₀ refl)
     ∙ ap refusePortZero more
-    ∙ port-some _ _ (λ z. port-is-some h (sym (port-is h) ∙ z))
+    ∙ port-kept _ _ (λ z. port-is-not-0 h (sym (port-is h) ∙ z))

@@ -22,7 +22,7 @@ digitLimit = 3
 abbrev pub valueLimit : ℕ
 valueLimit = 255
 
--- one number at a place: 1 to 3 digits, at most 255, of which the first is not 0 where there are more; its value and the place after it
+-- one number at a place: 1 to 3 digits, the first not 0 where there are two or three, and at most 255 in value; with the place after it
 unfoldable pub numberAt : List ℕ → ℕ → ParsedNumber
 numberAt text at =
     let k = leadingCount isDigit (drop at text) in

@@ -70,8 +70,8 @@ pub record AfterNumbers (text : List ℕ) (at : ℕ) (then : List ℕ) : Type 0 
   pub there : drop at text ≡ commaAfterEach runs ++ (then ++ rest)
 
 pub record HostPorts : Type 0 where
-  -- six numbers with commas between, at any place of a text, with nothing or a byte that is no digit after them, are a host-port:
-  -- address * 65,536 + port, and the place after it
+  -- six numbers with commas between, the last two not both 0, at any place of a text, with nothing or a byte that is no digit after them,
+  -- are a host-port: address * 65,536 + port, and the place after it
   pub written-reads : (text : List ℕ) (at : ℕ) (h : HostPortNumerals) → WrittenAt text at h → hostPortAt text at ≡ HostPort (address h * 65536 + port h) (at + length (hostPortText h))
   -- whatever reads as a host-port is written so
   pub reads-written : (text : List ℕ) (at v next : ℕ) → hostPortAt text at ≡ HostPort v next
@@ -84,15 +84,14 @@ pub record HostPorts : Type 0 where
       → (refusalNumber (hostPortAt text at) ≡ 41) × (valueOf (hostPortAt text at) ≡ 0) × (placeAfter (hostPortAt text at) ≡ 0)
   -- whatever text it is read from, a host-port fits 48 bits
   pub fits-48-bits : (text : List ℕ) (at v next : ℕ) → hostPortAt text at ≡ HostPort v next → v < 2 ^ 48
-  -- a number with a leading zero, other than a lone 0, is malformed: a 0 and a further digit where one of the six begins, whatever the
-  -- numbers before it say and whatever follows
+  -- 41: a 0 and a further digit where one of the six begins, whatever the numbers before it say and whatever follows
   pub no-leading-zero : (text : List ℕ) (at d : ℕ) → isDigit d ≡ true → (w : AfterNumbers text at (48 ∷ d ∷ [])) → length (w .runs) ≤ 5
       → refusalNumber (hostPortAt text at) ≡ 41
-  -- and so is port 0: `0,0` where the last two of the six begin, whatever the four before them say and whatever follows
+  -- 41: `0,0` where the last two of the six begin, whatever the four before them say and whatever follows
   pub no-port-0 : (text : List ℕ) (at : ℕ) → (w : AfterNumbers text at (48 ∷ 44 ∷ 48 ∷ [])) → length (w .runs) ≡ 4 → refusalNumber (hostPortAt text at) ≡ 41
-  -- so no host-port that is read has port 0
+  -- no host-port that is read has port 0
   pub port-not-0 : (text : List ℕ) (at v next : ℕ) → hostPortAt text at ≡ HostPort v next → 0 < v % 65536
-  -- unequal texts never mean the same host-port: two texts that are a host-port each, of one value, are one text, whatever their lengths
+  -- a host-port has one text: two texts that are a host-port each, of one value, are the same, whatever their lengths
   pub one-text : (s t : List ℕ) (v : ℕ) → hostPortAt s 0 ≡ HostPort v (length s) → hostPortAt t 0 ≡ HostPort v (length t) → s ≡ t
   -- and the bytes of two host-ports of one value are the same, at any places of any texts
   pub same-bytes : (s t : List ℕ) (a b v p q : ℕ) → hostPortAt s a ≡ HostPort v p → hostPortAt t b ≡ HostPort v q → take (p - a) (drop a s) ≡ take (q - b) (drop b t)

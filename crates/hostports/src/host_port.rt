@@ -7,7 +7,7 @@ ghost use Rattle.hostports.specs.HostPort.{numberAt, hostPortAt};
 
 const COMMA: u8 = 44;
 
-const ZERO: u8 = 48;
+const DIGIT_ZERO: u8 = 48;
 
 // One of the six numbers at a place of a text: its value and the place after it, or nothing that is well formed.
 pub enum ParsedNumber {
@@ -21,7 +21,7 @@ pub enum ParsedHostPort {
     Malformed,
 }
 
-// One of the six numbers: 1 to 3 digits, at most 255, of which the first is not 0 where there are more.
+// One of the six numbers: 1 to 3 digits, the first not 0 where there are two or three, and at most 255 in value.
 fn number_at(text: &[u8], at: usize) -> ParsedNumber
     ensures { λ r. ⌜ r ≡ numberAt (now (text .entry)) at ⌝ }
 {
@@ -34,7 +34,7 @@ fn number_at(text: &[u8], at: usize) -> ParsedNumber
         return ParsedNumber::Malformed;
     }
     if 1 < k {
-        if rest[0] == ZERO {
+        if rest[0] == DIGIT_ZERO {
             return ParsedNumber::Malformed;
         }
     }

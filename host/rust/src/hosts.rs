@@ -12,8 +12,8 @@ fn socket(value: u64) -> SocketAddrV4 {
     SocketAddrV4::new(address.into(), value as u16)
 }
 
-/// Reads 1 to 64 host-ports with one space between. A number with a leading zero and port 0 are malformed, so two texts that are read
-/// as the same addresses are the same text.
+/// Reads 1 to 64 host-ports with one space between. Malformed (41) are a number with a leading zero, which a lone 0 is not, and port 0:
+/// two texts that are read as the same addresses are the same text.
 pub fn read(text: impl AsRef<[u8]>) -> Result<Vec<SocketAddrV4>, Refusal> {
     let text = text.as_ref();
     let mut list = [0; LIMIT];

@@ -123,12 +123,17 @@ fn host_ports_with_leading_zeros() {
             malformed(&numbers.join(","));
         }
     }
+    malformed("10,0,0,1,00,0");
     // Neither 8,0,0,1 nor 10,0,0,1.
-    malformed("010,0,0,1,0,21");
+    let text = "010,0,0,1,0,21";
+    malformed(text);
+    // What stands before a place is not looked at.
+    let socket = SocketAddrV4::new([10, 0, 0, 1].into(), 21);
+    assert_eq!(hosts::at(text, 1), Some((socket, text.len())));
 }
 
 #[test]
-fn host_ports_with_lone_zeros() {
+fn host_ports_with_lone_zeros_and_port_0() {
     for (text, address, port) in [
         ("10,0,0,1,4,0", [10, 0, 0, 1], 1_024),
         ("10,0,0,1,0,21", [10, 0, 0, 1], 21),
@@ -142,7 +147,6 @@ fn host_ports_with_lone_zeros() {
     }
     malformed("10,0,0,1,0,0");
     malformed("0,0,0,0,0,0");
-    malformed("10,0,0,1,00,0");
 }
 
 #[test]

@@ -4,7 +4,7 @@ use super::second::receiver::Verdict;
 use super::second::Answer;
 use std::collections::BTreeMap;
 
-/// Entries, each with the numbers that it can give.
+/// Entries, each with numbers that it has to give.
 type Table = [(&'static str, &'static [u64])];
 
 /// 0 is an answer without refusal. Faults and descriptors are counted by their numbers, words by the header's.
@@ -27,6 +27,7 @@ pub const ENTRIES: [(&str, &[u64]); 29] = [
     ("line", &[0, 31, 32, 33, 34, 35]),
     ("reply", &[0, 36]),
     ("hosts", &[0, 41, 42, 43]),
+    // How many, in accepted lists.
     ("hosts found", &[1, 2, 63, 64]),
     // In one host-port, where all the others are good.
     ("leading zero", &[41, 42]),

@@ -109,7 +109,8 @@ pub fn hosts(random: &Random, seen: &mut Seen) {
     if let Ok(found) = answer {
         seen.note_number("hosts found", found as u64);
     }
-    if let Some(flaw) = flaw.filter(|_| !edited) {
+    if let Some(flaw) = flaw.filter(|_| !edited && lent >= MOST_HOSTS) {
+        assert!(matches!(answer, Err(41 | 42)), "{flaw}: {text:?}");
         seen.note(flaw, &answer);
     }
 
@@ -182,8 +183,9 @@ fn padded(random: &Random) -> String {
 fn edit_list(text: &mut Vec<u8>, random: &Random) {
     if random.one_in(3) {
         text.push(b' ');
+        return;
     }
-    for _ in 0..random.between(0, 2) {
+    for _ in 0..random.between(1, 2) {
         edit(text, random, b"  ,,00123456789x.-");
     }
 }

@@ -7,7 +7,7 @@ use lib.ListN.{length, take, length-set}
 use Rattle.hostports.specs.HostPort.{hostPortAt}
 use Rattle.hostlists.specs.HostList.{hostLimit, listAt, hostsOf}
 use Rattle.hostports.specs.declared.host_port.ParsedHostPort.the-variants.{HostPort}
-use Rattle.hostports.proofs.HostPort.{host-port-place}
+use Rattle.hostports.proofs.HostPortsRead.{host-port-place}
 use Rattle.hostlists.proofs.HostList.{list-malformed, list-ends, list-broken, list-goes-on, list-empty, list-full, following, following-more, stored-trouble, stored-last}
 use Rattle.hostlists.proofs.list.store.Statement.{statement}
 use Rattle.hostlists.proofs.list.store.Tie as tie

@@ -7,7 +7,8 @@ use lib.ListN.{List·getD-eq-default}
 use Rattle.hostports.specs.HostPort.{numberAt, moreAt, refusePortZero, hostPortAt}
 use Rattle.hostports.specs.declared.host_port.ParsedNumber.the-variants.{Number}
 use Rattle.hostports.specs.declared.host_port.ParsedHostPort.the-variants.{HostPort}
-use Rattle.hostports.proofs.HostPort.{first-malformed, first-number, no-comma, more-malformed, one-more, more-done, still-malformed, port-zero, port-some, has-room, grows, number-bound}
+use Rattle.hostports.proofs.HostPort.{first-malformed, first-number, no-comma, more-malformed, one-more, more-done, still-malformed, port-zero, port-kept, has-room, grows}
+use Rattle.hostports.proofs.HostPortsRead.{number-bound}
 use Rattle.hostports.proofs.host_port.host_port_at.Statement.{statement}
 use Rattle.hostports.proofs.host_port.host_port_at.Tie as tie
 
@@ -131,7 +132,7 @@ returns-5 : tie.Need-returns-5 Inv-loop μ-loop
 returns-5 c = sym (six (c .before) ∙ port-zero _ _ (c .if3 .taken))
 
 returns-6 : tie.Need-returns-6 Inv-loop μ-loop
-returns-6 c = sym (six (c .before) ∙ port-some _ _ (c .if3 .left))
+returns-6 c = sym (six (c .before) ∙ port-kept _ _ (c .if3 .left))
 
 pub host-port-at-spec : {M : Type 1} → statement M
 host-port-at-spec =
