@@ -166,7 +166,10 @@ static int control(void)
     return command.refused == 0 && command.verb == 5 && command.from == 5 && command.to == 9 &&
            cob_line_read(TEXT("PASV \r\n")).refused == 35 && cob_reply_class(226).digit == 2 &&
            cob_reply_class(600).refused == 36 && read.refused == 0 && read.count == 2 && list[1] == second &&
-           found.found == 1 && found.value == second && found.next == sizeof hosts - 1;
+           found.found == 1 && found.value == second && found.next == sizeof hosts - 1 &&
+           cob_host_at(TEXT("10,0,0,1,4,0"), 0).found == 1 && cob_host_at(TEXT("10,0,0,1,0,0"), 0).found == 0 &&
+           cob_host_at(TEXT("010,0,0,1,4,0"), 0).found == 0 &&
+           cob_hosts_read(TEXT("10,0,0,1,4,0 10,0,0,1,04,0"), list, COB_HOST_LIMIT).refused == 41 && list[0] == 0;
 }
 
 static int forms(void)

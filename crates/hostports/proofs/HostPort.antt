@@ -1,6 +1,6 @@
 -- One number of a host-port, and six of them: what is parsed, case by case, and that six fit 64 bits.
 use Prim.Native.Nat.{ℕ, suc, _+_, _*_, _-_, _%_, _^_, _≤_, _<_}
-use mathlib.Core.Path.{_≡_, refl, sym, _∙_}
+use mathlib.Core.Path.{_≡_, refl, sym, ap, _∙_}
 use mathlib.Core.Bool.{Bool, true, false, cond, _&&_, and-false}
 use mathlib.Core.List.{List}
 use native.Mathlib.Omega.{arith}
@@ -80,19 +80,25 @@ number-short text at h g =
     go true = refl
     go false = refl
 
+-- ---- port 0
+
+pub still-malformed : (s : ParsedHostPort) → s ≡ Malformed → refusePortZero s ≡ Malformed
+unfolding refusePortZero
+still-malformed s e = rw e
+
+pub port-zero : (v next : ℕ) → v % 65536 ≡ 0 → refusePortZero (HostPort v next) ≡ Malformed
+unfolding refusePortZero
+port-zero v next e = rw (eq-eqb (portOf v) 0 (omega (arith, e)))
+
+pub port-kept : (v next : ℕ) → (v % 65536 ≡ 0 → ⊥) → refusePortZero (HostPort v next) ≡ HostPort v next
+unfolding refusePortZero
+port-kept v next h = rw (ne-eqb (portOf v) 0 (λ z. h (omega (arith, z))))
+
 -- ---- further numbers
 
 pub more-done : (text : List ℕ) (v at : ℕ) → moreAt 0 text v at ≡ HostPort v at
 unfolding moreAt
 more-done text v at = refl
-
-pub first-malformed : (text : List ℕ) (at : ℕ) → numberAt text at ≡ NoNumber → hostPortAt text at ≡ Malformed
-unfolding hostPortAt andThen refusePortZero
-first-malformed text at e = rw e
-
-pub first-number : (text : List ℕ) (at v next : ℕ) → numberAt text at ≡ Number v next → hostPortAt text at ≡ refusePortZero (moreAt 5 text v next)
-unfolding hostPortAt andThen
-first-number text at v next e = rw e
 
 pub no-comma : (n : ℕ) (text : List ℕ) (v at : ℕ) → (getD text at 0 ≡ comma → ⊥) → moreAt (suc n) text v at ≡ Malformed
 unfolding moreAt
@@ -110,6 +116,25 @@ pub from-number : (n : ℕ) (text : List ℕ) (v at u next : ℕ) → numberAt t
 unfolding numbersFrom andThen
 from-number n text v at u next e = rw e
 
+-- from the first number on
+pub first-is : (text : List ℕ) (at : ℕ) → hostPortAt text at ≡ refusePortZero (numbersFrom 5 text 0 at)
+unfolding hostPortAt numbersFrom andThen
+first-is text at = go (numberAt text at)
+  where
+    go : (s : ParsedNumber) → refusePortZero (andThen s (moreAt 5 text)) ≡ refusePortZero (andThen s (λ u next. moreAt 5 text (0 * 256 + u) next))
+    go NoNumber = refl
+    go (Number u next) =
+        let z : 0 * 256 + u ≡ u = omega arith in
+        rw z
+
+pub first-malformed : (text : List ℕ) (at : ℕ) → numberAt text at ≡ NoNumber → hostPortAt text at ≡ Malformed
+first-malformed text at e = first-is text at ∙ still-malformed _ (from-none 5 text 0 at e)
+
+pub first-number : (text : List ℕ) (at v next : ℕ) → numberAt text at ≡ Number v next → hostPortAt text at ≡ refusePortZero (moreAt 5 text v next)
+first-number text at v next e =
+    let z : 0 * 256 + v ≡ v = omega arith in
+    first-is text at ∙ ap refusePortZero (from-number 5 text 0 at v next e ∙ rw z)
+
 pub comma-there : (n : ℕ) (text : List ℕ) (v at : ℕ) → getD text at 0 ≡ comma → moreAt (suc n) text v at ≡ numbersFrom n text v (at + 1)
 unfolding moreAt numbersFrom
 comma-there n text v at h = rw (eq-eqb (getD text at 0) comma h)
@@ -119,20 +144,6 @@ more-malformed n text v at h e = comma-there n text v at h ∙ from-none n text 
 
 pub one-more : (n : ℕ) (text : List ℕ) (v at w next : ℕ) → getD text at 0 ≡ comma → numberAt text (at + 1) ≡ Number w next → moreAt (suc n) text v at ≡ moreAt n text (v * 256 + w) next
 one-more n text v at w next h e = comma-there n text v at h ∙ from-number n text v (at + 1) w next e
-
--- ---- port 0
-
-pub still-malformed : (s : ParsedHostPort) → s ≡ Malformed → refusePortZero s ≡ Malformed
-unfolding refusePortZero
-still-malformed s e = rw e
-
-pub port-zero : (v next : ℕ) → v % 65536 ≡ 0 → refusePortZero (HostPort v next) ≡ Malformed
-unfolding refusePortZero
-port-zero v next e = rw (eq-eqb (portOf v) 0 (omega (arith, e)))
-
-pub port-kept : (v next : ℕ) → (v % 65536 ≡ 0 → ⊥) → refusePortZero (HostPort v next) ≡ HostPort v next
-unfolding refusePortZero
-port-kept v next h = rw (ne-eqb (portOf v) 0 (λ z. h (omega (arith, z))))
 
 -- ---- how large
 

@@ -6,28 +6,18 @@ use mathlib.Core.List.{List, [], _∷_, _++_, append-assoc}
 use native.Mathlib.Omega.{arith}
 use native.Mathlib.Nat.{zero-add, suc-add}
 use lib.ListN.{length, getD, drop}
+use Rattle.octets.specs.Cases.{AllHold}
 use Rattle.octets.specs.Decimal.{decimalValue}
 use Rattle.octets.proofs.Reading.{reading}
 use Rattle.texts.specs.Text.{isDigit, all, leadingCount}
 use Rattle.hostports.specs.declared.host_port.ParsedNumber.{ParsedNumber}
 use Rattle.hostports.specs.declared.host_port.ParsedNumber.the-variants.{Number, Malformed as NoNumber}
 use Rattle.hostports.specs.declared.host_port.ParsedHostPort.the-variants.{Malformed}
-use Rattle.hostports.specs.HostPort.{comma, numberAt, andThen, moreAt, refusePortZero, hostPortAt}
-use Rattle.hostports.specs.HostPorts.{AllDigits, commaAfterEach, AfterNumbers}
-use Rattle.hostports.proofs.HostPort.{number-zero, numbersFrom, from-none, from-number, comma-there, still-malformed, port-zero}
+use Rattle.hostports.specs.HostPort.{comma, numberAt, moreAt, refusePortZero, hostPortAt}
+use Rattle.hostports.specs.HostPorts.{commaAfterEach}
+use Rattle.hostports.proofs.HostPort.{number-zero, first-is, numbersFrom, from-none, from-number, comma-there, still-malformed, port-zero}
 use Rattle.hostports.proofs.HostPortsWritten.{run-all, after, byte-is}
 use Rattle.hostports.proofs.HostPortsRead.{number-read}
-
--- from the first number on
-from-first : (text : List ℕ) (at : ℕ) → refusePortZero (numbersFrom 5 text 0 at) ≡ hostPortAt text at
-unfolding hostPortAt numbersFrom andThen
-from-first text at = go (numberAt text at)
-  where
-    go : (s : ParsedNumber) → refusePortZero (andThen s (λ u next. moreAt 5 text (0 * 256 + u) next)) ≡ refusePortZero (andThen s (moreAt 5 text))
-    go NoNumber = refl
-    go (Number u next) =
-        let z : 0 * 256 + u ≡ u = omega arith in
-        rw z
 
 -- a run of digits with a comma after it: where it is a number, that number ends before the comma
 skip-run : (n : ℕ) (text : List ℕ) (v at : ℕ) (run rest : List ℕ) → all isDigit run ≡ true → drop at text ≡ run ++ 44 ∷ rest
@@ -46,7 +36,7 @@ skip-run n text v at run rest digits there on = go (numberAt text at) refl
         ap refusePortZero (from-number (suc n) text v at u (at + length run) is ∙ comma-there n text (v * 256 + u) (at + length run) (byte-is text (at + length run) 44 rest (after text at run (44 ∷ rest) there))) ∙ on u is
 
 -- so many runs, a comma after each, and what comes then
-skip-runs : (runs : List (List ℕ)) (m : ℕ) (text : List ℕ) (v at : ℕ) (then : List ℕ) → AllDigits runs → drop at text ≡ commaAfterEach runs ++ then
+skip-runs : (runs : List (List ℕ)) (m : ℕ) (text : List ℕ) (v at : ℕ) (then : List ℕ) → AllHold (λ run. all isDigit run ≡ true) runs → drop at text ≡ commaAfterEach runs ++ then
     → ((w place : ℕ) → drop place text ≡ then → refusePortZero (numbersFrom m text w place) ≡ Malformed)
     → refusePortZero (numbersFrom (length runs + m) text v at) ≡ Malformed
 unfolding commaAfterEach
@@ -66,11 +56,12 @@ zero-there text at d rest h e =
     let two : 1 < leadingCount isDigit (drop at text) = rw (e, h) (omega arith) in
     number-zero text at two (rw e)
 
-pub leading-zero-malformed : (text : List ℕ) (at d : ℕ) → isDigit d ≡ true → (w : AfterNumbers text at (48 ∷ d ∷ [])) → length (w .runs) ≤ 5 → hostPortAt text at ≡ Malformed
-leading-zero-malformed text at d h w few =
-    let m : length (w .runs) + (5 - length (w .runs)) ≡ 5 = omega arith in
-    sym (from-first text at)
-    ∙ rw (← m) (skip-runs (w .runs) (5 - length (w .runs)) text 0 at (48 ∷ d ∷ w .rest) (w .digits) (w .there) (λ v place e. still-malformed _ (from-none _ text v place (zero-there text place d (w .rest) h e))))
+pub leading-zero-malformed : (text : List ℕ) (at : ℕ) (before : List (List ℕ)) (d : ℕ) (rest : List ℕ) → AllHold (λ run. all isDigit run ≡ true) before → length before ≤ 5 → isDigit d ≡ true
+    → drop at text ≡ commaAfterEach before ++ (48 ∷ d ∷ rest) → hostPortAt text at ≡ Malformed
+leading-zero-malformed text at before d rest digits few h there =
+    let m : length before + (5 - length before) ≡ 5 = omega arith in
+    first-is text at
+    ∙ rw (← m) (skip-runs before (5 - length before) text 0 at (48 ∷ d ∷ rest) digits there (λ v place e. still-malformed _ (from-none _ text v place (zero-there text place d rest h e))))
 
 -- ---- port 0
 
@@ -110,7 +101,8 @@ last-two text v at rest there =
     let z = zero-read text at u _ (44 ∷ 48 ∷ rest) there e in
     rw z (last-zero text v (at + 1 + 1) rest (after text (at + 1) (44 ∷ []) (48 ∷ rest) (after text at (48 ∷ []) (44 ∷ 48 ∷ rest) there))))
 
-pub port-zero-malformed : (text : List ℕ) (at : ℕ) → (w : AfterNumbers text at (48 ∷ 44 ∷ 48 ∷ [])) → length (w .runs) ≡ 4 → hostPortAt text at ≡ Malformed
-port-zero-malformed text at w four =
-    let m : length (w .runs) + 1 ≡ 5 = omega arith in
-    sym (from-first text at) ∙ rw (← m) (skip-runs (w .runs) 1 text 0 at (48 ∷ 44 ∷ 48 ∷ w .rest) (w .digits) (w .there) (λ v place e. last-two text v place (w .rest) e))
+pub port-zero-malformed : (text : List ℕ) (at : ℕ) (before : List (List ℕ)) (rest : List ℕ) → AllHold (λ run. all isDigit run ≡ true) before → length before ≡ 4
+    → drop at text ≡ commaAfterEach before ++ (48 ∷ 44 ∷ 48 ∷ rest) → hostPortAt text at ≡ Malformed
+port-zero-malformed text at before rest digits four there =
+    let m : length before + 1 ≡ 5 = omega arith in
+    first-is text at ∙ rw (← m) (skip-runs before 1 text 0 at (48 ∷ 44 ∷ 48 ∷ rest) digits there (λ v place e. last-two text v place rest e))

@@ -4,6 +4,7 @@ use mathlib.Core.Path.{_≡_}
 use mathlib.Core.Bool.{true, false}
 use mathlib.Core.List.{List, [], _∷_, _++_}
 use lib.ListN.{length, getD, take, drop}
+use Rattle.octets.specs.Cases.{AllHold}
 use Rattle.octets.specs.Decimal.{decimalValue}
 use Rattle.texts.specs.Text.{isDigit, all}
 use Rattle.hostports.specs.declared.host_port.ParsedHostPort.the-variants.{HostPort}
@@ -57,18 +58,6 @@ unfoldable pub commaAfterEach : List (List ℕ) → List ℕ
 commaAfterEach [] = []
 commaAfterEach (run ∷ runs) = run ++ 44 ∷ commaAfterEach runs
 
--- each of the runs has digits alone
-abbrev pub AllDigits : List (List ℕ) → Type 0
-AllDigits [] = Unit {0}
-AllDigits (run ∷ runs) = (all isDigit run ≡ true) × AllDigits runs
-
--- at a place there are runs of digits with a comma after each, and then these bytes, whatever follows them
-pub record AfterNumbers (text : List ℕ) (at : ℕ) (then : List ℕ) : Type 0 where
-  pub runs : List (List ℕ)
-  pub digits : AllDigits runs
-  pub rest : List ℕ
-  pub there : drop at text ≡ commaAfterEach runs ++ (then ++ rest)
-
 pub record HostPorts : Type 0 where
   -- six numbers with commas between, the last two not both 0, at any place of a text, with nothing or a byte that is no digit after them,
   -- are a host-port: address * 65,536 + port, and the place after it
@@ -84,11 +73,12 @@ pub record HostPorts : Type 0 where
       → (refusalNumber (hostPortAt text at) ≡ 41) × (valueOf (hostPortAt text at) ≡ 0) × (placeAfter (hostPortAt text at) ≡ 0)
   -- whatever text it is read from, a host-port fits 48 bits
   pub fits-48-bits : (text : List ℕ) (at v next : ℕ) → hostPortAt text at ≡ HostPort v next → v < 2 ^ 48
-  -- 41: a 0 and a further digit where one of the six begins, whatever the numbers before it say and whatever follows
-  pub no-leading-zero : (text : List ℕ) (at d : ℕ) → isDigit d ≡ true → (w : AfterNumbers text at (48 ∷ d ∷ [])) → length (w .runs) ≤ 5
-      → refusalNumber (hostPortAt text at) ≡ 41
-  -- 41: `0,0` where the last two of the six begin, whatever the four before them say and whatever follows
-  pub no-port-0 : (text : List ℕ) (at : ℕ) → (w : AfterNumbers text at (48 ∷ 44 ∷ 48 ∷ [])) → length (w .runs) ≡ 4 → refusalNumber (hostPortAt text at) ≡ 41
+  -- 41: a 0 and a further digit where one of the six begins, after up to five runs of digits, whatever they say and whatever follows
+  pub no-leading-zero : (text : List ℕ) (at : ℕ) (before : List (List ℕ)) (d : ℕ) (rest : List ℕ) → AllHold (λ run. all isDigit run ≡ true) before → length before ≤ 5 → isDigit d ≡ true
+      → drop at text ≡ commaAfterEach before ++ (48 ∷ d ∷ rest) → refusalNumber (hostPortAt text at) ≡ 41
+  -- 41: `0,0` where the last two of the six begin, after four runs of digits, whatever they say and whatever follows
+  pub no-port-0 : (text : List ℕ) (at : ℕ) (before : List (List ℕ)) (rest : List ℕ) → AllHold (λ run. all isDigit run ≡ true) before → length before ≡ 4
+      → drop at text ≡ commaAfterEach before ++ (48 ∷ 44 ∷ 48 ∷ rest) → refusalNumber (hostPortAt text at) ≡ 41
   -- no host-port that is read has port 0
   pub port-not-0 : (text : List ℕ) (at v next : ℕ) → hostPortAt text at ≡ HostPort v next → 0 < v % 65536
   -- a host-port has one text: two texts that are a host-port each, of one value, are the same, whatever their lengths
