@@ -1,17 +1,17 @@
 -- A pair of entries at a place of the lent list: what the rule, the used pairs and the zeros say there.
 use Prim.Native.Nat.{ℕ, suc, _+_, _%_, _≤_, _<_}
 use mathlib.Core.Path.{_≡_, refl, sym, _∙_}
-use mathlib.Core.Bool.{Bool, true, false, cond, _&&_, _||_, and-true, and-false, and-assoc, and-eq-true-iff}
+use mathlib.Core.Bool.{Bool, true, false, _&&_, and-true, and-false, and-assoc}
 use mathlib.Core.List.{List, [], _∷_}
 use native.Mathlib.Omega.{arith}
 use native.Mathlib.Numerals.{add-one, add-two}
 use native.Mathlib.Decide.{decLt, decLe}
-use borrow.Author.Tests.{lt-ltb, le-ltb, le-leb, lt-leb, ltb-true, eq-eqb, ne-eqb}
+use borrow.Author.Tests.{lt-ltb, le-ltb, le-leb, lt-leb, eq-eqb, ne-eqb}
 use lib.Dec.{leb, ltb, eqb}
 use lib.ListN.{length, getD, drop, length-drop, List·getD-eq-default}
 use lib.Seq.{drop-cons}
 use Rattle.ledger.specs.Pairs.{none, pair, endsAtMost}
-use Rattle.ledger.specs.Ledger.{allZero, obeysFrom, pairsOf, mayFollow}
+use Rattle.ledger.specs.Ledger.{allZero, obeysFrom, pairsOf}
 
 pub two-of : (l : List ℕ) (i : ℕ) → i + 1 < length l → drop i l ≡ getD l i 0 ∷ getD l (i + 1) 0 ∷ drop (i + 2) l
 two-of l i h =
@@ -39,20 +39,6 @@ pairs-over l i h = go (drop i l) (omega (arith, length-drop i l))
     go (a ∷ b ∷ r) k = absurd (omega arith)
 
 -- ---- the rule and the ends, tested together
-
--- the least place at which a pair may start after one that ends at `end`, 0 where there is none before it
-abbrev pub lowest : ℕ → ℕ
-lowest end = cond (eqb end 0) 0 (suc end)
-
-pub lowest-follows : (end a b : ℕ) → (leb (lowest end) a && ltb a b) ≡ mayFollow end a b
-lowest-follows end a b = go (eqb end 0) refl
-  where
-    go : (t : Bool) → eqb end 0 ≡ t → (leb (lowest end) a && ltb a b) ≡ mayFollow end a b
-    go true e = rw (e, le-leb 0 a (omega arith))
-    go false e = rw e
-
-pub follows-less : (end a b : ℕ) → mayFollow end a b ≡ true → a < b
-follows-less end a b h = ltb-true a b (and-eq-true-iff (eqb end 0 || ltb end a) (ltb a b) .0 h .1)
 
 -- what the rule and the limit f ask of pairs from the place lo on
 unfoldable pub sound : ℕ → ℕ → List ℕ → Bool

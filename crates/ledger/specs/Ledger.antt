@@ -34,10 +34,6 @@ obeysFrom lo (a ∷ b ∷ rest) =
     let following = obeysFrom (suc b) rest in
     cond (eqb b 0) (eqb a 0 && (allZero rest && eqb (length rest % 2) 0)) (leb lo a && (ltb a b && following))
 
--- the pair (a, b) may come after one that ends at `end`, 0 where there is none before it
-abbrev pub mayFollow : ℕ → ℕ → ℕ → Bool
-mayFollow end a b = (eqb end 0 || ltb end a) && ltb a b
-
 unfoldable pub obeys : List ℕ → Bool
 obeys ledger = obeysFrom 0 ledger
 

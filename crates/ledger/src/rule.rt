@@ -6,7 +6,7 @@ ghost use Prim.Native.Nat.{suc, _+_, _%_, _≤_, min};
 ghost use lib.Dec.{leb, ltb, eqb};
 ghost use lib.ListN.{length, getD, drop};
 ghost use Rattle.ledger.specs.Pairs.{total, endsAtMost};
-ghost use Rattle.ledger.specs.Ledger.{lengthWrong, allZero, mayFollow, obeysFrom, obeys, ledgerRefusal, pairsOf, hasPair};
+ghost use Rattle.ledger.specs.Ledger.{lengthWrong, allZero, obeysFrom, obeys, ledgerRefusal, pairsOf, hasPair};
 
 // The most entries that a ledger may have.
 pub const ENTRY_LIMIT: usize = 8192;
@@ -44,19 +44,6 @@ fn zero_pairs(entries: &[u64]) -> bool
         return false;
     }
     entries.len() % 2 == 0
-}
-
-// Whether the pair (a, b) may come after one that ends at end; an end of 0 says that there is none before it.
-pub fn may_follow(end: u64, a: u64, b: u64) -> bool
-    ensures { λ r. ⌜ r ≡ mayFollow end a b ⌝ }
-{
-    if b <= a {
-        return false;
-    }
-    if end == 0 {
-        return true;
-    }
-    end < a
 }
 
 // Whether there is a used pair at the place i of the entries.

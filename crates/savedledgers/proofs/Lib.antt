@@ -1,6 +1,5 @@
 mod Numbers
-pub mod SavedBody
-pub mod SavedFrame
+mod Entries
 pub mod SavedReading
 pub mod SavedWriting
 pub mod SavedRoundTrip

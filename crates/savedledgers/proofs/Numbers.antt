@@ -1,30 +1,15 @@
--- Runs of numbers in eight bytes each: what one turn of a loop owes that reads or writes them.
-use Prim.Native.Nat.{ℕ, zero, suc, _+_, _*_, _-_, _≤_, _<_}
-use mathlib.Core.Path.{_≡_, refl, ap, _∙_}
+-- Runs of numbers in eight bytes each: what one turn of a loop owes that writes them.
+use Prim.Native.Nat.{ℕ, _+_, _*_, _-_, _≤_, _<_}
+use mathlib.Core.Path.{_≡_, ap, _∙_}
 use mathlib.Core.List.{List, _++_, append-assoc}
 use native.Mathlib.Omega.{arith}
 use native.Mathlib.Numerals.{add-one}
 use borrow.Rule.Slice.PartMut.{putMid, midOf, mid-len}
-use lib.ListN.{length, getD, set, take, drop, length-set, length-append}
-use lib.Seq.{drop-cons, drop-drop, take-suc-set, append-snoc, length-take-le, take-at}
-use Rattle.octets.specs.Digits.{fromLittleEndian, toLittleEndian}
+use lib.ListN.{length, getD, take, drop, length-append}
+use lib.Seq.{drop-cons, length-take-le, take-at}
+use Rattle.octets.specs.Digits.{toLittleEndian}
 use Rattle.octets.proofs.Digits.{length-toLittle}
-use Rattle.savedledgers.specs.Numbers.{numbersIn, numberBytes}
-
-pub length-numbersIn : (n : ℕ) (bytes : List ℕ) → length (numbersIn n bytes) ≡ n
-unfolding numbersIn
-length-numbersIn zero bytes = refl
-length-numbersIn (suc n) bytes = ap suc (length-numbersIn n (drop 8 bytes))
-
--- the entry after those that hold their numbers
-pub read-turn : (bytes es : List ℕ) (i v : ℕ) → i < length es → v ≡ fromLittleEndian 256 (take 8 (drop (8 * i) bytes))
-    → take (i + 1) (set es i v) ++ numbersIn (length (set es i v) - (i + 1)) (drop (8 * (i + 1)) bytes)
-    ≡ take i es ++ numbersIn (length es - i) (drop (8 * i) bytes)
-unfolding numbersIn
-read-turn bytes es i v h e =
-    let m : length es - i ≡ suc (length es - (i + 1)) = omega arith in
-    let q : 8 * (i + 1) ≡ 8 * i + 8 = omega arith in
-    rw (length-set es i v, m, q, ← drop-drop 8 (8 * i) bytes, ← e, add-one i, take-suc-set es i v) (append-snoc (take i es) v _)
+use Rattle.savedledgers.specs.Numbers.{numberBytes}
 
 -- the number after those that are written
 pub write-turn : (ns out ys : List ℕ) (i : ℕ) → i < length ns → 8 * i + 8 ≤ length out

@@ -1,35 +1,64 @@
--- What the writer of a saved ledger answers and leaves, case by case: `SavedWriting` and `SavedBytes` hold.
-use Prim.Native.Nat.{ℕ, _+_, _*_, _-_, _≤_, _<_}
+-- The bytes of a ledger's pairs, and what the writer of a saved ledger answers and leaves, case by case: `SavedWriting` and `SavedBytes` hold.
+use Prim.Native.Nat.{ℕ, suc, _+_, _*_, _-_, _≤_, _<_}
 use mathlib.Core.Path.{_≡_, refl, sym, _∙_}
-use mathlib.Core.Bool.{true, false}
-use mathlib.Core.List.{List, _++_, append-assoc}
+use mathlib.Core.Bool.{Bool, true, false, cond}
+use mathlib.Core.List.{List, [], _∷_, _++_, append-assoc}
 use native.Mathlib.Omega.{arith}
 use native.Mathlib.Nat.{sub-zero}
 use borrow.Rule.Slice.PartMut.{putMid}
-use lib.ListN.{length, take, drop, length-append}
+use lib.Dec.{eqb}
+use lib.ListN.{length, take, drop}
 use lib.Seq.{take-at, drop-at, drop-drop}
 use Rattle.answers.specs.declared.written.Written.the-variants.{Bytes}
 use Rattle.answers.specs.Written.{roomRefusal, Refuses}
 use Rattle.answers.proofs.WrittenBy.{first-some, first-none, first-zero, room-short, room-enough, written, written-only, refuses, writes}
-use Rattle.frames.specs.Frame.{frameLength, frameOf, framed}
+use Rattle.octets.specs.Digits.{toLittleEndian}
+use Rattle.frames.specs.Frame.{frameLength, frameOf}
 use Rattle.frames.proofs.Framed.{framed-is, length-frameOf}
-use Rattle.ledger.specs.Pairs.{Pairs, size}
+use Rattle.ledger.specs.Pairs.{Pairs, none, pair, size}
 use Rattle.ledger.specs.Ledger.{lengthWrong, obeys, pairsOf, ledgerRefusal}
 use Rattle.ledger.proofs.LedgerSizes.{length-wrong}
+use Rattle.ledger.proofs.PairsAsNumbers.{flat}
 use Rattle.ledger.proofs.LedgerRefusal.{refusal-53, refusal-1, refusal-none, refusal-zero}
 use Rattle.savedledgers.specs.Numbers.{numberBytes}
-use Rattle.savedledgers.specs.Saved.{kindOne, pairBytes, savedOf, writeSavedRefusal, writeSaved, writeSavedAfter}
+use Rattle.savedrecords.specs.Kind.{kindOne}
+use Rattle.savedrecords.specs.Record.{pairBytes, recordOf}
+use Rattle.savedrecords.specs.declared.kind.Second.the-variants.{End}
+use Rattle.savedrecords.proofs.RecordPairs.{length-pairBytes}
+use Rattle.savedrecords.proofs.RecordBytes.{record-bytes}
+use Rattle.savedrecords.proofs.RecordRoundTrip.{length-recordOf}
+use Rattle.savedledgers.specs.Saved.{savedOf, writeSavedRefusal, writeSaved, writeSavedAfter}
 use Rattle.savedledgers.specs.SavedWriting.{SavedWriting, SavedBytes}
-use Rattle.savedledgers.proofs.SavedBody.{length-pairBytes, flat-used, pairBytes-flat}
 use Rattle.savedledgers.proofs.SavedReading.{right-length}
 
-pub savedOf-is : (ps : Pairs) → savedOf ps ≡ frameOf kindOne (16 * size ps) ++ pairBytes ps
-unfolding savedOf
-savedOf-is ps = framed-is kindOne (pairBytes ps) ∙ rw (length-pairBytes ps)
+-- ---- the bytes of the pairs
+
+pub pairBytes-flat : (ps : Pairs) → pairBytes End ps ≡ numberBytes (flat ps)
+unfolding flat pairBytes numberBytes
+pairBytes-flat none = refl
+pairBytes-flat (pair a b ps) = rw (pairBytes-flat ps)
+
+-- the used pairs are the first entries of a ledger
+pub flat-used : (l : List ℕ) → flat (pairsOf l) ≡ take (2 * size (pairsOf l)) l
+unfolding flat pairsOf size
+flat-used [] = refl
+flat-used (a ∷ []) = refl
+flat-used (a ∷ b ∷ rest) = go (eqb b 0) (flat-used rest)
+  where
+    go : (t : Bool) → flat (pairsOf rest) ≡ take (2 * size (pairsOf rest)) rest
+        → let ps = cond t none (pair a b (pairsOf rest)) in flat ps ≡ take (2 * size ps) (a ∷ b ∷ rest)
+    go true i = refl
+    go false i =
+        let q : 2 * suc (size (pairsOf rest)) ≡ suc (suc (2 * size (pairsOf rest))) = omega arith in
+        rw (q, i)
+
+pub savedOf-is : (ps : Pairs) → savedOf ps ≡ frameOf 1 (16 * size ps) ++ pairBytes End ps
+unfolding savedOf recordOf toLittleEndian
+savedOf-is ps = framed-is 1 (pairBytes End ps) ∙ rw (length-pairBytes End ps)
 
 pub length-savedOf : (ps : Pairs) → length (savedOf ps) ≡ 6 + 16 * size ps
-length-savedOf ps =
-    rw (savedOf-is ps, length-append (frameOf kindOne (16 * size ps)) (pairBytes ps), length-frameOf kindOne (16 * size ps), length-pairBytes ps)
+unfolding savedOf
+length-savedOf ps = omega (arith, length-recordOf kindOne 0 ps)
 
 -- ---- the number of a refusal
 
@@ -76,17 +105,17 @@ accepted ledger out n e =
 
 -- o is the lent bytes after the frame, and zs the part of them that has the pairs
 pub save-placed : (ledger out o zs : List ℕ) (used : ℕ) → used ≡ size (pairsOf ledger)
-    → o ≡ frameOf kindOne (16 * used) ++ drop frameLength out → zs ≡ numberBytes (take (2 * used - 0) ledger)
+    → o ≡ frameOf 1 (16 * used) ++ drop frameLength out → zs ≡ numberBytes (take (2 * used - 0) ledger)
     → let saved = savedOf (pairsOf ledger) in putMid 6 (6 + 16 * used - 6) o zs ≡ saved ++ drop (length saved) out
 save-placed ledger out o zs used u e z =
     let ps = pairsOf ledger in
     let s : 2 * used - 0 ≡ 2 * used = sub-zero (2 * used) in
     let q : 6 + 16 * used - 6 ≡ 16 * used = omega arith in
-    let f = frameOf kindOne (16 * used) in
-    let n : length f ≡ 6 = length-frameOf kindOne (16 * used) in
-    let zs-is : zs ≡ pairBytes ps = z ∙ rw (s, u, ← flat-used ledger) (sym (pairBytes-flat ps)) in
+    let f = frameOf 1 (16 * used) in
+    let n : length f ≡ 6 = length-frameOf 1 (16 * used) in
+    let zs-is : zs ≡ pairBytes End ps = z ∙ rw (s, u, ← flat-used ledger) (sym (pairBytes-flat ps)) in
     rw (q, e, take-at f (drop 6 out) 6 n, drop-at f (drop 6 out) 6 n, drop-drop (16 * used) 6 out, length-savedOf ps, savedOf-is ps, zs-is, u)
-    (sym (append-assoc (frameOf kindOne (16 * size ps)) (pairBytes ps) (drop (6 + 16 * size ps) out)))
+    (sym (append-assoc (frameOf 1 (16 * size ps)) (pairBytes End ps) (drop (6 + 16 * size ps) out)))
 
 -- ---- the rows
 
@@ -109,5 +138,10 @@ module _ (ledger out : List ℕ) where
       }
 
 pub saved-bytes : SavedBytes
-unfolding savedOf framed pairBytes
-saved-bytes = record { all-bytes = λ ps. rw (length-pairBytes ps); no-pair = refl; next-pair = λ a b ps. refl }
+unfolding savedOf toLittleEndian
+saved-bytes =
+    record {
+      all-bytes = λ ps.
+          let z : 2 + (0 + 16 * size ps) ≡ 2 + 16 * size ps = omega arith in
+          rw z at (record-bytes .all-bytes kindOne 0 ps);
+    }

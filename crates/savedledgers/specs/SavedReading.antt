@@ -1,69 +1,58 @@
--- What the reader of a saved ledger answers and leaves, row by row (document 01, "Numbers the host sees": 53, 61, 62, 63, 64, then 0).
-use Prim.Native.Nat.{ℕ, suc, _+_, _/_, _%_, _≤_, _<_}
+-- What the readers of saved ledgers answer and leave, row by row (documents 01 and 02: 53, 61, 62, 63, 64, 65, then 0).
+use Prim.Native.Nat.{ℕ, _/_, _%_, _≤_, _<_}
 use mathlib.Core.Path.{_≡_}
-use mathlib.Core.Logic.{_⊎_, _↔_}
-use mathlib.Core.Bool.{true}
+use mathlib.Core.Bool.{true, false}
 use mathlib.Core.List.{List}
-use lib.ListN.{length, take, drop}
-use Rattle.octets.specs.Digits.{fromLittleEndian}
+use lib.ListN.{length, drop}
 use Rattle.answers.specs.Loaded.{loadedNumber}
 use Rattle.answers.specs.declared.loaded.Loaded.the-variants.{Done}
-use Rattle.ledger.specs.Pairs.{Pairs, none, pair, ObeyFrom, obeyFrom}
-use Rattle.ledger.specs.Ledger.{laidOut, capacity}
-use Rattle.savedledgers.specs.Saved.{pairsIn, savedPairs, readSaved, readSavedAfter}
+use Rattle.ledger.specs.Pairs.{Pairs, endsAtMost}
+use Rattle.ledger.specs.Ledger.{laidOut}
+use Rattle.savedrecords.specs.Kind.{kindOne, kindTwo, headLength}
+use Rattle.savedrecords.specs.Record.{fileLengthOf, savedPairs}
+use Rattle.savedrecords.specs.RecordRows.{RightFrame, IsKind, RightBody, RightRecord}
+use Rattle.savedrecords.specs.declared.kind.Kind.{Kind}
+use Rattle.savedledgers.specs.Saved.{readRefusal, readAfter, readSaved, readSized, loadedForNumber, loadedForLength}
+use Rattle.savedledgers.specs.declared.loaded_for.LoadedFor.the-variants.{Length}
 
 -- the bytes are refused with this number, and the ledger stays as it is
-pub record Refuses (bytes ledger : List ℕ) (k : ℕ) : Type 0 where
-  pub number : loadedNumber (readSaved bytes ledger) ≡ k
-  pub unchanged : readSavedAfter bytes ledger ≡ ledger
+pub record Refuses (kind : Kind) (bytes ledger : List ℕ) (k : ℕ) : Type 0 where
+  pub number : readRefusal kind bytes ledger ≡ k
+  pub unchanged : readAfter kind bytes ledger ≡ ledger
 
 -- the bytes are read: the ledger holds these pairs, and zeros after them
-pub record Reads (bytes ledger : List ℕ) (ps : Pairs) : Type 0 where
-  pub accepted : readSaved bytes ledger ≡ Done
-  pub number : loadedNumber (readSaved bytes ledger) ≡ 0
-  pub after : readSavedAfter bytes ledger ≡ laidOut (capacity ledger) ps
+pub record Reads (kind : Kind) (bytes ledger : List ℕ) (ps : Pairs) : Type 0 where
+  pub number : readRefusal kind bytes ledger ≡ 0
+  pub after : readAfter kind bytes ledger ≡ laidOut (length ledger / 2) ps
 
 -- the length of a ledger that is not refused
 pub record RightLength (ledger : List ℕ) : Type 0 where
   pub even : length ledger % 2 ≡ 0
   pub most : length ledger ≤ 8192
 
--- six bytes or more, of which the first four, least significant first, say how many follow them
-pub record RightFrame (bytes : List ℕ) : Type 0 where
-  pub least : 6 ≤ length bytes
-  pub counted : 4 + fromLittleEndian 256 (take 4 bytes) ≡ length bytes
-
--- the next two bytes say 1
-abbrev pub IsKindOne : List ℕ → Type 0
-IsKindOne bytes = fromLittleEndian 256 (take 2 (drop 4 bytes)) ≡ 1
-
--- whole pairs by the ledger rule from the seventh byte on
-pub record RightBody (bytes : List ℕ) : Type 0 where
-  pub whole : length (drop 6 bytes) % 16 ≡ 0
-  pub ruled : ObeyFrom 0 (savedPairs bytes)
-
-pub record SavedReading (bytes ledger : List ℕ) : Type 0 where
+pub record SavedReading (kind : Kind) (bytes ledger : List ℕ) : Type 0 where
   -- 53: the ledger's length is odd or above 8,192
-  pub wrong-length : (length ledger % 2 ≡ 1) ⊎ (8192 < length ledger) → Refuses bytes ledger 53
+  pub wrong-length : (RightLength ledger → ⊥) → Refuses kind bytes ledger 53
   -- 61: fewer than six bytes, or a length field that is wrong
-  pub wrong-frame : RightLength ledger → (length bytes < 6) ⊎ (4 + fromLittleEndian 256 (take 4 bytes) ≡ length bytes → ⊥) → Refuses bytes ledger 61
-  -- 62: the kind is not 1
-  pub wrong-kind : RightLength ledger → RightFrame bytes → (IsKindOne bytes → ⊥) → Refuses bytes ledger 62
-  -- 63: the body is not whole pairs, or they break the ledger rule
-  pub wrong-body : RightLength ledger → RightFrame bytes → IsKindOne bytes → (length (drop 6 bytes) % 16 ≡ 0 → ⊥) ⊎ (ObeyFrom 0 (savedPairs bytes) → ⊥)
-      → Refuses bytes ledger 63
+  pub wrong-frame : RightLength ledger → (RightFrame bytes → ⊥) → Refuses kind bytes ledger 61
+  -- 62: another kind
+  pub wrong-kind : RightLength ledger → RightFrame bytes → (IsKind kind bytes → ⊥) → Refuses kind bytes ledger 62
+  -- 63: the file length or the pairs are not whole, or these break the ledger rule
+  pub wrong-body : RightLength ledger → RightFrame bytes → IsKind kind bytes → (RightBody kind bytes → ⊥) → Refuses kind bytes ledger 63
   -- 64: more pairs than the ledger has
-  pub too-many-pairs : RightLength ledger → RightFrame bytes → IsKindOne bytes → RightBody bytes → capacity ledger < length (drop 6 bytes) / 16
-      → Refuses bytes ledger 64
+  pub too-many-pairs : RightLength ledger → RightRecord kind bytes → length ledger / 2 < length (drop (headLength kind) (drop 6 bytes)) / 16
+      → Refuses kind bytes ledger 64
+  -- 65: an end above the file length, in a kind that has one
+  pub end-beyond : RightLength ledger → RightRecord kind bytes → length (drop (headLength kind) (drop 6 bytes)) / 16 ≤ length ledger / 2
+      → kind .sized ≡ true → endsAtMost (fileLengthOf bytes) (savedPairs kind bytes) ≡ false → Refuses kind bytes ledger 65
   -- 0
-  pub read : RightLength ledger → RightFrame bytes → IsKindOne bytes → RightBody bytes → length (drop 6 bytes) / 16 ≤ capacity ledger
-      → Reads bytes ledger (savedPairs bytes)
+  pub read : RightLength ledger → RightRecord kind bytes → length (drop (headLength kind) (drop 6 bytes)) / 16 ≤ length ledger / 2
+      → (kind .sized ≡ true → endsAtMost (fileLengthOf bytes) (savedPairs kind bytes) ≡ true) → Reads kind bytes ledger (savedPairs kind bytes)
 
--- the pairs that bytes say: from the seventh on, each as two numbers of eight bytes, least significant first
-pub record SavedPairs : Type 0 where
-  pub all-pairs : (bytes : List ℕ) → savedPairs bytes ≡ pairsIn (length (drop 6 bytes) / 16) (drop 6 bytes)
-  pub no-pair : (body : List ℕ) → pairsIn 0 body ≡ none
-  pub next-pair : (n : ℕ) (body : List ℕ)
-      → pairsIn (suc n) body ≡ pair (fromLittleEndian 256 (take 8 body)) (fromLittleEndian 256 (take 8 (drop 8 body))) (pairsIn n (drop 16 body))
-  -- the order that the reader tests is the ledger rule
-  pub order-is-rule : (ps : Pairs) → (obeyFrom 0 ps ≡ true) ↔ ObeyFrom 0 ps
+-- what is answered: the number, and of kind 2 the file length
+pub record SavedAnswers (bytes ledger : List ℕ) : Type 0 where
+  pub one-number : loadedNumber (readSaved bytes ledger) ≡ readRefusal kindOne bytes ledger
+  pub one-read : readRefusal kindOne bytes ledger ≡ 0 → readSaved bytes ledger ≡ Done
+  pub two-number : loadedForNumber (readSized bytes ledger) ≡ readRefusal kindTwo bytes ledger
+  pub two-read : readRefusal kindTwo bytes ledger ≡ 0 → (readSized bytes ledger ≡ Length (fileLengthOf bytes)) × (loadedForLength (readSized bytes ledger) ≡ fileLengthOf bytes)
+  pub two-refused : 0 < readRefusal kindTwo bytes ledger → loadedForLength (readSized bytes ledger) ≡ 0

@@ -1,15 +1,17 @@
--- What the writer of a saved ledger answers and leaves, row by row (document 01, "Numbers the host sees": 53, 1, 55, then 0), and its bytes.
+-- What the writer of a saved ledger of kind 1 answers and leaves, row by row (document 01, "Numbers the host sees": 53, 1, 55, then 0), and its bytes.
 use Prim.Native.Nat.{ℕ, _+_, _*_, _%_, _≤_, _<_}
 use mathlib.Core.Path.{_≡_}
 use mathlib.Core.Logic.{_⊎_}
 use mathlib.Core.Bool.{true, false}
-use mathlib.Core.List.{List, [], _++_}
+use mathlib.Core.List.{List, _++_}
 use lib.ListN.{length}
 use Rattle.octets.specs.Digits.{toLittleEndian}
 use Rattle.answers.specs.Written.{Refuses, Writes}
-use Rattle.ledger.specs.Pairs.{Pairs, none, pair, size}
+use Rattle.ledger.specs.Pairs.{Pairs, size}
 use Rattle.ledger.specs.Ledger.{obeys, pairsOf}
-use Rattle.savedledgers.specs.Saved.{pairBytes, savedOf, writeSaved, writeSavedAfter}
+use Rattle.savedrecords.specs.Record.{pairBytes}
+use Rattle.savedrecords.specs.declared.kind.Second.the-variants.{End}
+use Rattle.savedledgers.specs.Saved.{savedOf, writeSaved, writeSavedAfter}
 use Rattle.savedledgers.specs.SavedReading.{RightLength}
 
 pub record SavedWriting (ledger out : List ℕ) : Type 0 where
@@ -25,6 +27,4 @@ pub record SavedWriting (ledger out : List ℕ) : Type 0 where
 
 -- the bytes, each number least significant byte first: how many follow the first four, the kind, and start and end of each pair
 pub record SavedBytes : Type 0 where
-  pub all-bytes : (ps : Pairs) → savedOf ps ≡ toLittleEndian 256 4 (2 + 16 * size ps) ++ (toLittleEndian 256 2 1 ++ pairBytes ps)
-  pub no-pair : pairBytes none ≡ []
-  pub next-pair : (a b : ℕ) (ps : Pairs) → pairBytes (pair a b ps) ≡ toLittleEndian 256 8 a ++ (toLittleEndian 256 8 b ++ pairBytes ps)
+  pub all-bytes : (ps : Pairs) → savedOf ps ≡ toLittleEndian 256 4 (2 + 16 * size ps) ++ (toLittleEndian 256 2 1 ++ pairBytes End ps)

@@ -1,2 +1,3 @@
-// A ledger as saved bytes (document 01, "Saved ledger, kind 1").
+// Ledgers as saved bytes (document 01, "Saved ledger, kind 1"; document 02, Item 7).
+pub mod loaded_for;
 pub mod saved;

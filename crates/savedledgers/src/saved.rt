@@ -1,109 +1,110 @@
-// The saved ledger, kind 1: bytes read into a ledger, and a ledger written as bytes.
+// Saved ledgers: bytes of kind 1 and of kind 2 read into a ledger, and a ledger written as bytes of kind 1.
+use crate::loaded_for::LoadedFor;
 use answers::loaded::Loaded;
 use answers::written::Written;
 use frames::frame;
-use frames::frame::FIELD_LENGTH;
 use frames::frame::FRAME_LENGTH;
 use ledger::rule;
 use octets::entries;
 use octets::little;
+use savedrecords::kind;
+use savedrecords::kind::Kind;
+use savedrecords::kind::Second;
+use savedrecords::pair;
+use savedrecords::record;
+use savedrecords::record::PAIR_LENGTH;
+use sums::sum;
 ghost use mathlib.Core.Path.{_≡_};
-ghost use Prim.Native.Nat.{_+_, _*_, _/_, _≤_};
-ghost use lib.ListN.{length, take, drop};
-ghost use Rattle.octets.specs.Digits.{fromLittleEndian};
-ghost use Rattle.ledger.specs.Pairs.{size, obeyFrom};
-ghost use Rattle.ledger.specs.Ledger.{pairsOf};
-ghost use Rattle.savedledgers.specs.Numbers.{numbersIn, numberBytes};
-ghost use Rattle.savedledgers.specs.Saved.{frameRefusal, pairLength, pairsIn, readSaved, readSavedAfter, writeSaved, writeSavedAfter};
-
-const PAIR_LENGTH: usize = 16;
-// The kind that holds start and end of each used pair.
-const KIND_ONE: u16 = 1;
+ghost use mathlib.Core.Bool.{true};
+ghost use Prim.Native.Nat.{_*_, _/_};
+ghost use lib.ListN.{length};
+ghost use Rattle.ledger.specs.Pairs.{size, ObeyFrom, endsAtMost};
+ghost use Rattle.ledger.specs.Ledger.{pairsOf, laidOut, capacity};
+ghost use Rattle.savedrecords.specs.Record.{pairsIn};
+ghost use Rattle.savedrecords.specs.declared.kind.Second.the-variants.{Length};
+ghost use Rattle.savedledgers.specs.Numbers.{numberBytes};
+ghost use Rattle.savedledgers.specs.Saved.{readRefusal, readAfter, readSaved, readSavedAfter, readSized, readSizedAfter, writeSaved, writeSavedAfter};
 
 // ---- reading
 
-// The number by which the frame of a record that is to be of this kind is refused, 0 where it is right.
-fn frame_refusal(kind: u16, bytes: &[u8]) -> u8
-    ensures { λ r. ⌜ r ≡ frameRefusal kind (now (bytes .entry)) ⌝ }
+// The number by which bytes that are to be a record of this kind are refused, 0 where their pairs can fill the ledger.
+fn refusal(kind: Kind, bytes: &[u8], ledger: &[u64]) -> u8
+    ensures { λ r. ⌜ r ≡ readRefusal kind (now (bytes .entry)) (now (ledger .entry)) ⌝ }
 {
-    if bytes.len() < FRAME_LENGTH {
-        return 61;
+    if rule::length_wrong(ledger) {
+        return 53;
     }
-    let follow = bytes.len() - FIELD_LENGTH;
-    if frame::length_field(bytes) != follow as u64 {
-        return 61;
+    let k = record::refusal(kind, bytes);
+    if 0 < k {
+        return k;
     }
-    if frame::kind(bytes) != kind as u64 {
-        return 62;
+    let pairs = record::pair_part(kind, bytes);
+    if ledger.len() / 2 < pairs.len() / PAIR_LENGTH {
+        return 64;
+    }
+    if !kind.sized {
+        return 0;
+    }
+    if !record::ends_by(kind, bytes, record::file_length(bytes)) {
+        return 65;
     }
     0
 }
 
-// The number of eight bytes that starts at `at`.
-fn number_at(bytes: &[u8], at: usize) -> u64
-    requires { ⌜ at + 8 ≤ length (now bytes) ⌝ }
-    ensures { λ r. ⌜ r ≡ fromLittleEndian 256 (take 8 (drop at (now (bytes .entry)))) ⌝ }
+// Fills the entries with start and end of each pair.
+fn fill(second: Second, pairs: &[u8], entries: &mut [u64])
+    requires { ⌜ (length (now entries) ≡ 2 * (length (now pairs) / 16)) × ObeyFrom 0 (pairsIn second (length (now pairs) / 16) (now pairs)) × (endsAtMost 18446744073709551615 (pairsIn second (length (now pairs) / 16) (now pairs)) ≡ true) ⌝ }
+    ensures { λ _. ⌜ now (entries .exit) ≡ laidOut (capacity (now (entries .entry))) (pairsIn second (length (now (pairs .entry)) / 16) (now (pairs .entry))) ⌝ }
 {
-    little::read(&bytes[at..at + 8])
-}
-
-// Whether the pairs of a body obey the ledger rule, all of them used.
-fn in_order(body: &[u8]) -> bool
-    ensures { λ r. ⌜ r ≡ obeyFrom 0 (pairsIn (length (now (body .entry)) / pairLength) (now (body .entry))) ⌝ }
-{
-    let n = body.len() / PAIR_LENGTH;
-    let mut end: u64 = 0;
+    let n = pairs.len() / PAIR_LENGTH;
     let mut k = 0;
     while k < n {
-        let a = number_at(body, PAIR_LENGTH * k);
-        let b = number_at(body, PAIR_LENGTH * k + 8);
-        if !rule::may_follow(end, a, b) {
-            return false;
-        }
-        end = b;
+        let next = pair::first(second, &pairs[PAIR_LENGTH * k..]);
+        let i = 2 * k;
+        entries[i] = next.start;
+        entries[i + 1] = sum::saturating_add(next.start, next.length);
         k += 1;
     }
-    true
 }
 
-// Fills the entries with the numbers that the bytes begin with.
-fn read_numbers(bytes: &[u8], entries: &mut [u64])
-    requires { ⌜ 8 * length (now entries) ≤ length (now bytes) ⌝ }
-    ensures { λ _. ⌜ now (entries .exit) ≡ numbersIn (length (now (entries .entry))) (now (bytes .entry)) ⌝ }
+// Reads a record of this kind into a ledger, whose entries past the pairs become 0. It answers the number by which the record is refused, which
+// leaves the ledger as it is, or 0.
+fn load(kind: Kind, bytes: &[u8], ledger: &mut [u64]) -> u8
+    requires { ⌜ (kind .second ≡ Length → kind .sized ≡ true) ⌝ }
+    ensures { λ r. ⌜ (r ≡ readRefusal kind (now (bytes .entry)) (now (ledger .entry))) × (now (ledger .exit) ≡ readAfter kind (now (bytes .entry)) (now (ledger .entry))) ⌝ }
 {
-    let mut i = 0;
-    while i < entries.len() {
-        entries[i] = number_at(bytes, 8 * i);
-        i += 1;
+    let k = refusal(kind, bytes, ledger);
+    if 0 < k {
+        return k;
     }
+    let pairs = record::pair_part(kind, bytes);
+    let filled = 2 * (pairs.len() / PAIR_LENGTH);
+    let second = kind.second;
+    fill(second, pairs, &mut ledger[0..filled]);
+    entries::clear(&mut ledger[filled..]);
+    0
 }
 
-// Reads a saved ledger into a ledger, whose entries past the pairs become 0; a refusal leaves the ledger as it is.
+// Reads a saved ledger of kind 1 into a ledger, whose entries past the pairs become 0; a refusal leaves the ledger as it is.
 pub fn read(bytes: &[u8], ledger: &mut [u64]) -> Loaded
     ensures { λ r. ⌜ (r ≡ readSaved (now (bytes .entry)) (now (ledger .entry))) × (now (ledger .exit) ≡ readSavedAfter (now (bytes .entry)) (now (ledger .entry))) ⌝ }
 {
-    if rule::length_wrong(ledger) {
-        return Loaded::Refused(53);
-    }
-    let k = frame_refusal(KIND_ONE, bytes);
+    let k = load(kind::one(), bytes, ledger);
     if 0 < k {
         return Loaded::Refused(k);
     }
-    let body = &bytes[FRAME_LENGTH..];
-    if body.len() % PAIR_LENGTH != 0 {
-        return Loaded::Refused(63);
-    }
-    if !in_order(body) {
-        return Loaded::Refused(63);
-    }
-    let n = body.len() / PAIR_LENGTH;
-    if ledger.len() / 2 < n {
-        return Loaded::Refused(64);
-    }
-    let filled = 2 * n;
-    read_numbers(body, &mut ledger[0..filled]);
-    entries::clear(&mut ledger[filled..]);
     Loaded::Done
+}
+
+// The same of kind 2, which says how long the file is.
+pub fn read_sized(bytes: &[u8], ledger: &mut [u64]) -> LoadedFor
+    ensures { λ r. ⌜ (r ≡ readSized (now (bytes .entry)) (now (ledger .entry))) × (now (ledger .exit) ≡ readSizedAfter (now (bytes .entry)) (now (ledger .entry))) ⌝ }
+{
+    let k = load(kind::two(), bytes, ledger);
+    if 0 < k {
+        return LoadedFor::Refused(k);
+    }
+    LoadedFor::Length(record::file_length(bytes))
 }
 
 // ---- writing
@@ -135,7 +136,7 @@ fn write_numbers(numbers: &[u64], out: &mut [u8])
     }
 }
 
-// Writes the used pairs of a ledger as a saved ledger into the first bytes of out.
+// Writes the used pairs of a ledger as a saved ledger of kind 1 into the first bytes of out.
 pub fn write(ledger: &[u64], out: &mut [u8]) -> Written
     ensures { λ r. ⌜ (r ≡ writeSaved (now (ledger .entry)) (now (out .entry))) × (now (out .exit) ≡ writeSavedAfter (now (ledger .entry)) (now (out .entry))) ⌝ }
 {
@@ -149,7 +150,8 @@ pub fn write(ledger: &[u64], out: &mut [u8]) -> Written
     if out.len() < end {
         return Written::Refused(55);
     }
-    frame::write(KIND_ONE, n as u32, out);
+    let kind = kind::one();
+    frame::write(kind.number, n as u32, out);
     write_numbers(&ledger[0..2 * used], &mut out[FRAME_LENGTH..end]);
     Written::Bytes(end)
 }

@@ -11,7 +11,7 @@ use Rattle.ledger.proofs.LedgerSizes.{length-fits}
 use Rattle.ledger.proofs.LedgerLayout.{size-pairsOf}
 use Rattle.ledger.proofs.LedgerRefusal.{refusal-zero}
 use Rattle.frames.proofs.Framed.{frame-written}
-use Rattle.savedledgers.specs.Saved.{kindOne, savedOf, writeSaved, writeSavedAfter}
+use Rattle.savedledgers.specs.Saved.{savedOf, writeSaved, writeSavedAfter}
 use Rattle.answers.specs.declared.written.Written.the-variants.{Bytes}
 use Rattle.answers.proofs.WrittenBy.{refused}
 use Rattle.savedledgers.proofs.SavedWriting.{number-refused, number-55, number-0, writes-saved, length-savedOf, save-placed}
@@ -58,8 +58,11 @@ returns-2 c =
     let n = number-55 (x .ledger .now) (x .out .now) (omega (arith, d .before .refusal .ensures)) (omega (arith, used-is u)) in
     refused _ _ (savedOf (pairsOf (x .ledger .now))) (x .out .now) 55 n (omega arith)
 
+one-requires : tie.Need-one-requires
+one-requires c κs = search needs
+
 cast-write : tie.Need-cast-write
-cast-write c = omega (arith, used-is (c .before))
+cast-write c = omega (arith, used-is (c .before .before))
 
 write-requires : tie.Need-write-requires
 write-requires c κs = search needs
@@ -74,7 +77,7 @@ part-write-numbers-start : tie.Need-part-write-numbers-start
 part-write-numbers-start c = search needs
 
 part-write-numbers-end : tie.Need-part-write-numbers-end
-part-write-numbers-end c = omega (arith, used-is (c .before .before .before .before .before))
+part-write-numbers-end c = omega (arith, used-is (c .before .before .before .before .before .before))
 
 sub-write-numbers-2 : tie.Need-sub-write-numbers-2
 sub-write-numbers-2 c = search needs
@@ -95,14 +98,15 @@ returns-3 : tie.Need-returns-3
 returns-3 c =
     let w₂ = c .before .before in
     let w₁ = w₂ .before .before .before .before .before in
-    let u = w₁ .before .before .before in
+    let k₁ = w₁ .before .before in
+    let u = k₁ .before .before in
     let d = u .before in
     let x = d .before .before .before .before .args in
     let n = number-0 (x .ledger .now) (x .out .now) (omega (arith, d .before .refusal .ensures)) (omega (arith, used-is u)) in
     let w = writes-saved (x .ledger .now) (x .out .now) n in
     let k = u .used-pairs .ensures in
     let s : length (savedOf (pairsOf (x .ledger .now))) ≡ 6 + 16 * u .used-pairs .result = length-savedOf (pairsOf (x .ledger .now)) ∙ rw k in
-    let o = w₁ .write .ensures .1 ∙ frame-written kindOne (16 * u .used-pairs .result) (x .out .now) (omega arith) in
+    let o = (rw (k₁ .one .ensures) at (w₁ .write .ensures .1)) ∙ frame-written 1 (16 * u .used-pairs .result) (x .out .now) (omega arith) in
     let p = save-placed (x .ledger .now) (x .out .now) _ _ (u .used-pairs .result) k o (w₂ .write-numbers .ensures) in
     (sym (w .0 ∙ ap Bytes s), p ∙ sym (w .1))
 
@@ -116,6 +120,7 @@ write-spec =
     mul-n
     add-end
     returns-2
+    one-requires
     cast-write
     write-requires
     mul-write-numbers

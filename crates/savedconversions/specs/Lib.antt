@@ -1,0 +1,3 @@
+pub mod Conversion
+pub mod ConversionRows
+pub mod KindTwo

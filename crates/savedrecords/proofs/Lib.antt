@@ -1,0 +1,8 @@
+pub mod KindNumbers
+pub mod Rest
+pub mod RecordPairs
+pub mod RecordFrame
+pub mod RecordRefusal
+pub mod RecordRows
+pub mod RecordBytes
+pub mod RecordRoundTrip
