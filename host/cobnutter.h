@@ -50,8 +50,9 @@
  *     51  range malformed                          52  the ranges so far, merged, need more pairs than the ledger has
  *     53  ledger length odd or above the limit     54  an empty ledger has no text
  *     55  too few bytes lent for the whole output
- *     61  saved ledger cut short, wrong length     62  another kind of record
- *     63  pairs not whole, or against the rule     64  more pairs than the ledger has
+ *     61  saved ledger cut short, wrong length     62  a kind of record other than the one expected
+ *     63  file length or pairs not whole, or       64  more pairs than the ledger has
+ *         pairs against the rule                   65  an end above the file length
  *     71  count or size out of range or not the sender's, another file length, or a sender that no calls give
  *     73  channel at or above the count            74  the channel's ending is written already
  *
@@ -240,6 +241,12 @@ typedef struct cob_found {
     uint8_t found;  /* 1 where a host-port is at the place, else 0 */
 } cob_found;
 
+typedef struct {
+    /* The length of the file that the ledger is for. */
+    uint64_t length;
+    uint8_t refused;
+} cob_loaded_for;
+
 /* The line with its CR LF. */
 cob_command cob_line_read(const uint8_t *line, size_t line_len);
 
@@ -252,16 +259,26 @@ cob_list cob_hosts_read(const uint8_t *text, size_t text_len, uint64_t *list, si
 /* The host-port that begins at one place, for a host that walks a text; what stands before the place is not looked at. */
 cob_found cob_host_at(const uint8_t *text, size_t text_len, size_t at);
 
-/* ---- ledgers as text and as saved bytes; the readers answer the number of the refusal, or 0 */
+/* ---- ledgers as text and as saved bytes; where a reader answers a number, it is that of the refusal, or 0 */
 
 /* Range lists, both ends counted. */
 uint8_t cob_ranges_read(const uint8_t *text, size_t text_len, uint64_t *ledger, size_t ledger_len);
 
 cob_written cob_ranges_write(const uint64_t *ledger, size_t ledger_len, uint8_t *out, size_t out_len);
 
+/* Saved ledgers of kind 1, which have start and end of each range: 6 bytes, and 16 for each range. */
 uint8_t cob_saved_read(const uint8_t *bytes, size_t bytes_len, uint64_t *ledger, size_t ledger_len);
 
 cob_written cob_saved_write(const uint64_t *ledger, size_t ledger_len, uint8_t *out, size_t out_len);
+
+/* Of kind 2, which have the length of the file, then start and length of each range: 14 bytes, and 16 for each range. */
+cob_loaded_for cob_saved2_read(const uint8_t *bytes, size_t bytes_len, uint64_t *ledger, size_t ledger_len);
+
+/* Kind 1 as kind 2, for a file of that length: 8 bytes more. No ledger is lent, and there may be any number of ranges. */
+cob_written cob_saved_to_2(uint64_t file_len, const uint8_t *bytes, size_t bytes_len, uint8_t *out, size_t out_len);
+
+/* Kind 2 as kind 1: 8 bytes less. */
+cob_written cob_saved_to_1(const uint8_t *bytes, size_t bytes_len, uint8_t *out, size_t out_len);
 
 #ifdef __cplusplus
 }

@@ -90,6 +90,10 @@ AT(cob_found, value, 0);
 AT(cob_found, next, 8);
 AT(cob_found, found, 16);
 
+SIZE(cob_loaded_for, 16);
+AT(cob_loaded_for, length, 0);
+AT(cob_loaded_for, refused, 8);
+
 static cob_transfer transfer;
 static uint8_t file[8];
 static uint64_t claimed[2], doubtful[2];
@@ -186,6 +190,26 @@ static int forms(void)
            cob_saved_read(out, saved.length, to, 2) == 0 && to[0] == 0 && to[1] == 90;
 }
 
+/* Bytes 0 to 89 of a file of 100, as kind 1, as kind 2 and back. */
+static int kinds(void)
+{
+    static const uint64_t ranges[] = {0, 90};
+    uint64_t to[] = {7, 7};
+    uint8_t one[22], two[30], back[22];
+    cob_written saved = cob_saved_write(ranges, 2, one, sizeof one);
+    cob_written converted = cob_saved_to_2(100, one, sizeof one, two, sizeof two);
+    cob_loaded_for loaded = cob_saved2_read(two, sizeof two, to, 2);
+    cob_written again = cob_saved_to_1(two, sizeof two, back, sizeof back);
+    return saved.length == 22 && converted.refused == 0 && converted.length == 30 && two[4] == 2 && two[6] == 100 &&
+           two[22] == 90 && loaded.refused == 0 && loaded.length == 100 && to[0] == 0 && to[1] == 90 &&
+           again.length == 22 && memcmp(one, back, sizeof one) == 0 && cob_saved_read(two, sizeof two, to, 2) == 62 &&
+           cob_saved2_read(one, sizeof one, to, 2).refused == 62 && cob_saved2_read(two, 13, to, 2).refused == 61 &&
+           cob_saved2_read(TEXT("\x09\0\0\0\x02\0\0\0\0\0\0\0\0"), to, 2).refused == 63 &&
+           cob_saved2_read(two, sizeof two, to, 0).refused == 64 && cob_saved2_read(two, sizeof two, to, 1).refused == 53 &&
+           cob_saved_to_2(89, one, sizeof one, two, sizeof two).refused == 65 &&
+           cob_saved_to_2(90, one, sizeof one, two, 29).refused == 55 && cob_saved_to_1(one, sizeof one, back, 22).refused == 62;
+}
+
 static int shows(uint8_t verdict, uint64_t ended, uint64_t count, uint64_t bytes, uint64_t doubted)
 {
     cob_screen s = shown();
@@ -225,5 +249,5 @@ int main(void)
 {
     int good = start() && block(0, 0, 0, "plai") && block(1, 8, 4, "d123") && block(0, 72, 2, "") &&
                memcmp(file, "plaid123", sizeof file) == 0 && shows(COB_RESULT, 2, 2, sizeof file, 0);
-    return good && sending() && suspected() && broken() && refused() && control() && forms() ? 0 : 1;
+    return good && sending() && suspected() && broken() && refused() && control() && forms() && kinds() ? 0 : 1;
 }

@@ -12,11 +12,15 @@ use Rattle.commands.specs.declared.line.Line.the-variants.{Command, Refused as 
 use Rattle.hostlists.specs.HostList.{refusalNumber as listNumber}
 use Rattle.hostlists.specs.declared.list.Hosts.{Hosts}
 use Rattle.hostlists.specs.declared.list.Hosts.the-variants.{Count, Refused as NoList}
+use Rattle.savedledgers.specs.Saved.{loadedForNumber, loadedForLength}
+use Rattle.savedledgers.specs.declared.loaded_for.LoadedFor.{LoadedFor}
+use Rattle.savedledgers.specs.declared.loaded_for.LoadedFor.the-variants.{Length, Refused as NotLoaded}
 use Rattle.receiver.specs.declared.show.Screen.{Screen}
 use Rattle.receiver.specs.declared.show.Screen.the-variants.{Shows, Refused as NotShown}
 use Rattle.receiver.specs.Shown.{screenNumber}
 use Rattle.host.specs.Header.{fieldsOf}
 use Rattle.host.specs.Written.{writtenOf}
+use Rattle.host.specs.Loaded.{loadedForOf}
 use Rattle.host.specs.Line.{commandOf}
 use Rattle.host.specs.Hosts.{hostPortCountOf}
 use Rattle.host.specs.Shown.{shownBy}
@@ -43,6 +47,11 @@ unfolding writtenBytes writtenNumber
 written (Bytes n) = (refl, refl)
 written (NotWritten k) = (refl, refl)
 
+loaded-for : (x : LoadedFor) → (loadedForOf x .length ≡ loadedForLength x) × (loadedForOf x .refused ≡ loadedForNumber x)
+unfolding loadedForLength loadedForNumber
+loaded-for (Length f) = (refl, refl)
+loaded-for (NotLoaded k) = (refl, refl)
+
 shown : (x : Screen) → shownBy x .refused ≡ screenNumber x
 shown (Shows n) = refl
 shown (NotShown k) = refl
@@ -59,6 +68,7 @@ numbers =
       line = line;
       verb-is = verb-is;
       written = written;
+      loaded-for = loaded-for;
       sent = λ x s. (written x .0, written x .1, refl);
       shown = shown;
       shown-are = λ n. (refl, refl, refl, refl, refl, refl, refl);

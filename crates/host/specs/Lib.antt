@@ -2,6 +2,7 @@ pub mod Received
 pub mod Shown
 pub mod Header
 pub mod Written
+pub mod Loaded
 pub mod Sending
 pub mod Line
 pub mod Hosts

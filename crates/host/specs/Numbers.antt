@@ -11,6 +11,8 @@ use Rattle.commands.specs.Line.{refusalNumber as lineNumber, verb}
 use Rattle.commands.specs.declared.line.Line.{Line}
 use Rattle.hostlists.specs.HostList.{refusalNumber as listNumber}
 use Rattle.hostlists.specs.declared.list.Hosts.{Hosts}
+use Rattle.savedledgers.specs.Saved.{loadedForNumber, loadedForLength}
+use Rattle.savedledgers.specs.declared.loaded_for.LoadedFor.{LoadedFor}
 use Rattle.sender.specs.declared.state.Sender.{Sender}
 use Rattle.transfer.specs.Transfer.{World, guess, result, suspect, broken, verdictOf}
 use Rattle.transfer.specs.Receive.{refused, took}
@@ -22,6 +24,7 @@ use Rattle.receiver.specs.Shown.{screenNumber}
 use Rattle.host.specs.Received.{verdictCode, receivedBy}
 use Rattle.host.specs.Header.{fieldsOf}
 use Rattle.host.specs.Written.{writtenOf}
+use Rattle.host.specs.Loaded.{loadedForOf}
 use Rattle.host.specs.Line.{commandOf}
 use Rattle.host.specs.Hosts.{hostPortCountOf}
 use Rattle.host.specs.Sending.{sentBy}
@@ -32,6 +35,7 @@ pub record Numbers : Type 0 where
   pub line : (x : Line) → commandOf x .refused ≡ lineNumber x
   pub verb-is : (x : Line) → commandOf x .verb ≡ verb x
   pub written : (x : Written) → (writtenOf x .length ≡ writtenBytes x) × (writtenOf x .refused ≡ writtenNumber x)
+  pub loaded-for : (x : LoadedFor) → (loadedForOf x .length ≡ loadedForLength x) × (loadedForOf x .refused ≡ loadedForNumber x)
   pub sent : (x : Written) (s : Sender) → (sentBy x s .length ≡ writtenBytes x) × (sentBy x s .refused ≡ writtenNumber x) × (sentBy x s .sender ≡ s)
   pub shown : (x : Screen) → shownBy x .refused ≡ screenNumber x
   -- each number of the screen line is handed on as it is, its word by the code

@@ -1,9 +1,11 @@
 // Which call each kind of request makes.
 use crate::calls;
 use crate::control;
+use crate::conversions;
 use crate::headers;
 use crate::ledgers;
 use crate::ledgers::Form;
+use crate::ledgers::Source;
 use crate::lent;
 use crate::sending;
 use crate::session;
@@ -11,7 +13,7 @@ use crate::session::Session;
 use crate::session::Turn;
 use octets::little;
 
-// Kinds 32 to 40, the readers and writers, which keep nothing for the next request: whether there is such a kind, and its body is
+// Kinds 32 to 43, the readers and writers, which keep nothing for the next request: whether there is such a kind, and its body is
 // well formed.
 fn read_or_write(kind: u64, body: &[u8]) -> bool {
     match kind {
@@ -26,10 +28,13 @@ fn read_or_write(kind: u64, body: &[u8]) -> bool {
         }
         35 => control::reply(body),
         36 => control::host_ports(body),
-        37 => ledgers::read(Form::Ranges, body),
+        37 => ledgers::read(Source::Ranges, body),
         38 => ledgers::write(Form::Ranges, body),
         39 => ledgers::write(Form::Saved, body),
-        40 => ledgers::read(Form::Saved, body),
+        40 => ledgers::read(Source::Saved, body),
+        41 => ledgers::read(Source::Sized, body),
+        42 => conversions::to_two(body),
+        43 => conversions::to_one(body),
         _ => false,
     }
 }

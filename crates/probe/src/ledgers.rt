@@ -1,4 +1,4 @@
-// Kinds 37 to 40: a ledger as text and as a saved record.
+// Kinds 37 to 41: a ledger as text and as a saved record.
 use crate::entries;
 use crate::fill;
 use crate::frame;
@@ -7,11 +7,19 @@ use crate::print;
 use answers::loaded::Loaded;
 use answers::written::Written;
 use rangelists::ranges;
+use savedledgers::loaded_for::LoadedFor;
 use savedledgers::saved;
 ghost use mathlib.Core.Path.{_≡_};
 ghost use lib.ListN.{length};
 
-// What a ledger is read from, or written as.
+// What a ledger is read from: a saved record is of kind 1, and with the file length of kind 2.
+pub enum Source {
+    Ranges,
+    Saved,
+    Sized,
+}
+
+// What a ledger is written as.
 pub enum Form {
     Ranges,
     Saved,
@@ -24,38 +32,41 @@ fn entry_space() -> [u64; 8200]
     [fill::ENTRY; 8200]
 }
 
-fn byte_space() -> [u8; 65535]
-    ensures { λ r. ⌜ 65535 ≡ length r ⌝ }
-{
-    [fill::BYTE; 65535]
-}
-
 // ---- reading
 
-fn load(form: Form, bytes: &[u8], ledger: &mut [u64]) -> Loaded {
-    match form {
-        Form::Ranges => ranges::read(bytes, ledger),
-        Form::Saved => saved::read(bytes, ledger),
-    }
-}
-
-fn print_loaded(form: Form) {
-    match form {
-        Form::Ranges => print::word(b"RANGES"),
-        Form::Saved => print::word(b"LOADED"),
-    }
-}
-
-fn read_into(form: Form, bytes: &[u8], ledger: &mut [u64]) {
-    let answer = load(form, bytes, ledger);
+fn print_loaded(text: &[u8], answer: Loaded) {
     match answer {
-        Loaded::Done => print_loaded(form),
+        Loaded::Done => print::word(text),
         Loaded::Refused(k) => print::refused(k),
     }
+}
+
+fn print_length(f: u64) {
+    print::word(b"LOADED2");
+    print::next(f);
+}
+
+fn print_loaded_for(answer: LoadedFor) {
+    match answer {
+        LoadedFor::Length(f) => print_length(f),
+        LoadedFor::Refused(k) => print::refused(k),
+    }
+}
+
+fn load(source: Source, bytes: &[u8], ledger: &mut [u64]) {
+    match source {
+        Source::Ranges => print_loaded(b"RANGES", ranges::read(bytes, ledger)),
+        Source::Saved => print_loaded(b"LOADED", saved::read(bytes, ledger)),
+        Source::Sized => print_loaded_for(saved::read_sized(bytes, ledger)),
+    }
+}
+
+fn read_into(source: Source, bytes: &[u8], ledger: &mut [u64]) {
+    load(source, bytes, ledger);
     print::last_used(ledger);
 }
 
-pub fn read(form: Form, body: &[u8]) -> bool {
+pub fn read(source: Source, body: &[u8]) -> bool {
     if body.len() < 2 {
         return false;
     }
@@ -65,7 +76,7 @@ pub fn read(form: Form, body: &[u8]) -> bool {
     if lent < asked as usize {
         return false;
     }
-    read_into(form, &body[2..], &mut space[..lent]);
+    read_into(source, &body[2..], &mut space[..lent]);
     true
 }
 
@@ -95,7 +106,7 @@ fn write_into(form: Form, ledger: &[u64], out: &mut [u8]) {
 }
 
 fn write_lent(form: Form, ledger: &[u64], lent: u16) {
-    let mut space = byte_space();
+    let mut space = fill::byte_space();
     let n = part::of_bytes(lent as u64, &space);
     write_into(form, ledger, &mut space[..n]);
 }

@@ -1,6 +1,7 @@
 // Makes the call that each request on standard input names, and prints a line for each, until the input ends or a request is malformed.
 mod calls;
 mod control;
+mod conversions;
 mod entries;
 mod fill;
 mod frame;

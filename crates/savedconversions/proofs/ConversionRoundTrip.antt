@@ -18,7 +18,7 @@ use Rattle.savedrecords.specs.declared.kind.Kind.{Kind}
 use Rattle.savedrecords.proofs.KindNumbers.{headLength-le}
 use Rattle.savedrecords.proofs.RecordPairs.{endsAtMost-more}
 use Rattle.savedrecords.proofs.RecordRefusal.{refusal-sound}
-use Rattle.savedrecords.proofs.RecordRoundTrip.{pairs-recordOf, refusal-recordOf, length-recordOf, record-same}
+use Rattle.savedrecords.proofs.RecordRoundTrip.{length-recordOf, record-same, record-round-trip}
 use Rattle.savedconversions.specs.Conversion.{convertRefusal, convert, convertAfter}
 use Rattle.savedconversions.proofs.ConversionNumber.{Sound, number-sound, number-0, part-length, part-few, converts-written}
 
@@ -43,13 +43,17 @@ module _ (from to : Kind) (f : ℕ) (bytes : List ℕ) (below : AllBelow 256 byt
   ends-largest : endsAtMost largest (savedPairs from bytes) ≡ true
   ends-largest = endsAtMost-more f largest 0 (savedPairs from bytes) ruled (omega arith) ends
 
-  pub pairs-kept : savedPairs to (recordOf to f (savedPairs from bytes)) ≡ savedPairs from bytes
-  pairs-kept = pairs-recordOf to f (savedPairs from bytes) ruled ends-largest
+  -- the record that is written is one, with the same pairs
+  kept : let other = recordOf to f (savedPairs from bytes) in (recordRefusal to other ≡ 0) × (savedPairs to other ≡ savedPairs from bytes)
+  kept =
+      record-round-trip .reads-what-was-written to f (savedPairs from bytes) (omega arith)
+      (omega (arith, part-few from bytes below right, part-length from bytes right, headLength-le to)) ruled ends-largest
 
   pub right-kept : recordRefusal to (recordOf to f (savedPairs from bytes)) ≡ 0
-  right-kept =
-      refusal-recordOf to f (savedPairs from bytes) ruled ends-largest fits
-      (omega (arith, part-few from bytes below right, part-length from bytes right, headLength-le to))
+  right-kept = kept .0
+
+  pub pairs-kept : savedPairs to (recordOf to f (savedPairs from bytes)) ≡ savedPairs from bytes
+  pairs-kept = kept .1
 
   -- converted back, by the same file length
   pub there-and-back : toLittleEndian 256 (headLength from) f ≡ take (headLength from) (bodyOf bytes) → (back : List ℕ) → length bytes ≤ length back

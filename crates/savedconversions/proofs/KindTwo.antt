@@ -17,22 +17,20 @@ use Rattle.ledger.specs.Pairs.{Pairs, none, size, ObeyFrom, obeyFrom, endsAtMos
 use Rattle.ledger.specs.Ledger.{largest, lengthWrong, capacity}
 use Rattle.savedrecords.specs.Kind.{kindOne, kindTwo}
 use Rattle.savedrecords.specs.Record.{pairsIn, pairBytes, pairPart, fileLengthOf, savedPairs, frameRefusal, bodyWrong, recordRefusal, lengthRefusal, recordOf}
-use Rattle.savedrecords.specs.RecordRows.{RightFrame, IsKind}
-use Rattle.savedrecords.specs.declared.kind.Kind.{Kind}
+use Rattle.savedrecords.specs.RecordCases.{RightFrame, IsKind, by-62}
 use Rattle.savedrecords.specs.declared.kind.Second.the-variants.{End, Length}
 use Rattle.savedrecords.proofs.RecordPairs.{endsAtMost-more, eight-lt, ends-at, rises-at}
-use Rattle.savedrecords.proofs.RecordFrame.{frame-sound}
-use Rattle.savedrecords.proofs.RecordRefusal.{refusal-sound}
-use Rattle.savedrecords.proofs.RecordRows.{record-rows}
+use Rattle.savedrecords.proofs.RecordCases.{exceeds-some, row-63, record-right, record-cases}
 use Rattle.savedrecords.proofs.RecordBytes.{record-bytes}
-use Rattle.savedrecords.proofs.RecordRoundTrip.{length-recordOf, pairs-recordOf, refusal-recordOf, length-back, head-same}
+use Rattle.savedrecords.proofs.RecordRoundTrip.{length-recordOf, head-same, record-round-trip}
 use Rattle.savedledgers.specs.Saved.{readRefusal, readAfter, readSaved, readSavedAfter, readSizedAfter}
-use Rattle.savedledgers.specs.SavedReading.{RightLength}
-use Rattle.savedledgers.proofs.SavedReading.{number-53, number-record, number-64, number-plain, number-sized, after-refused, right-length, saved-reading, saved-refused, saved-answers}
+use Rattle.savedledgers.specs.SavedReading.{RightLength, by-record, by-65 as Reading·by-65}
+use Rattle.savedledgers.proofs.SavedReading.{number-53, number-64, number-plain, number-sized, after-refused, saved-reading, saved-refused, saved-answers}
 use Rattle.savedconversions.specs.Conversion.{convertRefusal, convertAfter, toTwo, toTwoAfter, toOne, toOneAfter}
 use Rattle.savedconversions.specs.KindTwo.{kindIn, lengthIn, startAt, secondAt, KindTwo}
 use Rattle.savedconversions.proofs.ConversionNumber.{number-0, part-length, converts-written}
-use Rattle.savedconversions.proofs.ConversionRows.{record-refused, unchanged, conversion-rows}
+use Rattle.savedconversions.specs.ConversionCases.{by-65}
+use Rattle.savedconversions.proofs.ConversionCases.{conversion-cases}
 use Rattle.savedconversions.proofs.ConversionRoundTrip.{Converted, converted, there-and-back, right-kept, pairs-kept}
 
 -- ---- ends of 2^64 or more
@@ -52,7 +50,7 @@ module _ (bytes : List ℕ) (below : AllBelow 256 bytes) where
       let n : length part ≡ length (drop 14 bytes) = ap length (part-14 bytes) in
       let next = eight-lt (drop (16 * (k + 1)) part) (below-drop 256 (16 * (k + 1)) part part-below) in
       let second = drop-drop 8 (16 * k) part in
-      record-rows kindTwo bytes .wrong-body f i
+      row-63 kindTwo bytes f i
       (λ b. omega (arith, next, rw second at (rises-at Length (length part / 16) k 0 part (omega arith) (b .ruled))))
 
   end-last : (k : ℕ) → 16 * (k + 1) ≡ length (drop 14 bytes) → 18446744073709551616 ≤ startAt 8 k bytes + secondAt 8 k bytes
@@ -72,14 +70,9 @@ module _ (bytes : List ℕ) (below : AllBelow 256 bytes) where
 
 old-refuses : (bytes ledger : List ℕ) → RightLength ledger → RightFrame bytes → kindIn bytes ≡ 2 → (readSaved bytes ledger ≡ Refused 62) × (readSavedAfter bytes ledger ≡ ledger)
 old-refuses bytes ledger l f i =
-    let r = saved-reading kindOne bytes ledger .wrong-kind l f (λ e. omega (arith, i, e)) in
-    (saved-refused bytes ledger (omega (arith, r .number)) ∙ ap Refused (r .number), r .unchanged)
-
-right-frame : (kind : Kind) (bytes : List ℕ) → recordRefusal kind bytes ≡ 0 → RightFrame bytes × IsKind kind bytes
-unfolding lengthField kindOf
-right-frame kind bytes right =
-    let f = frame-sound (kind .number) bytes (refusal-sound kind bytes right .frame) in
-    (record { least = f .0; counted = omega (arith, f) }, f .2)
+    let r : readRefusal kindOne bytes ledger ≡ 62 =
+    sym (saved-reading kindOne bytes ledger .judged-only 62 (by-record 62 l (by-62 f (λ e. omega (arith, i, e))) (omega arith))) in
+    (saved-refused bytes ledger (omega arith) ∙ ap Refused r, after-refused kindOne bytes ledger (omega arith))
 
 -- ---- converted
 
@@ -93,7 +86,7 @@ module _ (f : ℕ) (bytes out : List ℕ) (n : ℕ) (whole : f ≤ 1844674407370
   unfolding toLittleEndian
   one-two-one back room =
       let c = converted kindOne kindTwo f bytes out n e in
-      rw (c .written, length-back kindTwo f (savedPairs kindOne bytes) refl (omega arith))
+      rw (c .written, record-round-trip .reads-the-length kindTwo f (savedPairs kindOne bytes) refl whole)
       (there-and-back kindOne kindTwo f bytes below (omega arith) (omega arith) (c .sound .right) (c .sound .ends) refl back room)
 
   two-is : twoOf f bytes out n ≡ recordOf kindTwo f (savedPairs kindOne bytes)
@@ -110,7 +103,7 @@ module _ (f : ℕ) (bytes out : List ℕ) (n : ℕ) (whole : f ≤ 1844674407370
       rw two-is (pairs-kept kindOne kindTwo f bytes below (omega arith) (omega arith) (c .sound .right) (c .sound .ends))
 
   two-length : fileLengthOf (twoOf f bytes out n) ≡ f
-  two-length = rw two-is (length-back kindTwo f (savedPairs kindOne bytes) refl (omega arith))
+  two-length = rw two-is (record-round-trip .reads-the-length kindTwo f (savedPairs kindOne bytes) refl whole)
 
   same-number : (ledger : List ℕ) → readRefusal kindTwo (twoOf f bytes out n) ledger ≡ readRefusal kindOne bytes ledger
   same-number ledger = go (lengthWrong ledger) refl
@@ -152,9 +145,9 @@ any-size : (f : ℕ) (ps : Pairs) (out : List ℕ) → size ps ≤ 268435455 →
 any-size f ps out few ruled whole ends room =
     let one = recordOf kindOne 0 ps in
     let most = endsAtMost-more f largest 0 ps ruled whole ends in
-    let right = refusal-recordOf kindOne 0 ps ruled most (omega arith) (omega arith) in
-    let same = pairs-recordOf kindOne 0 ps ruled most in
-    let z = number-0 kindOne kindTwo f one out right (rw same ends) (rw same (omega arith)) in
+    let kept = record-round-trip .reads-what-was-written kindOne 0 ps (omega arith) (omega arith) ruled most in
+    let same = kept .1 in
+    let z = number-0 kindOne kindTwo f one out (kept .0) (rw same ends) (rw same (omega arith)) in
     let n : length (recordOf kindTwo f (savedPairs kindOne one)) ≡ 14 + 16 * size ps = rw same (omega (arith, length-recordOf kindTwo f ps)) in
     sym (rw n at (converts-written kindOne kindTwo f one out z .0))
 
@@ -185,31 +178,27 @@ kind-two =
       holds = λ f ps. rw (body (16 * size ps)) at (record-bytes .all-bytes kindTwo f ps);
       start-and-length = record-bytes .next-length;
       start-and-end = record-bytes .next-end;
-      to-2 = conversion-rows kindOne kindTwo;
+      to-2 = conversion-cases kindOne kindTwo;
       reads-2 = saved-reading kindTwo;
       reads-2-number = λ bytes ledger. saved-answers bytes ledger .two-number;
       ends-whole = record-bytes .length-read;
       end-then-pair = λ bytes k below. end-then-pair bytes below k;
       end-last = λ bytes ledger out k below r h e.
-          let x = end-last bytes below k h e in
-          let n : length (drop 8 (drop 6 bytes)) / 16 ≡ k + 1 = omega (arith, ap length (part-14 bytes)) in
-          (λ l m. saved-reading kindTwo bytes ledger .end-beyond l r (omega (arith, n)) refl x .number, conversion-rows kindTwo kindOne (fileLengthOf bytes) bytes out .end-beyond r x);
-      short = λ bytes f i h. record-rows kindTwo bytes .wrong-body f i (λ b. omega (arith, h, b .head));
+          let x = exceeds-some (fileLengthOf bytes) (savedPairs kindTwo bytes) (end-last bytes below k h e) in
+          let n : length (drop 8 (drop 6 bytes)) / 16 ≡ k + 1 = omega (arith, ap length (part-14 bytes)) in (
+            λ l m. sym (saved-reading kindTwo bytes ledger .judged-only 65 (Reading·by-65 l r (λ t. omega (arith, n, m, t)) (refl, x))),
+            sym (conversion-cases kindTwo kindOne (fileLengthOf bytes) bytes out .judged-only 65 (by-65 r x)),
+          );
+      short = λ bytes f i h. row-63 kindTwo bytes f i (λ b. omega (arith, h, b .head));
       answers-length = λ bytes ledger z. saved-answers bytes ledger .two-read z .0;
-      other-kind = λ kind bytes. record-rows kind bytes .wrong-kind;
+      other-kind = λ kind bytes f n. sym (record-cases kind bytes .judged-only 62 (by-62 f n));
       expected = (refl, refl);
-      back = λ bytes. conversion-rows kindTwo kindOne (fileLengthOf bytes) bytes;
+      back = λ bytes. conversion-cases kindTwo kindOne (fileLengthOf bytes) bytes;
       drops-length = drops-length;
-      unchanged-reading = λ bytes ledger h. after-refused kindTwo bytes ledger (omega (arith, h, saved-answers bytes ledger .two-number));
-      unchanged-to-2 = unchanged kindOne kindTwo;
-      unchanged-back = λ bytes. unchanged kindTwo kindOne (fileLengthOf bytes) bytes;
-      zero-pair = λ kind bytes k f i h. record-rows kind bytes .zero-pair k f i (omega arith);
-      record-first = λ bytes ledger out f k h. (
-        λ e. record-refused kindOne kindTwo f bytes out k e h,
-        λ e. record-refused kindTwo kindOne (fileLengthOf bytes) bytes out k e h,
-        λ l e. saved-answers bytes ledger .one-number ∙ number-record kindOne bytes ledger (right-length ledger l) (omega arith) ∙ e,
-        λ l e. saved-answers bytes ledger .two-number ∙ number-record kindTwo bytes ledger (right-length ledger l) (omega arith) ∙ e,
-      );
+      unchanged-reading = λ bytes ledger k h e. after-refused kindTwo bytes ledger (omega (arith, h, e, saved-answers bytes ledger .two-number));
+      unchanged-to-2 = λ f bytes out k h e. conversion-cases kindOne kindTwo f bytes out .refuses (omega (arith, h, e)) .unchanged;
+      unchanged-back = λ bytes out k h e. conversion-cases kindTwo kindOne (fileLengthOf bytes) bytes out .refuses (omega (arith, h, e)) .unchanged;
+      zero-pair = λ kind bytes k f i h. record-cases kind bytes .zero-pair k f i h;
       one-two-one = λ f bytes out back n h below e. one-two-one f bytes out n h below e back;
       two-one-two = λ bytes out back n below e. two-one-two bytes out n below e back;
       reads-as-before = λ f bytes out ledger n h below e.
@@ -217,8 +206,8 @@ kind-two =
       any-size = any-size;
       old-refuses = old-refuses;
       old-refuses-converted = λ f bytes out ledger n h below e l.
-          let r = right-frame kindTwo (twoOf f bytes out n) (two-right f bytes out n h below e) in
-          old-refuses (twoOf f bytes out n) ledger l (r .0) (r .1) .0;
+          let r = record-right kindTwo (twoOf f bytes out n) (two-right f bytes out n h below e) in
+          old-refuses (twoOf f bytes out n) ledger l (r .frame) (r .is-kind) .0;
       empty = empty;
       first-ninety = first-ninety;
     }

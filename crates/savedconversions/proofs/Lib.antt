@@ -1,6 +1,7 @@
 mod Parts
 mod Pairs
 pub mod ConversionNumber
-pub mod ConversionRows
+pub mod ConversionCases
 pub mod ConversionRoundTrip
 pub mod KindTwo
+pub mod KindTwoCases

@@ -5,21 +5,20 @@ use mathlib.Core.Bool.{true}
 use mathlib.Core.List.{List, [], _∷_, _++_}
 use lib.ListN.{length, take, drop, replicate}
 use Rattle.octets.specs.Digits.{AllBelow, fromLittleEndian, toLittleEndian}
-use Rattle.answers.specs.Loaded.{loadedNumber}
-use Rattle.answers.specs.Written.{writtenNumber, Refuses}
+use Rattle.answers.specs.Written.{writtenNumber}
 use Rattle.answers.specs.declared.loaded.Loaded.the-variants.{Refused}
 use Rattle.answers.specs.declared.written.Written.the-variants.{Bytes}
 use Rattle.ledger.specs.Pairs.{Pairs, none, pair, size, ObeyFrom, endsAtMost}
 use Rattle.savedrecords.specs.Kind.{kindOne, kindTwo, headLength}
 use Rattle.savedrecords.specs.Record.{pairsIn, pairBytes, recordRefusal, recordOf}
-use Rattle.savedrecords.specs.RecordRows.{RightFrame, RightRecord}
+use Rattle.savedrecords.specs.RecordCases.{RightFrame, RightRecord}
 use Rattle.savedrecords.specs.declared.kind.Kind.{Kind}
 use Rattle.savedrecords.specs.declared.kind.Second.the-variants.{End, Length}
 use Rattle.savedledgers.specs.Saved.{readRefusal, readSaved, readSavedAfter, readSized, readSizedAfter, loadedForNumber}
 use Rattle.savedledgers.specs.SavedReading.{RightLength, SavedReading}
 use Rattle.savedledgers.specs.declared.loaded_for.LoadedFor.the-variants.{Length as FileLength}
 use Rattle.savedconversions.specs.Conversion.{toTwo, toTwoAfter, toOne, toOneAfter}
-use Rattle.savedconversions.specs.ConversionRows.{ConversionRows}
+use Rattle.savedconversions.specs.ConversionCases.{ConversionCases}
 
 -- what the frame says is its kind, and what a body of kind 2 begins with
 abbrev pub kindIn : List ℕ → ℕ
@@ -44,7 +43,7 @@ pub record KindTwo : Type 0 where
   -- in place of start and end.
   pub start-and-end : (a b : ℕ) (ps : Pairs) → pairBytes End (pair a b ps) ≡ toLittleEndian 256 8 a ++ (toLittleEndian 256 8 b ++ pairBytes End ps)
   -- Convert kind 1 to kind 2, given the file length, refusing with 61, 62, 63, then 65 if an end exceeds it, then 55.
-  pub to-2 : (f : ℕ) (bytes out : List ℕ) → ConversionRows kindOne kindTwo f bytes out (toTwo f bytes out) (toTwoAfter f bytes out)
+  pub to-2 : (f : ℕ) (bytes out : List ℕ) → ConversionCases kindOne kindTwo f bytes out (toTwo f bytes out) (toTwoAfter f bytes out)
   -- Reading kind 2 gives 65 likewise, after 64;
   pub reads-2 : (bytes ledger : List ℕ) → SavedReading kindTwo bytes ledger
   pub reads-2-number : (bytes ledger : List ℕ) → loadedForNumber (readSized bytes ledger) ≡ readRefusal kindTwo bytes ledger
@@ -57,7 +56,7 @@ pub record KindTwo : Type 0 where
   -- and 65 else, in the reader where the ledger has pairs enough
   pub end-last : (bytes ledger out : List ℕ) (k : ℕ) → AllBelow 256 bytes → RightRecord kindTwo bytes → 16 * (k + 1) ≡ length (drop 14 bytes)
       → 18446744073709551616 ≤ startAt 8 k bytes + secondAt 8 k bytes
-      → (RightLength ledger → k < length ledger / 2 → readRefusal kindTwo bytes ledger ≡ 65) × Refuses (toOne bytes out) (toOneAfter bytes out) out 65
+      → (RightLength ledger → k < length ledger / 2 → readRefusal kindTwo bytes ledger ≡ 65) × (writtenNumber (toOne bytes out) ≡ 65)
   -- a body under 8 bytes is 63,
   pub short : (bytes : List ℕ) → RightFrame bytes → kindIn bytes ≡ 2 → length (drop 6 bytes) < 8 → recordRefusal kindTwo bytes ≡ 63
   -- and it answers the file length too.
@@ -66,22 +65,16 @@ pub record KindTwo : Type 0 where
   pub other-kind : (kind : Kind) (bytes : List ℕ) → RightFrame bytes → (kindIn bytes ≡ kind .number → ⊥) → recordRefusal kind bytes ≡ 62
   pub expected : (kindOne .number ≡ 1) × (kindTwo .number ≡ 2)
   -- Convert back by dropping the length, refusing with 61, 62, 63, 65 and 55 in that order.
-  pub back : (bytes out : List ℕ) → ConversionRows kindTwo kindOne (lengthIn bytes) bytes out (toOne bytes out) (toOneAfter bytes out)
+  pub back : (bytes out : List ℕ) → ConversionCases kindTwo kindOne (lengthIn bytes) bytes out (toOne bytes out) (toOneAfter bytes out)
   pub drops-length : (f : ℕ) (ps : Pairs) → recordOf kindOne f ps ≡ toLittleEndian 256 4 (2 + 16 * size ps) ++ (toLittleEndian 256 2 1 ++ pairBytes End ps)
   -- 65 leaves everything unchanged, as every refusal does;
-  pub unchanged-reading : (bytes ledger : List ℕ) → 0 < loadedForNumber (readSized bytes ledger) → readSizedAfter bytes ledger ≡ ledger
-  pub unchanged-to-2 : (f : ℕ) (bytes out : List ℕ) → 0 < writtenNumber (toTwo f bytes out) → toTwoAfter f bytes out ≡ out
-  pub unchanged-back : (bytes out : List ℕ) → 0 < writtenNumber (toOne bytes out) → toOneAfter bytes out ≡ out
+  pub unchanged-reading : (bytes ledger : List ℕ) (k : ℕ) → 0 < k → loadedForNumber (readSized bytes ledger) ≡ k → readSizedAfter bytes ledger ≡ ledger
+  pub unchanged-to-2 : (f : ℕ) (bytes out : List ℕ) (k : ℕ) → 0 < k → writtenNumber (toTwo f bytes out) ≡ k → toTwoAfter f bytes out ≡ out
+  pub unchanged-back : (bytes out : List ℕ) (k : ℕ) → 0 < k → writtenNumber (toOne bytes out) ≡ k → toOneAfter bytes out ≡ out
   -- a zero pair in either body is 63.
   pub zero-pair : (kind : Kind) (bytes : List ℕ) (k : ℕ) → RightFrame bytes → kindIn bytes ≡ kind .number
       → 16 * (k + 1) ≤ length (drop (headLength kind) (drop 6 bytes)) → startAt (headLength kind) k bytes ≡ 0 → secondAt (headLength kind) k bytes ≡ 0
       → recordRefusal kind bytes ≡ 63
-  -- what is wrong with the record itself is said first: by the conversions, and by the readers after 53
-  pub record-first : (bytes ledger out : List ℕ) (f k : ℕ) → 0 < k
-      → (recordRefusal kindOne bytes ≡ k → Refuses (toTwo f bytes out) (toTwoAfter f bytes out) out k)
-      × (recordRefusal kindTwo bytes ≡ k → Refuses (toOne bytes out) (toOneAfter bytes out) out k)
-      × (RightLength ledger → recordRefusal kindOne bytes ≡ k → loadedNumber (readSaved bytes ledger) ≡ k)
-      × (RightLength ledger → recordRefusal kindTwo bytes ≡ k → loadedForNumber (readSized bytes ledger) ≡ k)
   -- Kind 1 to 2 to 1 gives the same bytes;
   pub one-two-one : (f : ℕ) (bytes out back : List ℕ) (n : ℕ) → f ≤ 18446744073709551615 → AllBelow 256 bytes → toTwo f bytes out ≡ Bytes n → length bytes ≤ length back
       → let two = take n (toTwoAfter f bytes out) in

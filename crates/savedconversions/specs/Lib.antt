@@ -1,3 +1,4 @@
 pub mod Conversion
-pub mod ConversionRows
+pub mod ConversionCases
 pub mod KindTwo
+pub mod KindTwoCases

@@ -1,10 +1,10 @@
 -- What the readers of saved ledgers answer and leave, case by case: `SavedReading` and `SavedAnswers` hold.
 use Prim.Native.Nat.{ℕ, _-_, _/_, _≤_, _<_}
 use mathlib.Core.Path.{_≡_, refl, sym, ap, _∙_}
-use mathlib.Core.Bool.{Bool, true, false, cond}
+use mathlib.Core.Bool.{Bool, true, false, cond, true≢false}
 use mathlib.Core.List.{List}
 use native.Mathlib.Omega.{arith}
-use native.Mathlib.Decide.{decLe, ℕ-discrete}
+use native.Mathlib.Decide.{decLe, decLt, ℕ-discrete}
 use borrow.Author.Tests.{lt-ltb, le-ltb}
 use lib.Dec.{ltb}
 use lib.ListN.{length}
@@ -24,9 +24,10 @@ use Rattle.savedrecords.specs.declared.kind.Second.{Second}
 use Rattle.savedrecords.specs.declared.kind.Second.the-variants.{End as Second·End, Length as Second·Length}
 use Rattle.savedrecords.proofs.RecordPairs.{size-pairsIn, endsAtMost-more, eight-lt, ends-fit}
 use Rattle.savedrecords.proofs.RecordRefusal.{refusal-sound}
-use Rattle.savedrecords.proofs.RecordRows.{record-rows}
+use Rattle.savedrecords.specs.RecordCases.{RightRecord}
+use Rattle.savedrecords.proofs.RecordCases.{exceeds-not, exceeds-some, exceeds-none, right-record, record-right, record-cases}
 use Rattle.savedledgers.specs.Saved.{readRefusal, readAfter, readSaved, readSized, loadedForNumber, loadedForLength}
-use Rattle.savedledgers.specs.SavedReading.{Refuses, Reads, RightLength, SavedReading, SavedAnswers}
+use Rattle.savedledgers.specs.SavedReading.{RightLength, TooMany, Beyond, ReadingJudged, by-53, by-record, by-64, by-65, is-read, Reads, SavedReading, SavedAnswers}
 use Rattle.savedledgers.specs.declared.loaded_for.LoadedFor.the-variants.{Length, Refused as NotLoaded}
 
 module _ (kind : Kind) (bytes ledger : List ℕ) where
@@ -127,7 +128,7 @@ ends-fit-entries kind bytes ledger below sized s = go (kind .second) refl
         endsAtMost-more (fileLengthOf bytes) largest 0 (savedPairs kind bytes) (refusal-sound kind bytes (s .right) .ruled) (omega (arith, eight-lt (bodyOf bytes) body))
         (s .ends (sized e))
 
--- ---- the rows
+-- ---- the cases
 
 pub right-length : (ledger : List ℕ) → RightLength ledger → lengthWrong ledger ≡ false
 right-length ledger l = length-right ledger (l .even) (l .most)
@@ -140,26 +141,61 @@ wrong-length ledger n = go (lengthWrong ledger) refl
     go false e = let f = length-fits ledger e in absurd (n (record { even = f .0; most = f .1 }))
 
 module _ (kind : Kind) (bytes ledger : List ℕ) where
-  refuses : (k : ℕ) → readRefusal kind bytes ledger ≡ k → 0 < k → Refuses kind bytes ledger k
-  refuses k e h = record { number = e; unchanged = after-refused kind bytes ledger (omega arith) }
-
   pub reads : readRefusal kind bytes ledger ≡ 0 → Reads kind bytes ledger (savedPairs kind bytes)
   reads e = record { number = e; after = after-read kind bytes ledger e }
 
-  record-refuses : (k : ℕ) → RightLength ledger → recordRefusal kind bytes ≡ k → 0 < k → Refuses kind bytes ledger k
-  record-refuses k l e h = refuses k (number-record kind bytes ledger (right-length ledger l) (omega arith) ∙ e) h
+  not-beyond : (Beyond kind bytes → ⊥) → kind .sized ≡ true → endsAtMost (fileLengthOf bytes) (savedPairs kind bytes) ≡ true
+  not-beyond n s = exceeds-none (fileLengthOf bytes) (savedPairs kind bytes) (λ x. n (s, x))
+
+  beyond-65 : lengthWrong ledger ≡ false → recordRefusal kind bytes ≡ 0 → (TooMany kind bytes ledger → ⊥) → Beyond kind bytes → readRefusal kind bytes ledger ≡ 65
+  beyond-65 l r m b = number-65 kind bytes ledger l r (omega arith) (b .0) (go (endsAtMost (fileLengthOf bytes) (savedPairs kind bytes)) refl)
+    where
+      go : (t : Bool) → endsAtMost (fileLengthOf bytes) (savedPairs kind bytes) ≡ t → t ≡ false
+      go true e = absurd (exceeds-not (fileLengthOf bytes) (savedPairs kind bytes) e (b .1))
+      go false e = refl
+
+  judged-only : (k : ℕ) → ReadingJudged kind bytes ledger k → k ≡ readRefusal kind bytes ledger
+  judged-only k (by-53 n) = sym (number-53 kind bytes ledger (wrong-length ledger n))
+  judged-only k (by-record k₁ l j h) =
+      let e = record-cases kind bytes .judged-only k j in
+      e ∙ sym (number-record kind bytes ledger (right-length ledger l) (omega (arith, e, h)))
+  judged-only k (by-64 l r m) = sym (number-64 kind bytes ledger (right-length ledger l) (right-record kind bytes r) m)
+  judged-only k (by-65 l r m b) = sym (beyond-65 (right-length ledger l) (right-record kind bytes r) m b)
+  judged-only k (is-read l r m b) = sym (number-0 kind bytes ledger (right-length ledger l) (right-record kind bytes r) (omega arith) (not-beyond b))
+
+  judged-is : ReadingJudged kind bytes ledger (readRefusal kind bytes ledger)
+  judged-is = go (lengthWrong ledger) refl
+    where
+      go₄ : RightLength ledger → RightRecord kind bytes → (TooMany kind bytes ledger → ⊥) → (t : Bool) → kind .sized ≡ t
+          → (u : Bool) → endsAtMost (fileLengthOf bytes) (savedPairs kind bytes) ≡ u → ReadingJudged kind bytes ledger (readRefusal kind bytes ledger)
+      go₄ l r m true s false e =
+          let b : Beyond kind bytes = (s, exceeds-some (fileLengthOf bytes) (savedPairs kind bytes) e) in
+          rw (beyond-65 (right-length ledger l) (right-record kind bytes r) m b) (by-65 l r m b)
+      go₄ l r m true s true e =
+          let b : Beyond kind bytes → ⊥ = λ x. exceeds-not (fileLengthOf bytes) (savedPairs kind bytes) e (x .1) in
+          rw (number-0 kind bytes ledger (right-length ledger l) (right-record kind bytes r) (omega arith) (not-beyond b)) (is-read l r m b)
+      go₄ l r m false s u e =
+          let b : Beyond kind bytes → ⊥ = λ x. true≢false (sym (x .0) ∙ s) in
+          rw (number-0 kind bytes ledger (right-length ledger l) (right-record kind bytes r) (omega arith) (not-beyond b)) (is-read l r m b)
+
+      go₃ : RightLength ledger → RightRecord kind bytes → Dec (TooMany kind bytes ledger) → ReadingJudged kind bytes ledger (readRefusal kind bytes ledger)
+      go₃ l r (yes m) = rw (number-64 kind bytes ledger (right-length ledger l) (right-record kind bytes r) m) (by-64 l r m)
+      go₃ l r (no m) = go₄ l r m (kind .sized) refl (endsAtMost (fileLengthOf bytes) (savedPairs kind bytes)) refl
+
+      go₂ : RightLength ledger → Dec (recordRefusal kind bytes ≡ 0) → ReadingJudged kind bytes ledger (readRefusal kind bytes ledger)
+      go₂ l (yes z) = go₃ l (record-right kind bytes z) (decLt (length ledger / 2) (length (pairPart kind bytes) / 16))
+      go₂ l (no n) =
+          rw (number-record kind bytes ledger (right-length ledger l) (omega arith))
+          (by-record (recordRefusal kind bytes) l (record-cases kind bytes .judged-is) (omega arith))
+
+      go : (t : Bool) → lengthWrong ledger ≡ t → ReadingJudged kind bytes ledger (readRefusal kind bytes ledger)
+      go true e = rw (number-53 kind bytes ledger e) (by-53 (λ l. true≢false (sym e ∙ right-length ledger l)))
+      go false e =
+          let f = length-fits ledger e in
+          go₂ (record { even = f .0; most = f .1 }) (ℕ-discrete (recordRefusal kind bytes) 0)
 
   pub saved-reading : SavedReading kind bytes ledger
-  saved-reading =
-      record {
-        wrong-length = λ n. refuses 53 (number-53 kind bytes ledger (wrong-length ledger n)) (omega arith);
-        wrong-frame = λ l n. record-refuses 61 l (record-rows kind bytes .wrong-frame n) (omega arith);
-        wrong-kind = λ l f n. record-refuses 62 l (record-rows kind bytes .wrong-kind f n) (omega arith);
-        wrong-body = λ l f k n. record-refuses 63 l (record-rows kind bytes .wrong-body f k n) (omega arith);
-        too-many-pairs = λ l r h. refuses 64 (number-64 kind bytes ledger (right-length ledger l) (record-rows kind bytes .right r) h) (omega arith);
-        end-beyond = λ l r h s e. refuses 65 (number-65 kind bytes ledger (right-length ledger l) (record-rows kind bytes .right r) h s e) (omega arith);
-        read = λ l r h e. reads (number-0 kind bytes ledger (right-length ledger l) (record-rows kind bytes .right r) h e);
-      }
+  saved-reading = record { judged-is = judged-is; judged-only = judged-only; unchanged = after-refused kind bytes ledger; reads = reads }
 
 -- ---- the answers
 

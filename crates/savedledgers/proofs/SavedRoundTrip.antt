@@ -19,7 +19,7 @@ use Rattle.savedrecords.specs.Kind.{kindOne}
 use Rattle.savedrecords.specs.Record.{pairPart, pairBytes, savedPairs, recordOf}
 use Rattle.savedrecords.proofs.RecordPairs.{size-pairsIn}
 use Rattle.savedrecords.proofs.RecordRefusal.{refusal-sound}
-use Rattle.savedrecords.proofs.RecordRoundTrip.{pairs-recordOf, refusal-recordOf, size-recordOf, record-same}
+use Rattle.savedrecords.proofs.RecordRoundTrip.{size-recordOf, record-same, record-round-trip}
 use Rattle.savedledgers.specs.Saved.{readRefusal, readSaved, readSavedAfter, savedOf, writeSaved, writeSavedAfter}
 use Rattle.savedledgers.specs.SavedReading.{Reads}
 use Rattle.savedledgers.specs.SavedRoundTrip.{WritesBack, SavedRoundTrip}
@@ -33,9 +33,9 @@ pairs-back : (ps : Pairs) → ObeyFrom 0 ps → endsAtMost largest ps ≡ true �
 unfolding savedOf
 pairs-back ps ruled ends m lengths few room =
     let h = savedOf ps in
-    let right = refusal-recordOf kindOne 0 ps ruled ends (omega arith) (omega arith) in
+    let kept = record-round-trip .reads-what-was-written kindOne 0 ps (omega arith) (omega arith) ruled ends in
     let n = size-recordOf kindOne 0 ps in
-    rw (pairs-recordOf kindOne 0 ps ruled ends) at (reads kindOne h m (number-plain kindOne h m lengths right (omega (arith, n)) refl))
+    rw (kept .1) at (reads kindOne h m (number-plain kindOne h m lengths (kept .0) (omega (arith, n)) refl))
 
 module _ (l out m : List ℕ) (n : ℕ) (e : writeSaved l out ≡ Bytes n) (ends : endsAtMost largest (pairsOf l) ≡ true) where
   reads-saved : lengthWrong m ≡ false → size (pairsOf l) ≤ capacity m → Reads kindOne (take n (writeSavedAfter l out)) m (pairsOf l)

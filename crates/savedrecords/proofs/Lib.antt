@@ -3,6 +3,6 @@ pub mod Rest
 pub mod RecordPairs
 pub mod RecordFrame
 pub mod RecordRefusal
-pub mod RecordRows
+pub mod RecordCases
 pub mod RecordBytes
 pub mod RecordRoundTrip

@@ -1,5 +1,5 @@
 pub mod Kind
 pub mod Record
-pub mod RecordRows
+pub mod RecordCases
 pub mod RecordBytes
 pub mod RecordRoundTrip

@@ -169,6 +169,14 @@ pub struct Found {
     pub found: u8,
 }
 
+#[repr(C)]
+#[derive(Clone, Copy, Debug, PartialEq, Eq)]
+pub struct LoadedFor {
+    /// The length of the file that the ledger is for.
+    pub length: u64,
+    pub refused: u8,
+}
+
 extern "C" {
     /// A fresh transfer for a file of `len` bytes; zeroes both ledgers.
     pub fn cob2_start(
@@ -268,6 +276,28 @@ extern "C" {
     pub fn cob_saved_write(
         ledger: *const u64,
         ledger_len: usize,
+        out: *mut u8,
+        out_len: usize,
+    ) -> Written;
+    /// Reads a saved ledger of kind 2, which says how long the file is.
+    pub fn cob_saved2_read(
+        bytes: *const u8,
+        bytes_len: usize,
+        ledger: *mut u64,
+        ledger_len: usize,
+    ) -> LoadedFor;
+    /// From kind 1 to kind 2, for a file of this length.
+    pub fn cob_saved_to_2(
+        file_length: u64,
+        bytes: *const u8,
+        bytes_len: usize,
+        out: *mut u8,
+        out_len: usize,
+    ) -> Written;
+    /// From kind 2 to kind 1.
+    pub fn cob_saved_to_1(
+        bytes: *const u8,
+        bytes_len: usize,
         out: *mut u8,
         out_len: usize,
     ) -> Written;

@@ -26,6 +26,8 @@ mod library;
 mod random;
 #[path = "compare/rounds.rs"]
 mod rounds;
+#[path = "compare/saved_cases.rs"]
+mod saved_cases;
 #[path = "compare/seen.rs"]
 mod seen;
 #[path = "compare/senders.rs"]
@@ -46,7 +48,7 @@ const ROUNDS: u64 = 400;
 type Kind = fn(&Random, &mut Seen);
 
 /// Each with how often a round does it.
-const KINDS: [(Kind, usize); 15] = [
+const KINDS: [(Kind, usize); 17] = [
     (sessions::one, 2),
     (sessions::few_pairs, 2),
     (sessions::cached, 1),
@@ -59,7 +61,9 @@ const KINDS: [(Kind, usize); 15] = [
     (forms::range_texts, 20),
     (forms::range_writing, 10),
     (forms::saving, 10),
-    (forms::saved_records, 20),
+    (forms::saved_records, 40),
+    (forms::conversions, 20),
+    (saved_cases::each, 1),
     (senders::calls, 10),
     (deliveries::one, 2),
 ];

@@ -26,6 +26,7 @@ fn sizes_and_offsets() {
     layout!(Reply, 2, digit 0, refused 1);
     layout!(List, 16, count 0, refused 8);
     layout!(Found, 24, value 0, next 8, found 16);
+    layout!(LoadedFor, 16, length 0, refused 8);
     assert_eq!(align_of::<Transfer>(), 8);
     assert_eq!(align_of::<Sender>(), 8);
 }

@@ -177,6 +177,39 @@ fn ledgers() {
     assert_eq!(number(saved::read(&bytes, &mut [])), 64);
 }
 
+/// Bytes 0 to 89 of a file of 100, as both kinds.
+#[test]
+fn saved_kinds() {
+    let one = saved::write(&[0, 90]).unwrap();
+    let two = saved::to_kind_2(100, &one).unwrap();
+    assert_eq!(
+        two,
+        b"\x1a\0\0\0\x02\0\x64\0\0\0\0\0\0\0\0\0\0\0\0\0\0\0\x5a\0\0\0\0\0\0\0"
+    );
+    assert_eq!(saved::to_kind_1(&two).unwrap(), one);
+
+    let mut ledger = [7; 4];
+    assert_eq!(number(saved::read(&two, &mut ledger)), 62);
+    assert_eq!(ledger, [7; 4]);
+    assert_eq!(saved::read_sized(&two, &mut ledger).unwrap(), 100);
+    assert_eq!(ledger, [0, 90, 0, 0]);
+
+    assert_eq!(number(saved::read_sized(&two, &mut [0; 3])), 53);
+    assert_eq!(number(saved::read_sized(&two[..5], &mut ledger)), 61);
+    assert_eq!(number(saved::read_sized(&one, &mut ledger)), 62);
+    assert_eq!(number(saved::read_sized(b"\x02\0\0\0\x02\0", &mut ledger)), 63);
+    assert_eq!(number(saved::read_sized(&two, &mut [])), 64);
+    let mut short = two.clone();
+    short[6] = 89;
+    assert_eq!(number(saved::read_sized(&short, &mut ledger)), 65);
+    assert_eq!(number(saved::to_kind_1(&short)), 65);
+    assert_eq!(number(saved::to_kind_2(89, &one)), 65);
+    assert_eq!(number(saved::to_kind_2(100, &two)), 62);
+    assert_eq!(number(saved::to_kind_1(&one)), 62);
+    assert_eq!(number(saved::to_kind_1(&[])), 61);
+    assert_eq!(ledger, [0, 90, 0, 0]);
+}
+
 /// The longest text and the longest saved bytes that a ledger can have.
 #[test]
 fn full_ledgers() {

@@ -1,5 +1,6 @@
-//! The examples of document 01, and of document 02's Item 4, held by the second reading alone.
+//! The examples of document 01, and cases of document 02's Items 4 and 7, held by the second reading alone.
 
+use super::forms::whole;
 use super::second::block::{self, Header};
 use super::second::receiver::{Transfer, Verdict};
 use super::second::replay::{malformed, replay, so_far, Malformed};
@@ -186,6 +187,60 @@ fn saved_ledgers() {
         let mut loaded = [7; 2];
         assert_eq!(saved::read(record, &mut loaded), Ok(()));
         assert_eq!(loaded, ledger);
+    }
+}
+
+/// No pair and a file without bytes; bytes 0 to 89 of a file of 100.
+#[test]
+fn saved_ledgers_of_kind_2() {
+    let cases: [(u64, &[u64], &[u8]); 2] = [
+        (0, &[0, 0], &[10, 0, 0, 0, 2, 0, 0, 0, 0, 0, 0, 0, 0, 0]),
+        (
+            100,
+            &[0, 90],
+            &[
+                26, 0, 0, 0, 2, 0, 100, 0, 0, 0, 0, 0, 0, 0, 0, 0, 0, 0, 0, 0, 0, 0, 90, 0, 0, 0,
+                0, 0, 0, 0,
+            ],
+        ),
+    ];
+    for (file_length, ledger, record) in cases {
+        let mut loaded = [7; 2];
+        assert_eq!(saved::read_two(record, &mut loaded), Ok(file_length));
+        assert_eq!(loaded, ledger);
+        let mut one = vec![0; record.len() - 8];
+        assert_eq!(saved::write(ledger, &mut one), Ok(one.len()));
+        let mut two = vec![0; record.len()];
+        assert_eq!(saved::to_two(file_length, &one, &mut two), Ok(two.len()));
+        assert_eq!(two, record);
+        let mut back = vec![0; one.len()];
+        assert_eq!(saved::to_one(record, &mut back), Ok(back.len()));
+        assert_eq!(back, one);
+    }
+}
+
+/// Bodies of kind 2, the file length and then starts and lengths, read into a ledger of two pairs. 0 is accepted.
+#[test]
+fn refusals_of_kind_2() {
+    let cases: [(&[u64], u64); 10] = [
+        (&[100, 0, 40, 50, 50], 0),
+        (&[100, 0, 40, 50, 51], 65),
+        (&[u64::MAX, 1, u64::MAX - 1], 0),
+        (&[u64::MAX, 1, u64::MAX], 65),
+        (&[u64::MAX, 1, u64::MAX, 5, 1], 63),
+        (&[100, 0, 40, 40, 10], 63),
+        (&[100, 0, 40, 50, 0], 63),
+        (&[100, 0, 0], 63),
+        (&[], 63),
+        (&[4, 0, 1, 2, 1, 4, 1], 64),
+    ];
+    for (numbers, refused) in cases {
+        let body = numbers.iter().flat_map(|number| number.to_le_bytes());
+        let record = whole(2, &body.collect::<Vec<u8>>());
+        let mut ledger = [7; 4];
+        let answer = saved::read_two(&record, &mut ledger);
+        assert_eq!(answer.err().unwrap_or(0), refused, "{numbers:?}");
+        assert_eq!(answer.is_err(), ledger == [7; 4]);
     }
 }
 

@@ -293,3 +293,33 @@ pub fn saved_write(ledger: &[u64], out: &mut [u8]) -> Answer<usize> {
         raw::cob_saved_write(ledger.as_ptr(), ledger.len(), out.as_mut_ptr(), out.len())
     })
 }
+
+pub fn saved2_read(record: &[u8], ledger: &mut [u64]) -> Answer<u64> {
+    let loaded = unsafe {
+        raw::cob_saved2_read(
+            record.as_ptr(),
+            record.len(),
+            ledger.as_mut_ptr(),
+            ledger.len(),
+        )
+    };
+    unless(loaded.refused, loaded.length)
+}
+
+pub fn saved_to_2(file_length: u64, record: &[u8], out: &mut [u8]) -> Answer<usize> {
+    written(unsafe {
+        raw::cob_saved_to_2(
+            file_length,
+            record.as_ptr(),
+            record.len(),
+            out.as_mut_ptr(),
+            out.len(),
+        )
+    })
+}
+
+pub fn saved_to_1(record: &[u8], out: &mut [u8]) -> Answer<usize> {
+    written(unsafe {
+        raw::cob_saved_to_1(record.as_ptr(), record.len(), out.as_mut_ptr(), out.len())
+    })
+}

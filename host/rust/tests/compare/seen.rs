@@ -8,7 +8,7 @@ use std::collections::BTreeMap;
 type Table = [(&'static str, &'static [u64])];
 
 /// 0 is an answer without refusal. Faults and descriptors are counted by their numbers, words by the header's.
-pub const ENTRIES: [(&str, &[u64]); 29] = [
+pub const ENTRIES: [(&str, &[u64]); 43] = [
     ("start", &[0, 5]),
     ("unequal start", &[5]),
     ("receive", &[0, 1, 2, 3, 4]),
@@ -39,6 +39,23 @@ pub const ENTRIES: [(&str, &[u64]); 29] = [
     ("ranges write", &[0, 1, 53, 54, 55]),
     ("saved read", &[0, 53, 61, 62, 63, 64]),
     ("saved write", &[0, 1, 53, 55]),
+    ("saved 2 read", &[0, 53, 61, 62, 63, 64, 65]),
+    ("saved to 2", &[0, 55, 61, 62, 63, 65]),
+    ("saved to 1", &[0, 55, 61, 62, 63, 65]),
+    // Records made for one case, read and converted.
+    ("zero pair in 1", &[63]),
+    ("zero pair in 2", &[63]),
+    ("body under 8", &[63]),
+    ("2^64 last", &[65]),
+    ("2^64 not last", &[63]),
+    ("end at length", &[0]),
+    ("end above it", &[65]),
+    ("2 read as 1", &[62]),
+    ("1 read as 2", &[62]),
+    // Read, where 65 is due too.
+    ("64 over 65", &[64]),
+    // Pairs, converted.
+    ("over 4,096", &[0]),
     ("sender begin", &[0, 71]),
     ("sender next", &[0, 55, 71, 73, 74]),
     ("sent block", &[0, 8, 72]),
@@ -53,12 +70,27 @@ pub const LENGTH: u64 = 1;
 pub const RULE: u64 = 2;
 pub const OUTSIDE: u64 = 3;
 
+/// 0 where the answer is no refusal.
+fn number<T>(answer: &Answer<T>) -> u64 {
+    answer.as_ref().err().copied().unwrap_or(0)
+}
+
 #[derive(Default)]
 pub struct Seen(BTreeMap<(&'static str, u64), u64>);
 
 impl Seen {
     pub fn note<T>(&mut self, entry: &'static str, answer: &Answer<T>) {
-        self.note_number(entry, answer.as_ref().err().copied().unwrap_or(0));
+        self.note_number(entry, number(answer));
+    }
+
+    /// Of a case that may give no other numbers than the table has for it.
+    pub fn note_case<T>(&mut self, case: &'static str, answers: &[Answer<T>]) {
+        let (_, numbers) = ENTRIES.iter().find(|(entry, _)| *entry == case).unwrap();
+        for answer in answers {
+            let number = number(answer);
+            assert!(numbers.contains(&number), "{case}: {number}");
+            self.note_number(case, number);
+        }
     }
 
     pub fn note_number(&mut self, entry: &'static str, number: u64) {

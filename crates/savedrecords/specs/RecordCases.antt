@@ -1,10 +1,11 @@
--- Whether bytes are a saved ledger of a kind, row by row, for every kind (documents 01 and 02: 61, 62, 63, then 0).
-use Prim.Native.Nat.{ℕ, _+_, _*_, _%_, _≤_}
+-- Whether bytes are a saved ledger of a kind, case by case, for every kind (documents 01 and 02: 61, 62, 63).
+use Prim.Native.Nat.{ℕ, _+_, _*_, _%_, _≤_, _<_}
 use mathlib.Core.Path.{_≡_}
+use mathlib.Core.Logic.{_⊎_}
 use mathlib.Core.List.{List}
 use lib.ListN.{length, take, drop}
 use Rattle.octets.specs.Digits.{fromLittleEndian}
-use Rattle.ledger.specs.Pairs.{ObeyFrom}
+use Rattle.ledger.specs.Pairs.{Pairs, none, pair, ObeyFrom}
 use Rattle.savedrecords.specs.Kind.{headLength}
 use Rattle.savedrecords.specs.Record.{savedPairs, recordRefusal}
 use Rattle.savedrecords.specs.declared.kind.Kind.{Kind}
@@ -30,17 +31,27 @@ pub record RightRecord (kind : Kind) (bytes : List ℕ) : Type 0 where
   pub is-kind : IsKind kind bytes
   pub body : RightBody kind bytes
 
-pub record RecordRows (kind : Kind) (bytes : List ℕ) : Type 0 where
-  -- 61: fewer than six bytes, or a length field that is wrong
-  pub wrong-frame : (RightFrame bytes → ⊥) → recordRefusal kind bytes ≡ 61
-  -- 62: a kind other than the one expected
-  pub wrong-kind : RightFrame bytes → (IsKind kind bytes → ⊥) → recordRefusal kind bytes ≡ 62
-  -- 63: the file length is not whole, the pairs are not whole, or they break the ledger rule
-  pub wrong-body : RightFrame bytes → IsKind kind bytes → (RightBody kind bytes → ⊥) → recordRefusal kind bytes ≡ 63
-  -- 0
-  pub right : RightRecord kind bytes → recordRefusal kind bytes ≡ 0
+-- the number of the record, with its exact condition; the conditions carry the order
+pub data RecordJudged (kind : Kind) (bytes : List ℕ) : ℕ → Type 0 where
+  -- fewer than six bytes, or a length field that is wrong
+  by-61 : (RightFrame bytes → ⊥) → RecordJudged kind bytes 61
+  -- a kind other than the one expected
+  by-62 : RightFrame bytes → (IsKind kind bytes → ⊥) → RecordJudged kind bytes 62
+  -- the file length or the pairs are not whole, or these break the ledger rule
+  by-63 : RightFrame bytes → IsKind kind bytes → (RightBody kind bytes → ⊥) → RecordJudged kind bytes 63
+  is-record : RightRecord kind bytes → RecordJudged kind bytes 0
+
+-- an end is above f
+abbrev pub Exceeds : ℕ → Pairs → Type 0
+Exceeds f none = ⊥
+Exceeds f (pair a b ps) = (f < b) ⊎ Exceeds f ps
+
+pub record RecordCases (kind : Kind) (bytes : List ℕ) : Type 0 where
+  -- the number has its case, and no other number has one
+  pub judged-is : RecordJudged kind bytes (recordRefusal kind bytes)
+  pub judged-only : (k : ℕ) → RecordJudged kind bytes k → k ≡ recordRefusal kind bytes
   -- a zero pair, the one with the number k, is 63
   pub zero-pair : (k : ℕ) → let part = drop (headLength kind) (drop 6 bytes) in
-      RightFrame bytes → IsKind kind bytes → 16 * k + 16 ≤ length part
+      RightFrame bytes → IsKind kind bytes → 16 * (k + 1) ≤ length part
       → fromLittleEndian 256 (take 8 (drop (16 * k) part)) ≡ 0 → fromLittleEndian 256 (take 8 (drop (16 * k + 8) part)) ≡ 0
       → recordRefusal kind bytes ≡ 63
