@@ -8,8 +8,8 @@ use native.Mathlib.Numerals.{add-one}
 use native.Mathlib.Nat.{pow-suc, pow-le-pow-right}
 use borrow.Author.Tests.{le-leb, lt-leb, eq-eqb, ne-eqb}
 use lib.Dec.{leb, ltb}
-use lib.ListN.{length, getD, take, drop, length-drop, drop-of-length-le}
-use lib.Seq.{length-take-le, take-all, getD-take}
+use lib.ListN.{length, getD, take, drop, drop-of-length-le}
+use lib.Seq.{length-take-le, getD-take}
 use Rattle.octets.specs.Decimal.{decimalValue, noLeadingZero, readOf}
 use Rattle.texts.specs.Text.{isDigit, leadingCount}
 use Rattle.octets.specs.declared.decimal.Number.{Number as Read}
@@ -21,10 +21,6 @@ use Rattle.hostports.specs.declared.host_port.ParsedNumber.the-variants.
 use Rattle.hostports.specs.declared.host_port.ParsedHostPort.{ParsedHostPort}
 use Rattle.hostports.specs.declared.host_port.ParsedHostPort.the-variants.{HostPort, Malformed}
 use Rattle.hostports.specs.HostPort.{comma, digitLimit, valueLimit, numberAt, andThen, moreAt, portOf, refusePortZero, hostPortAt}
-
--- a part that is lent up to the end is all that is left
-pub rest-is : (text : List ℕ) (at : ℕ) → take (length text - at) (drop at text) ≡ drop at text
-rest-is text at = take-all (length text - at) (drop at text) (simp length-drop (omega arith))
 
 -- ---- one number
 

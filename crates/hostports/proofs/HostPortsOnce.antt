@@ -10,7 +10,7 @@ use Rattle.octets.proofs.Decimals.{decimal-writes-back}
 use Rattle.hostports.specs.declared.host_port.ParsedHostPort.the-variants.{HostPort}
 use Rattle.hostports.specs.HostPort.{hostPortAt}
 use Rattle.hostports.specs.HostPorts.{Numeral, HostPortNumerals, hostPortText, address, port}
-use Rattle.hostports.proofs.HostPort.{rest-is}
+use Rattle.octets.proofs.Rest.{rest-is}
 use Rattle.hostports.proofs.HostPortsWritten.{numeral-plain}
 use Rattle.hostports.proofs.HostPortsRead.{six-read}
 

@@ -3,3 +3,4 @@ pub mod Decimals
 pub mod Reading
 mod LoopStep
 pub mod RoundTrip
+pub mod Rest

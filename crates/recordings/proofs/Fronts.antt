@@ -7,6 +7,7 @@ use native.Mathlib.Decide.{decLe}
 use borrow.Rule.Slice.PartMut.{putMid}
 use lib.ListN.{length, take, drop, length-append, length-drop, drop-of-length-le}
 use lib.Seq.{take-all, take-at, drop-at, drop-drop}
+use Rattle.octets.proofs.Rest.{rest-is}
 use Rattle.recordings.specs.Kept.{putFront, WritesFront}
 use Rattle.recordings.specs.Steps.{textLimit, WritesText}
 
@@ -16,14 +17,10 @@ length-after text out after n w h = rw (w .1 .1) (simp (length-append, length-dr
 
 -- ---- lent from the place a on
 
-module _ (xs : List ℕ) (a : ℕ) where
-  pub rest-is : take (length xs - a) (drop a xs) ≡ drop a xs
-  rest-is = take-all (length xs - a) (drop a xs) (simp length-drop (omega arith))
-
-  rest-put : (ys : List ℕ) → putMid a (length xs - a) xs ys ≡ take a xs ++ ys
-  rest-put ys =
-      let z : drop (length xs - a) (drop a xs) ≡ [] = drop-of-length-le (drop a xs) {i = length xs - a} (simp length-drop (omega arith)) in
-      rw (z, append-nil)
+rest-put : (xs : List ℕ) (a : ℕ) (ys : List ℕ) → putMid a (length xs - a) xs ys ≡ take a xs ++ ys
+rest-put xs a ys =
+    let z : drop (length xs - a) (drop a xs) ≡ [] = drop-of-length-le (drop a xs) {i = length xs - a} (simp length-drop (omega arith)) in
+    rw (z, append-nil)
 
 -- a text behind another
 pub front-append : (t u out after ys : List ℕ) (a b : ℕ) → WritesFront t out a after → WritesFront u (take (length after - a) (drop a after)) b ys

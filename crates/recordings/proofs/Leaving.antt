@@ -16,7 +16,7 @@ use Rattle.nights.specs.Reading.{Reading, waits, printedBefore, read}
 use Rattle.recordings.specs.Kept.{ReplayState, Kept, kept, replayStateOf, heldLimit, unfinished, isUnfinished, library, leaves, feed, feedText}
 use Rattle.recordings.specs.Steps.{halted, goOn, Holds, Reads}
 use Rattle.nights.proofs.Reading.{read-nothing, read-cut}
-use Rattle.recordings.proofs.Fronts.{rest-is}
+use Rattle.octets.proofs.Rest.{rest-is}
 use Rattle.recordings.proofs.Chunk.{none-held, goOn-reads, goOn-halted}
 
 -- bytes that are not whole wait

@@ -12,7 +12,8 @@ use lib.Seq.{drop-drop}
 use Rattle.nights.specs.Reading.{Reading, printedBefore}
 use Rattle.recordings.specs.Kept.{WritesFront, ReplayState, Kept}
 use Rattle.recordings.specs.Steps.{goOn, Holds, Steps, Reads}
-use Rattle.recordings.proofs.Fronts.{rest-is, front-append}
+use Rattle.octets.proofs.Rest.{rest-is}
+use Rattle.recordings.proofs.Fronts.{front-append}
 
 -- at bytes of the chunk are taken and w written; room is left for what the next step writes
 pub record Taking (k : Kept) (chunk out : List ℕ) (m : Kept) (at w : ℕ) (after : List ℕ) : Type 0 where

@@ -1,5 +1,4 @@
 pub mod KindNumbers
-pub mod Rest
 pub mod RecordPairs
 pub mod RecordFrame
 pub mod RecordRefusal

@@ -149,6 +149,12 @@ module _ (second : Second) where
       let q : 16 * suc k ≡ 16 + 16 * k = omega arith in
       rw (q, ← drop-drop (16 * k) 16 bytes) (ends-at n k f (drop 16 bytes) (omega arith) (both f n bytes e .1))
 
+  -- read as start and length it ends where it does, and at f or before where all do
+  pub pair-at : (n k f start len : ℕ) (bytes : List ℕ) → k < n → ObeyFrom 0 (pairsIn second n bytes) → endsAtMost f (pairsIn second n bytes) ≡ true
+      → let part = drop (16 * k) bytes in start ≡ startIn part → len ≡ endIn second part - startIn part
+      → (start + len ≡ endIn second part) × (endIn second part ≤ f)
+  pair-at n k f start len bytes h o e s l = (omega (arith, filled-at n k 0 bytes h o), ends-at n k f bytes h e)
+
 -- ---- there and back
 
 -- a number of 64 bits before other bytes

@@ -10,7 +10,8 @@ use Rattle.octets.specs.Decimal.{readOf}
 use Rattle.texts.specs.Text.{isDigit, leadingCount}
 use Rattle.texts.proofs.Texts.{leading-le}
 use Rattle.hostports.specs.HostPort.{digitLimit, valueLimit, numberAt}
-use Rattle.hostports.proofs.HostPort.{rest-is, parsedOf, number-past, number-long, number-zero, number-short}
+use Rattle.octets.proofs.Rest.{rest-is}
+use Rattle.hostports.proofs.HostPort.{parsedOf, number-past, number-long, number-zero, number-short}
 use Rattle.hostports.proofs.host_port.number_at.Statement.{statement}
 use Rattle.hostports.proofs.host_port.number_at.Tie as tie
 

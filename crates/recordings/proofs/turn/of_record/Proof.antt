@@ -11,7 +11,7 @@ use Rattle.nights.specs.Reading.{stops}
 use Rattle.recordings.specs.Kept.{ReplayState, replayState, libraryTurn}
 use Rattle.recordings.specs.Steps.{Leads}
 use Rattle.nights.proofs.Requests.{starts-within}
-use Rattle.recordings.proofs.Fronts.{rest-is}
+use Rattle.octets.proofs.Rest.{rest-is}
 use Rattle.recordings.proofs.Turns.{asked-start, asked-piece, asked-malformed, turn-piece, turn-malformed, leads-as}
 use Rattle.recordings.proofs.turn.of_record.Statement.{statement}
 use Rattle.recordings.proofs.turn.of_record.Tie as tie

@@ -8,9 +8,9 @@ use borrow.Author.Needs.{needs}
 use borrow.Rule.Slice.PartMut.{mid-len}
 use lib.ListN.{length, take, drop}
 use lib.Seq.{take-length}
+use Rattle.octets.proofs.Rest.{rest-is}
 use Rattle.savedrecords.specs.Record.{startIn, endIn, pairsIn, pairBytes}
-use Rattle.savedrecords.proofs.Rest.{rest-part}
-use Rattle.savedrecords.proofs.RecordPairs.{filled-at, ends-at}
+use Rattle.savedrecords.proofs.RecordPairs.{pair-at}
 use Rattle.savedconversions.proofs.Pairs.{write-turn}
 use Rattle.savedconversions.proofs.conversion.write_pairs.Statement.{statement}
 use Rattle.savedconversions.proofs.conversion.write_pairs.Tie as tie
@@ -28,16 +28,15 @@ next-is : (c : tie.After-first Inv-loop μ-loop) → let l = c .before .before .
     let x = l .before .before .before .args in
     let part = drop (16 * l .loop .k) (x .pairs .now) in
     let next = c .first .result in
-    (next .start ≡ startIn part) × (next .start + next .length ≡ endIn (x .from) part) × (endIn (x .from) part ≤ 18446744073709551615)
+    (next .start ≡ startIn part) × ((next .start + next .length ≡ endIn (x .from) part) × (endIn (x .from) part ≤ 18446744073709551615))
 next-is c =
     let l = c .before .before .before in
     let s = l .before .before .before in
     let x = s .args in
     let n = length (x .pairs .now) / 16 in
     let k = l .loop .k in
-    let e = rw (rest-part (16 * k) (x .pairs .now)) at (c .first .ensures) in
-    let filled = filled-at (x .from) n k 0 (x .pairs .now) (omega arith) (s .pre .2) in
-    (e .0, omega (arith, e, filled), ends-at (x .from) n k 18446744073709551615 (x .pairs .now) (omega arith) (s .pre .3))
+    let e = rw (rest-is (x .pairs .now) (16 * k)) at (c .first .ensures) in
+    (e .0, pair-at (x .from) n k 18446744073709551615 _ _ (x .pairs .now) (omega arith) (s .pre .2) (s .pre .3) (e .0) (e .1))
 
 loop-holds : tie.Need-loop-holds Inv-loop μ-loop
 loop-holds c = (omega arith, refl, refl, omega arith, rw (sub-zero (length (c .before .before .args .pairs .now) / 16)))
@@ -74,7 +73,7 @@ write-pair-requires c κs =
     let l = c .before .before .before .before in
     let at = 16 * l .loop .k in
     let e = next-is (c .before) in
-    (mid-len at (at + 16) (l .loop .out) (omega arith) ∙ omega arith, omega (arith, e .1, e .2))
+    (mid-len at (at + 16) (l .loop .out) (omega arith) ∙ omega arith, omega (arith, e .1))
 
 add-k : tie.Need-add-k Inv-loop μ-loop
 add-k c = omega arith
@@ -94,7 +93,7 @@ loop-again c =
       refl,
       omega arith,
       l .loop .inv .3,
-      write-turn (x .from) (x .to) (x .pairs .now) (l .loop .out) _ n (l .loop .k) _ _ (omega arith) (omega arith) (e .0) (e .1) (w .write-pair .ensures) ∙ l .loop .inv .4,
+      write-turn (x .from) (x .to) (x .pairs .now) (l .loop .out) _ n (l .loop .k) _ _ (omega arith) (omega arith) (e .0) (e .1 .0) (w .write-pair .ensures) ∙ l .loop .inv .4,
     )
 
 same-length : tie.Need-same-length Inv-loop μ-loop

@@ -7,10 +7,10 @@ use native.Mathlib.Nat.{sub-zero}
 use borrow.Author.Needs.{needs}
 use lib.ListN.{length, take, drop, length-set}
 use lib.Seq.{take-length}
+use Rattle.octets.proofs.Rest.{rest-is}
 use Rattle.ledger.specs.Ledger.{laidOut}
 use Rattle.savedrecords.specs.Record.{startIn, endIn, pairsIn}
-use Rattle.savedrecords.proofs.Rest.{rest-part}
-use Rattle.savedrecords.proofs.RecordPairs.{filled-at, ends-at}
+use Rattle.savedrecords.proofs.RecordPairs.{pair-at}
 use Rattle.savedledgers.proofs.Entries.{fill-turn}
 use Rattle.savedledgers.proofs.saved.fill.Statement.{statement}
 use Rattle.savedledgers.proofs.saved.fill.Tie as tie
@@ -79,10 +79,9 @@ next-is c =
     let x = s .args in
     let n = length (x .pairs .now) / 16 in
     let k = l .loop .k in
-    let e = rw (rest-part (16 * k) (x .pairs .now)) at (c .before .first .ensures) in
-    let filled = filled-at (x .second) n k 0 (x .pairs .now) (omega arith) (s .pre .1) in
-    let ends = ends-at (x .second) n k 18446744073709551615 (x .pairs .now) (omega arith) (s .pre .2) in
-    (e .0, omega (arith, c .saturating-add .ensures, e, filled, ends))
+    let e = rw (rest-is (x .pairs .now) (16 * k)) at (c .before .first .ensures) in
+    let at = pair-at (x .second) n k 18446744073709551615 _ _ (x .pairs .now) (omega arith) (s .pre .1) (s .pre .2) (e .0) (e .1) in
+    (e .0, omega (arith, c .saturating-add .ensures, at))
 
 loop-again : tie.Need-loop-again Inv-loop μ-loop
 loop-again c =

@@ -5,7 +5,7 @@ use native.Mathlib.Omega.{arith}
 use borrow.Author.Needs.{needs}
 use lib.ListN.{length, take, drop-of-length-le}
 use Rattle.octets.specs.Digits.{fromLittleEndian}
-use Rattle.savedrecords.proofs.Rest.{rest-part}
+use Rattle.octets.proofs.Rest.{rest-is}
 use Rattle.savedrecords.proofs.pair.number_at.Statement.{statement}
 use Rattle.savedrecords.proofs.pair.number_at.Tie as tie
 
@@ -31,7 +31,7 @@ read-requires c κs = search needs
 returns-2 : tie.Need-returns-2
 returns-2 c =
     let x = c .before .before .before .before .args in
-    c .read .ensures ∙ ap (λ l. fromLittleEndian 256 (take 8 l)) (rest-part (x .at) (x .bytes .now))
+    c .read .ensures ∙ ap (λ l. fromLittleEndian 256 (take 8 l)) (rest-is (x .bytes .now) (x .at))
 
 pub number-at-spec : {M : Type 1} → statement M
 number-at-spec =

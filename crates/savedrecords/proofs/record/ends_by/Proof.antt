@@ -6,9 +6,9 @@ use borrow.Author.Needs.{needs}
 use borrow.Author.Tests.{le-leb}
 use lib.Dec.{leb}
 use lib.ListN.{length}
+use Rattle.octets.proofs.Rest.{rest-is}
 use Rattle.savedrecords.specs.Record.{pairsIn, pairPart, lastEnd}
 use Rattle.savedrecords.proofs.RecordPairs.{lastEnd-pairsIn}
-use Rattle.savedrecords.proofs.Rest.{rest-part}
 use Rattle.savedrecords.proofs.record.ends_by.Statement.{statement}
 use Rattle.savedrecords.proofs.record.ends_by.Tie as tie
 
@@ -55,7 +55,7 @@ returns-2 c =
     let part = p .pair-part .result .now in
     let n = length part / 16 in
     let m : n ≡ suc (n - 1) = omega arith in
-    let last = rest-part (16 * (n - 1)) part in
+    let last = rest-is part (16 * (n - 1)) in
     let e = rw (a .number-at .ensures, s .number-at2 .ensures, last) at (c .ends-by .ensures) in
     e ∙ ap (λ k. leb k (x .limit)) (sym (lastEnd-pairsIn (x .kind .second) (n - 1) part) ∙ rw (← m, p .pair-part .ensures))
 

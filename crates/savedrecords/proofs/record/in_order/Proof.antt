@@ -7,10 +7,10 @@ use native.Mathlib.Nat.{sub-zero}
 use borrow.Author.Needs.{needs}
 use borrow.Author.Tests.{not-true, not-false}
 use lib.ListN.{length, drop}
+use Rattle.octets.proofs.Rest.{rest-is}
 use Rattle.ledger.specs.Pairs.{obeyFrom}
 use Rattle.savedrecords.specs.Record.{pairsIn}
 use Rattle.savedrecords.proofs.RecordPairs.{lowestAfter, obeyFrom-turn}
-use Rattle.savedrecords.proofs.Rest.{rest-part}
 use Rattle.savedrecords.proofs.record.in_order.Statement.{statement}
 use Rattle.savedrecords.proofs.record.in_order.Tie as tie
 
@@ -34,7 +34,7 @@ turn c =
     let l = f .before .before .before in
     let x = l .before .before .args in
     let n = length (x .pairs .now) / 16 in
-    let e = rw (rest-part (16 * l .loop .k) (x .pairs .now)) at (f .first .ensures) in
+    let e = rw (rest-is (x .pairs .now) (16 * l .loop .k)) at (f .first .ensures) in
     sym (l .loop .inv .2) ∙ obeyFrom-turn (x .second) (x .pairs .now) n (l .loop .k) (l .loop .before .start) (l .loop .before .length) (f .first .result .start) (f .first .result .length) (omega arith) (e .0) (e .1)
     ∙ rw (c .may-follow .ensures)
 

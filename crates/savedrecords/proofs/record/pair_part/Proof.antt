@@ -5,9 +5,9 @@ use native.Mathlib.Omega.{arith}
 use borrow.Author.Needs.{needs}
 use lib.ListN.{length, drop-of-length-le}
 use lib.Seq.{drop-drop}
+use Rattle.octets.proofs.Rest.{rest-is}
 use Rattle.savedrecords.specs.Kind.{headLength}
 use Rattle.savedrecords.proofs.KindNumbers.{headLength-le}
-use Rattle.savedrecords.proofs.Rest.{rest-part}
 use Rattle.savedrecords.proofs.record.pair_part.Statement.{statement}
 use Rattle.savedrecords.proofs.record.pair_part.Tie as tie
 
@@ -33,7 +33,7 @@ returns c =
     let none : length (x .bytes .now) ≤ length (x .bytes .now) = omega arith in
     let few : length (x .bytes .now) ≤ 6 + headLength (x .kind) = omega (arith, h .head-length .ensures) in
     rw (
-      rest-part (length (x .bytes .now)) (x .bytes .now),
+      rest-is (x .bytes .now) (length (x .bytes .now)),
       drop-of-length-le (x .bytes .now) none,
       drop-drop (headLength (x .kind)) 6 (x .bytes .now),
       drop-of-length-le (x .bytes .now) few,
@@ -52,7 +52,7 @@ returns-2 : tie.Need-returns-2
 returns-2 c =
     let h = c .before .before in
     let x = h .before .before .args in
-    rest-part (6 + h .head-length .result) (x .bytes .now) ∙ rw (h .head-length .ensures) (sym (drop-drop (headLength (x .kind)) 6 (x .bytes .now)))
+    rest-is (x .bytes .now) (6 + h .head-length .result) ∙ rw (h .head-length .ensures) (sym (drop-drop (headLength (x .kind)) 6 (x .bytes .now)))
 
 pub pair-part-spec : {M : Type 1} → statement M
 pair-part-spec =

@@ -6,5 +6,6 @@ use native.Mathlib.Omega.{arith}
 use lib.ListN.{length, take, drop, length-drop}
 use lib.Seq.{take-all}
 
-pub rest-part : (m : ℕ) (xs : List ℕ) → take (length xs - m) (drop m xs) ≡ drop m xs
-rest-part m xs = take-all (length xs - m) (drop m xs) (simp length-drop (omega arith))
+-- lent up to the end it is all that is left
+pub rest-is : (xs : List ℕ) (at : ℕ) → take (length xs - at) (drop at xs) ≡ drop at xs
+rest-is xs at = take-all (length xs - at) (drop at xs) (simp length-drop (omega arith))
