@@ -50,7 +50,7 @@
  *     51  range malformed                          52  the ranges so far, merged, need more pairs than the ledger has
  *     53  ledger length odd or above the limit     54  an empty ledger has no text
  *     55  too few bytes lent for the whole output
- *     61  saved ledger cut short, wrong length     62  a kind of record other than the one expected
+ *     61  saved ledger cut short, wrong length     62  another kind of record than was asked for
  *     63  file length or pairs not whole, or       64  more pairs than the ledger has
  *         pairs against the rule                   65  an end above the file length
  *     71  count or size out of range or not the sender's, another file length, or a sender that no calls give
@@ -241,7 +241,7 @@ typedef struct cob_found {
     uint8_t found;  /* 1 where a host-port is at the place, else 0 */
 } cob_found;
 
-typedef struct {
+typedef struct cob_loaded_for {
     /* The length of the file that the ledger is for. */
     uint64_t length;
     uint8_t refused;

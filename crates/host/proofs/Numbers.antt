@@ -14,7 +14,7 @@ use Rattle.hostlists.specs.declared.list.Hosts.{Hosts}
 use Rattle.hostlists.specs.declared.list.Hosts.the-variants.{Count, Refused as NoList}
 use Rattle.savedledgers.specs.Saved.{loadedForNumber, loadedForLength}
 use Rattle.savedledgers.specs.declared.loaded_for.LoadedFor.{LoadedFor}
-use Rattle.savedledgers.specs.declared.loaded_for.LoadedFor.the-variants.{Length, Refused as NotLoaded}
+use Rattle.savedledgers.specs.declared.loaded_for.LoadedFor.the-variants.{FileLength, Refused as NotLoaded}
 use Rattle.receiver.specs.declared.show.Screen.{Screen}
 use Rattle.receiver.specs.declared.show.Screen.the-variants.{Shows, Refused as NotShown}
 use Rattle.receiver.specs.Shown.{screenNumber}
@@ -49,7 +49,7 @@ written (NotWritten k) = (refl, refl)
 
 loaded-for : (x : LoadedFor) → (loadedForOf x .length ≡ loadedForLength x) × (loadedForOf x .refused ≡ loadedForNumber x)
 unfolding loadedForLength loadedForNumber
-loaded-for (Length f) = (refl, refl)
+loaded-for (FileLength f) = (refl, refl)
 loaded-for (NotLoaded k) = (refl, refl)
 
 shown : (x : Screen) → shownBy x .refused ≡ screenNumber x

@@ -66,7 +66,7 @@ pub extern "C" fn cob_saved2_read(bytes: &[u8], ledger: &mut [u64]) -> LoadedFor
 {
     let answer = saved::read_sized(bytes, ledger);
     match answer {
-        loaded_for::LoadedFor::Length(f) => LoadedFor {
+        loaded_for::LoadedFor::FileLength(f) => LoadedFor {
             length: f,
             refused: 0,
         },

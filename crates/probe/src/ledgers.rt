@@ -48,7 +48,7 @@ fn print_length(f: u64) {
 
 fn print_loaded_for(answer: LoadedFor) {
     match answer {
-        LoadedFor::Length(f) => print_length(f),
+        LoadedFor::FileLength(f) => print_length(f),
         LoadedFor::Refused(k) => print::refused(k),
     }
 }

@@ -12,7 +12,7 @@ use Rattle.ledger.specs.Pairs.{endsAtMost}
 use Rattle.savedrecords.specs.Record.{savedPairs, recordRefusal, recordOf}
 use Rattle.savedrecords.specs.RecordCases.{RightRecord, Exceeds}
 use Rattle.savedrecords.specs.declared.kind.Kind.{Kind}
-use Rattle.savedrecords.proofs.RecordCases.{exceeds-not, exceeds-some, exceeds-none, right-record, record-right, record-cases}
+use Rattle.savedrecords.proofs.RecordCases.{exceeds-not, exceeds-some, exceeds-none, exceeds-false, right-record, record-right, record-cases}
 use Rattle.savedrecords.proofs.RecordRoundTrip.{length-recordOf}
 use Rattle.savedconversions.specs.Conversion.{convertRefusal, convert, convertAfter}
 use Rattle.savedconversions.specs.ConversionCases.{lengthAs, ConversionJudged, by-record, by-65, by-55, is-converted, ConversionCases}
@@ -29,11 +29,7 @@ module _ (from to : Kind) (f : ℕ) (bytes out : List ℕ) where
       go (no n) = sym (ap writtenNumber (converts-refused from to f bytes out (convertRefusal from to f bytes out) refl (omega arith) .0))
 
   exceeds-65 : recordRefusal from bytes ≡ 0 → Exceeds f (savedPairs from bytes) → convertRefusal from to f bytes out ≡ 65
-  exceeds-65 r x = number-65 from to f bytes out r (go (endsAtMost f (savedPairs from bytes)) refl)
-    where
-      go : (t : Bool) → endsAtMost f (savedPairs from bytes) ≡ t → t ≡ false
-      go true e = absurd (exceeds-not f (savedPairs from bytes) e x)
-      go false e = refl
+  exceeds-65 r x = number-65 from to f bytes out r (exceeds-false f (savedPairs from bytes) x)
 
   refusal-only : (k : ℕ) → ConversionJudged from to f bytes out k → k ≡ convertRefusal from to f bytes out
   refusal-only k (by-record k₁ j h) =

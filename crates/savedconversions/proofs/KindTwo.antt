@@ -17,19 +17,20 @@ use Rattle.ledger.specs.Pairs.{Pairs, none, size, ObeyFrom, obeyFrom, endsAtMos
 use Rattle.ledger.specs.Ledger.{largest, lengthWrong, capacity}
 use Rattle.savedrecords.specs.Kind.{kindOne, kindTwo}
 use Rattle.savedrecords.specs.Record.{pairsIn, pairBytes, pairPart, fileLengthOf, savedPairs, frameRefusal, bodyWrong, recordRefusal, lengthRefusal, recordOf}
-use Rattle.savedrecords.specs.RecordCases.{RightFrame, IsKind, by-62}
-use Rattle.savedrecords.specs.declared.kind.Second.the-variants.{End, Length}
+use Rattle.savedrecords.specs.RecordCases.{RightFrame, IsKind, RecordJudged, by-61, by-62, by-63, is-record}
+use Rattle.savedrecords.specs.declared.kind.Kind.{Kind}
+use Rattle.savedrecords.specs.declared.kind.SecondNumber.the-variants.{End, Length}
 use Rattle.savedrecords.proofs.RecordPairs.{endsAtMost-more, eight-lt, ends-at, rises-at}
 use Rattle.savedrecords.proofs.RecordCases.{exceeds-some, row-63, record-right, record-cases}
 use Rattle.savedrecords.proofs.RecordBytes.{record-bytes}
 use Rattle.savedrecords.proofs.RecordRoundTrip.{length-recordOf, head-same, record-round-trip}
 use Rattle.savedledgers.specs.Saved.{readRefusal, readAfter, readSaved, readSavedAfter, readSizedAfter}
 use Rattle.savedledgers.specs.SavedReading.{RightLength, by-record, by-65 as Reading·by-65}
-use Rattle.savedledgers.proofs.SavedReading.{number-53, number-64, number-plain, number-sized, after-refused, saved-reading, saved-refused, saved-answers}
+use Rattle.savedledgers.proofs.SavedReading.{number-53, number-record, number-64, number-plain, number-sized, after-refused, right-length, saved-reading, saved-refused, saved-answers}
 use Rattle.savedconversions.specs.Conversion.{convertRefusal, convertAfter, toTwo, toTwoAfter, toOne, toOneAfter}
 use Rattle.savedconversions.specs.KindTwo.{kindIn, lengthIn, startAt, secondAt, KindTwo}
 use Rattle.savedconversions.proofs.ConversionNumber.{number-0, part-length, converts-written}
-use Rattle.savedconversions.specs.ConversionCases.{by-65}
+use Rattle.savedconversions.specs.ConversionCases.{by-record as Conversion·by-record, by-65}
 use Rattle.savedconversions.proofs.ConversionCases.{conversion-cases}
 use Rattle.savedconversions.proofs.ConversionRoundTrip.{Converted, converted, there-and-back, right-kept, pairs-kept}
 
@@ -65,6 +66,18 @@ module _ (bytes : List ℕ) (below : AllBelow 256 bytes) where
           let n : length part ≡ length (drop 14 bytes) = ap length (part-14 bytes) in
           let f = eight-lt (drop 6 bytes) (below-drop 256 6 bytes below) in
           absurd (omega (arith, f, rw (drop-drop 8 (16 * k) part) at (ends-at Length (length part / 16) k (fileLengthOf bytes) part (omega arith) x)))
+
+-- ---- the kind
+
+-- of the four cases only one has the number 62
+other-kind : (kind : Kind) (bytes : List ℕ) → recordRefusal kind bytes ≡ 62 → RightFrame bytes × (kindIn bytes ≡ kind .number → ⊥)
+other-kind kind bytes e = go (recordRefusal kind bytes) (record-cases kind bytes .judged-is) e
+  where
+    go : (k : ℕ) → RecordJudged kind bytes k → k ≡ 62 → RightFrame bytes × (kindIn bytes ≡ kind .number → ⊥)
+    go k (by-61 n) d = absurd (omega (arith, d))
+    go k (by-62 f n) d = (f, n)
+    go k (by-63 f i n) d = absurd (omega (arith, d))
+    go k (is-record x) d = absurd (omega (arith, d))
 
 -- ---- the old reader
 
@@ -191,7 +204,7 @@ kind-two =
           );
       short = λ bytes f i h. row-63 kindTwo bytes f i (λ b. omega (arith, h, b .head));
       answers-length = λ bytes ledger z. saved-answers bytes ledger .two-read z .0;
-      other-kind = λ kind bytes f n. sym (record-cases kind bytes .judged-only 62 (by-62 f n));
+      other-kind = λ kind bytes. (other-kind kind bytes, λ p. sym (record-cases kind bytes .judged-only 62 (by-62 (p .0) (p .1))));
       expected = (refl, refl);
       back = λ bytes. conversion-cases kindTwo kindOne (fileLengthOf bytes) bytes;
       drops-length = drops-length;
@@ -199,6 +212,14 @@ kind-two =
       unchanged-to-2 = λ f bytes out k h e. conversion-cases kindOne kindTwo f bytes out .refuses (omega (arith, h, e)) .unchanged;
       unchanged-back = λ bytes out k h e. conversion-cases kindTwo kindOne (fileLengthOf bytes) bytes out .refuses (omega (arith, h, e)) .unchanged;
       zero-pair = λ kind bytes k f i h. record-cases kind bytes .zero-pair k f i h;
+      first-of-1 = λ f bytes ledger out h. (
+        sym (conversion-cases kindOne kindTwo f bytes out .judged-only (recordRefusal kindOne bytes) (Conversion·by-record (recordRefusal kindOne bytes) (record-cases kindOne bytes .judged-is) h)),
+        λ l. number-record kindOne bytes ledger (right-length ledger l) h,
+      );
+      first-of-2 = λ bytes ledger out h. (
+        sym (conversion-cases kindTwo kindOne (fileLengthOf bytes) bytes out .judged-only (recordRefusal kindTwo bytes) (Conversion·by-record (recordRefusal kindTwo bytes) (record-cases kindTwo bytes .judged-is) h)),
+        λ l. number-record kindTwo bytes ledger (right-length ledger l) h,
+      );
       one-two-one = λ f bytes out back n h below e. one-two-one f bytes out n h below e back;
       two-one-two = λ bytes out back n below e. two-one-two bytes out n below e back;
       reads-as-before = λ f bytes out ledger n h below e.

@@ -1,6 +1,7 @@
 -- `KindTwoCases` holds, by `KindTwo`.
 use Prim.Native.Nat.{ℕ, zero, suc, _+_, _*_, _/_, _≤_, _<_}
-use mathlib.Core.Path.{_≡_, refl, ap, _∙_}
+use mathlib.Core.Path.{_≡_, refl, sym, ap, _∙_}
+use mathlib.Core.Logic.{inl}
 use mathlib.Core.Bool.{true}
 use mathlib.Core.List.{List, [], _∷_, _++_}
 use native.Mathlib.Omega.{arith}
@@ -20,6 +21,7 @@ use Rattle.savedledgers.specs.Numbers.{numberBytes}
 use Rattle.savedledgers.specs.Saved.{readRefusal, readAfter, readSavedAfter, readSizedAfter}
 use Rattle.savedledgers.specs.SavedReading.{RightLength}
 use Rattle.savedconversions.specs.Conversion.{convertRefusal, convert, convertAfter, toTwo, toOne, toOneAfter, toTwoAfter}
+use Rattle.savedconversions.specs.ConversionCases.{by-65}
 use Rattle.savedconversions.specs.KindTwo.{lengthIn}
 use Rattle.savedconversions.specs.KindTwoCases.{framedNumbers, top, longestOne, longestTwo, singles, KindTwoCases}
 use Rattle.savedconversions.proofs.KindTwo.{kind-two}
@@ -52,6 +54,23 @@ last-right =
 last-edge : (ledger out : List ℕ) → (RightLength ledger → 0 < length ledger / 2 → readRefusal kindTwo last ledger ≡ 65) × (writtenNumber (toOne last out) ≡ 65)
 unfolding framed numberBytes toLittleEndian fromLittleEndian
 last-edge ledger out = kind-two .end-last last ledger out 0 (below-framed 2 (top ∷ top ∷ 1 ∷ [])) last-right refl (omega arith)
+
+-- the bytes 0 to 89, of a file of 89
+abbrev ninety : List ℕ
+ninety = framedNumbers 1 (0 ∷ 90 ∷ [])
+
+ninety-right : RightRecord kindOne ninety
+unfolding framed numberBytes toLittleEndian fromLittleEndian pairsIn
+ninety-right =
+    record {
+      frame = record { least = omega arith; counted = refl };
+      is-kind = refl;
+      body = record { head = omega arith; whole = refl; ruled = (omega arith, omega arith, tt) };
+    }
+
+ninety-65 : (out : List ℕ) → writtenNumber (toTwo 89 ninety out) ≡ 65
+unfolding framed numberBytes toLittleEndian fromLittleEndian pairsIn
+ninety-65 out = sym (kind-two .to-2 89 ninety out .judged-only 65 (by-65 ninety-right (inl (omega arith))))
 
 -- ---- the longest file
 
@@ -94,11 +113,11 @@ unfolding singles endsAtMost
 singles-end zero a f h = refl
 singles-end (suc n) a f h = rw (le-leb (a + 1) f (omega arith)) (singles-end n (a + 2) f (omega arith))
 
-most-pairs : (out : List ℕ) → length out ≡ 4294967294 → toTwo 536870909 (recordOf kindOne 0 (singles 268435455 0)) out ≡ Bytes 4294967294
+most-pairs : (out : List ℕ) → length out ≡ 4294967294 → toTwo top (recordOf kindOne 0 (singles 268435455 0)) out ≡ Bytes 4294967294
 most-pairs out h =
     let n = size-singles 268435455 0 in
-    let whole = kind-two .any-size 536870909 (singles 268435455 0) out (omega (arith, n)) (singles-obey 268435455 0 0 (omega arith)) (omega arith)
-    (singles-end 268435455 0 536870909 (omega arith)) (omega (arith, n)) in
+    let whole = kind-two .any-size top (singles 268435455 0) out (omega (arith, n)) (singles-obey 268435455 0 0 (omega arith)) (omega arith)
+    (singles-end 268435455 0 top (omega arith)) (omega (arith, n)) in
     whole ∙ rw n
 
 pub kind-two-cases : KindTwoCases
@@ -115,6 +134,10 @@ kind-two-cases =
           kind-two .end-then-pair followed 0 (below-framed 2 (top ∷ top ∷ 1 ∷ 3 ∷ 4 ∷ [])) (record { least = omega arith; counted = refl }) refl (omega arith) (omega arith);
       end-last = last-edge (7 ∷ 7 ∷ []) [] .0 (record { even = refl; most = omega arith }) (omega arith);
       end-last-back = λ out. last-edge [] out .1;
+      reading-65 = kind-two .unchanged-reading last (7 ∷ 7 ∷ []) 65 (omega arith)
+          (kind-two .reads-2-number last (7 ∷ 7 ∷ []) ∙ last-edge (7 ∷ 7 ∷ []) [] .0 (record { even = refl; most = omega arith }) (omega arith));
+      back-65 = λ out. kind-two .unchanged-back last out 65 (omega arith) (last-edge [] out .1);
+      to-2-65 = λ out. kind-two .unchanged-to-2 89 ninety out 65 (omega arith) (ninety-65 out);
       to-2 = to-2;
       and-back = and-back;
       and-again = and-again;

@@ -10,10 +10,10 @@ use Rattle.octets.specs.Digits.{toLittleEndian}
 use Rattle.octets.proofs.Digits.{length-toLittle}
 use Rattle.savedrecords.specs.Kind.{secondOf}
 use Rattle.savedrecords.specs.Record.{startIn, endIn, pairsIn, pairBytes}
-use Rattle.savedrecords.specs.declared.kind.Second.{Second}
+use Rattle.savedrecords.specs.declared.kind.SecondNumber.{SecondNumber}
 
 -- the pair after those that are written
-pub write-turn : (from to : Second) (bytes out ys : List ℕ) (n k a e : ℕ) → k < n → 16 * k + 16 ≤ length out → let part = drop (16 * k) bytes in
+pub write-turn : (from to : SecondNumber) (bytes out ys : List ℕ) (n k a e : ℕ) → k < n → 16 * k + 16 ≤ length out → let part = drop (16 * k) bytes in
     a ≡ startIn part → e ≡ endIn from part → ys ≡ toLittleEndian 256 8 a ++ toLittleEndian 256 8 (secondOf to a e)
     → take (16 * (k + 1)) (putMid (16 * k) (16 * k + 16 - 16 * k) out ys) ++ pairBytes to (pairsIn from (n - (k + 1)) (drop (16 * (k + 1)) bytes))
     ≡ take (16 * k) out ++ pairBytes to (pairsIn from (n - k) part)

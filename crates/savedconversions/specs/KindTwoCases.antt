@@ -46,6 +46,10 @@ pub record KindTwoCases : Type 0 where
   -- the same end last: read into one pair, and converted
   pub end-last : readRefusal kindTwo (framedNumbers 2 (top ∷ top ∷ 1 ∷ [])) (7 ∷ 7 ∷ []) ≡ 65
   pub end-last-back : (out : List ℕ) → writtenNumber (toOne (framedNumbers 2 (top ∷ top ∷ 1 ∷ [])) out) ≡ 65
+  -- by 65 the lent entries and bytes stay
+  pub reading-65 : readSizedAfter (framedNumbers 2 (top ∷ top ∷ 1 ∷ [])) (7 ∷ 7 ∷ []) ≡ 7 ∷ 7 ∷ []
+  pub back-65 : (out : List ℕ) → toOneAfter (framedNumbers 2 (top ∷ top ∷ 1 ∷ [])) out ≡ out
+  pub to-2-65 : (out : List ℕ) → toTwoAfter 89 (framedNumbers 1 (0 ∷ 90 ∷ [])) out ≡ out
   -- all bytes of the longest file, to kind 2, back, and to kind 2 again, with no byte lent too many
   pub to-2 : toTwo top longestOne (replicate 30 0xEE) ≡ Bytes 30
   pub and-back : (toOne longestTwo (replicate 22 0xEE) ≡ Bytes 22) × (toOneAfter longestTwo (replicate 22 0xEE) ≡ longestOne)
@@ -55,4 +59,4 @@ pub record KindTwoCases : Type 0 where
   pub reads-it : (readSizedAfter longestTwo (7 ∷ 7 ∷ []) ≡ 0 ∷ top ∷ []) × (lengthIn longestTwo ≡ top)
   pub old-refuses-it : readSaved longestTwo (7 ∷ 7 ∷ []) ≡ Refused 62
   -- the most pairs that a record of kind 1 can have, and as many bytes as their record of kind 2 has
-  pub most-pairs : (out : List ℕ) → length out ≡ 4294967294 → toTwo 536870909 (recordOf kindOne 0 (singles 268435455 0)) out ≡ Bytes 4294967294
+  pub most-pairs : (out : List ℕ) → length out ≡ 4294967294 → toTwo top (recordOf kindOne 0 (singles 268435455 0)) out ≡ Bytes 4294967294

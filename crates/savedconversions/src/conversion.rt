@@ -5,7 +5,7 @@ use frames::frame::FRAME_LENGTH;
 use octets::little;
 use savedrecords::kind;
 use savedrecords::kind::Kind;
-use savedrecords::kind::Second;
+use savedrecords::kind::SecondNumber;
 use savedrecords::pair;
 use savedrecords::pair::Pair;
 use savedrecords::record;
@@ -24,18 +24,18 @@ ghost use Rattle.savedrecords.specs.Record.{pairsIn, pairBytes};
 ghost use Rattle.savedconversions.specs.Conversion.{convert, convertAfter, toTwo, toTwoAfter, toOne, toOneAfter};
 
 // The second number of a pair, whose end fits 64 bits.
-fn second_of(second: Second, pair: Pair) -> u64
+fn second_of(second: SecondNumber, pair: Pair) -> u64
     requires { ⌜ pair .start + pair .length ≤ 18446744073709551615 ⌝ }
     ensures { λ r. ⌜ r ≡ secondOf second (pair .start) (pair .start + pair .length) ⌝ }
 {
     match second {
-        Second::End => sum::saturating_add(pair.start, pair.length),
-        Second::Length => pair.length,
+        SecondNumber::End => sum::saturating_add(pair.start, pair.length),
+        SecondNumber::Length => pair.length,
     }
 }
 
 // Writes the two numbers of a pair.
-fn write_pair(second: Second, pair: Pair, out: &mut [u8])
+fn write_pair(second: SecondNumber, pair: Pair, out: &mut [u8])
     requires { ⌜ (length (now out) ≡ 16) × (pair .start + pair .length ≤ 18446744073709551615) ⌝ }
     ensures { λ _. ⌜ now (out .exit) ≡ toLittleEndian 256 8 (pair .start) ++ toLittleEndian 256 8 (secondOf second (pair .start) (pair .start + pair .length)) ⌝ }
 {
@@ -45,7 +45,7 @@ fn write_pair(second: Second, pair: Pair, out: &mut [u8])
 }
 
 // Writes all pairs, read as those of one kind, as those of another.
-fn write_pairs(from: Second, to: Second, pairs: &[u8], out: &mut [u8])
+fn write_pairs(from: SecondNumber, to: SecondNumber, pairs: &[u8], out: &mut [u8])
     requires { ⌜ (length (now pairs) % 16 ≡ 0) × (length (now out) ≡ length (now pairs)) × ObeyFrom 0 (pairsIn from (length (now pairs) / 16) (now pairs)) × (endsAtMost 18446744073709551615 (pairsIn from (length (now pairs) / 16) (now pairs)) ≡ true) ⌝ }
     ensures { λ _. ⌜ now (out .exit) ≡ pairBytes to (pairsIn from (length (now (pairs .entry)) / 16) (now (pairs .entry))) ⌝ }
 {

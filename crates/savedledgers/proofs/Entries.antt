@@ -13,7 +13,7 @@ use Rattle.ledger.specs.Ledger.{capacity, laidOut}
 use Rattle.ledger.proofs.LedgerLayout.{length-laidOut}
 use Rattle.ledger.proofs.PairsAsNumbers.{flat, laidOut-flat}
 use Rattle.savedrecords.specs.Record.{startIn, endIn, pairsIn}
-use Rattle.savedrecords.specs.declared.kind.Second.{Second}
+use Rattle.savedrecords.specs.declared.kind.SecondNumber.{SecondNumber}
 
 -- the part of the first n entries
 pub mid-all : (n : ℕ) (es : List ℕ) → n ≤ length es → length (take (n - 0) es) ≡ n
@@ -27,7 +27,7 @@ set-two es t i a e h =
     rw (take-suc-set (set es i a) (suc i) e g, take-suc-set es i a k) (append-snoc (take i es ++ (a ∷ [])) e t ∙ append-snoc (take i es) a (e ∷ t))
 
 -- the pair after those that are in their entries
-pub fill-turn : (second : Second) (bytes es : List ℕ) (n k a e : ℕ) → k < n → 2 * n ≤ length es → let part = drop (16 * k) bytes in
+pub fill-turn : (second : SecondNumber) (bytes es : List ℕ) (n k a e : ℕ) → k < n → 2 * n ≤ length es → let part = drop (16 * k) bytes in
     a ≡ startIn part → e ≡ endIn second part
     → take (2 * (k + 1)) (set (set es (2 * k) a) (2 * k + 1) e) ++ laidOut (n - (k + 1)) (pairsIn second (n - (k + 1)) (drop (16 * (k + 1)) bytes))
     ≡ take (2 * k) es ++ laidOut (n - k) (pairsIn second (n - k) part)

@@ -20,15 +20,15 @@ use Rattle.ledger.proofs.LedgerSizes.{length-right, length-fits}
 use Rattle.savedrecords.specs.Kind.{kindOne, kindTwo, headLength, endOf}
 use Rattle.savedrecords.specs.Record.{pairLength, pairPart, fileLengthOf, savedPairs, recordRefusal, lengthRefusal}
 use Rattle.savedrecords.specs.declared.kind.Kind.{Kind}
-use Rattle.savedrecords.specs.declared.kind.Second.{Second}
-use Rattle.savedrecords.specs.declared.kind.Second.the-variants.{End as Second·End, Length as Second·Length}
+use Rattle.savedrecords.specs.declared.kind.SecondNumber.{SecondNumber}
+use Rattle.savedrecords.specs.declared.kind.SecondNumber.the-variants.{End, Length}
 use Rattle.savedrecords.proofs.RecordPairs.{size-pairsIn, endsAtMost-more, eight-lt, ends-fit}
 use Rattle.savedrecords.proofs.RecordRefusal.{refusal-sound}
 use Rattle.savedrecords.specs.RecordCases.{RightRecord}
-use Rattle.savedrecords.proofs.RecordCases.{exceeds-not, exceeds-some, exceeds-none, right-record, record-right, record-cases}
+use Rattle.savedrecords.proofs.RecordCases.{exceeds-not, exceeds-some, exceeds-none, exceeds-false, right-record, record-right, record-cases}
 use Rattle.savedledgers.specs.Saved.{readRefusal, readAfter, readSaved, readSized, loadedForNumber, loadedForLength}
 use Rattle.savedledgers.specs.SavedReading.{RightLength, TooMany, Beyond, ReadingJudged, by-53, by-record, by-64, by-65, is-read, Reads, SavedReading, SavedAnswers}
-use Rattle.savedledgers.specs.declared.loaded_for.LoadedFor.the-variants.{Length, Refused as NotLoaded}
+use Rattle.savedledgers.specs.declared.loaded_for.LoadedFor.the-variants.{FileLength, Refused as NotLoaded}
 
 module _ (kind : Kind) (bytes ledger : List ℕ) where
   pub after-refused : 0 < readRefusal kind bytes ledger → readAfter kind bytes ledger ≡ ledger
@@ -110,11 +110,11 @@ number-sound kind bytes ledger z = go (lengthWrong ledger) refl
     go true e = absurd (omega (arith, number-53 kind bytes ledger e))
     go false e = go₂ e (ℕ-discrete (recordRefusal kind bytes) 0)
 
-pub end-not-length : Second·End ≡ Second·Length → ⊥
+pub end-not-length : End ≡ Length → ⊥
 end-not-length e = omega (arith, ap (λ s. endOf s 1 0) e)
 
 -- then the ends fit the ledger's entries
-pub ends-fit-entries : (kind : Kind) (bytes ledger : List ℕ) → AllBelow 256 bytes → (kind .second ≡ Second·Length → kind .sized ≡ true) → Sound kind bytes ledger
+pub ends-fit-entries : (kind : Kind) (bytes ledger : List ℕ) → AllBelow 256 bytes → (kind .second ≡ Length → kind .sized ≡ true) → Sound kind bytes ledger
     → endsAtMost largest (savedPairs kind bytes) ≡ true
 unfolding fileLengthOf
 ends-fit-entries kind bytes ledger below sized s = go (kind .second) refl
@@ -122,9 +122,9 @@ ends-fit-entries kind bytes ledger below sized s = go (kind .second) refl
     body : AllBelow 256 (bodyOf bytes)
     body = below-drop 256 6 bytes below
 
-    go : (t : Second) → kind .second ≡ t → endsAtMost largest (savedPairs kind bytes) ≡ true
-    go Second·End e = rw e (ends-fit (length (pairPart kind bytes) / pairLength) (pairPart kind bytes) (below-drop 256 (headLength kind) (bodyOf bytes) body))
-    go Second·Length e =
+    go : (t : SecondNumber) → kind .second ≡ t → endsAtMost largest (savedPairs kind bytes) ≡ true
+    go End e = rw e (ends-fit (length (pairPart kind bytes) / pairLength) (pairPart kind bytes) (below-drop 256 (headLength kind) (bodyOf bytes) body))
+    go Length e =
         endsAtMost-more (fileLengthOf bytes) largest 0 (savedPairs kind bytes) (refusal-sound kind bytes (s .right) .ruled) (omega (arith, eight-lt (bodyOf bytes) body))
         (s .ends (sized e))
 
@@ -148,11 +148,7 @@ module _ (kind : Kind) (bytes ledger : List ℕ) where
   not-beyond n s = exceeds-none (fileLengthOf bytes) (savedPairs kind bytes) (λ x. n (s, x))
 
   beyond-65 : lengthWrong ledger ≡ false → recordRefusal kind bytes ≡ 0 → (TooMany kind bytes ledger → ⊥) → Beyond kind bytes → readRefusal kind bytes ledger ≡ 65
-  beyond-65 l r m b = number-65 kind bytes ledger l r (omega arith) (b .0) (go (endsAtMost (fileLengthOf bytes) (savedPairs kind bytes)) refl)
-    where
-      go : (t : Bool) → endsAtMost (fileLengthOf bytes) (savedPairs kind bytes) ≡ t → t ≡ false
-      go true e = absurd (exceeds-not (fileLengthOf bytes) (savedPairs kind bytes) e (b .1))
-      go false e = refl
+  beyond-65 l r m b = number-65 kind bytes ledger l r (omega arith) (b .0) (exceeds-false (fileLengthOf bytes) (savedPairs kind bytes) (b .1))
 
   judged-only : (k : ℕ) → ReadingJudged kind bytes ledger k → k ≡ readRefusal kind bytes ledger
   judged-only k (by-53 n) = sym (number-53 kind bytes ledger (wrong-length ledger n))
@@ -213,7 +209,7 @@ module _ (bytes ledger : List ℕ) where
   unfolding readSized
   sized-refused h = rw (lt-ltb 0 (readRefusal kindTwo bytes ledger) h)
 
-  pub sized-done : readRefusal kindTwo bytes ledger ≡ 0 → readSized bytes ledger ≡ Length (fileLengthOf bytes)
+  pub sized-done : readRefusal kindTwo bytes ledger ≡ 0 → readSized bytes ledger ≡ FileLength (fileLengthOf bytes)
   unfolding readSized
   sized-done e = rw e
 

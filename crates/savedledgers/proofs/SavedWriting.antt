@@ -23,7 +23,7 @@ use Rattle.ledger.proofs.LedgerRefusal.{refusal-53, refusal-1, refusal-none, re
 use Rattle.savedledgers.specs.Numbers.{numberBytes}
 use Rattle.savedrecords.specs.Kind.{kindOne}
 use Rattle.savedrecords.specs.Record.{pairBytes, recordOf}
-use Rattle.savedrecords.specs.declared.kind.Second.the-variants.{End}
+use Rattle.savedrecords.specs.declared.kind.SecondNumber.the-variants.{End}
 use Rattle.savedrecords.proofs.RecordPairs.{length-pairBytes}
 use Rattle.savedrecords.proofs.RecordBytes.{record-bytes}
 use Rattle.savedrecords.proofs.RecordRoundTrip.{length-recordOf}

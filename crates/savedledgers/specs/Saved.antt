@@ -14,7 +14,7 @@ use Rattle.savedrecords.specs.Kind.{kindOne, kindTwo}
 use Rattle.savedrecords.specs.Record.{fileLengthOf, savedPairs, recordRefusal, lengthRefusal, recordOf}
 use Rattle.savedrecords.specs.declared.kind.Kind.{Kind}
 use Rattle.savedledgers.specs.declared.loaded_for.LoadedFor.{LoadedFor}
-use Rattle.savedledgers.specs.declared.loaded_for.LoadedFor.the-variants.{Length, Refused as NotLoaded}
+use Rattle.savedledgers.specs.declared.loaded_for.LoadedFor.the-variants.{FileLength, Refused as NotLoaded}
 
 -- ---- the reader of each kind: 53, 61, 62, 63; 64 where there are more pairs than the ledger has; 65 where an end is above the file length that the
 -- record has; 0 where it reads
@@ -38,18 +38,18 @@ readSavedAfter = readAfter kindOne
 
 -- kind 2 answers the file length
 unfoldable pub readSized : List ℕ → List ℕ → LoadedFor
-readSized bytes ledger = cond (ltb 0 (readRefusal kindTwo bytes ledger)) (NotLoaded (readRefusal kindTwo bytes ledger)) (Length (fileLengthOf bytes))
+readSized bytes ledger = cond (ltb 0 (readRefusal kindTwo bytes ledger)) (NotLoaded (readRefusal kindTwo bytes ledger)) (FileLength (fileLengthOf bytes))
 
 abbrev pub readSizedAfter : List ℕ → List ℕ → List ℕ
 readSizedAfter = readAfter kindTwo
 
 -- document 02's number of its answer, 0 where nothing is refused, and the file length, 0 where it is refused
 unfoldable pub loadedForNumber : LoadedFor → ℕ
-loadedForNumber (Length f) = 0
+loadedForNumber (FileLength f) = 0
 loadedForNumber (NotLoaded k) = k
 
 unfoldable pub loadedForLength : LoadedFor → ℕ
-loadedForLength (Length f) = f
+loadedForLength (FileLength f) = f
 loadedForLength (NotLoaded k) = 0
 
 -- ---- the writer, of kind 1: 53, 1, 55; 0 where it writes

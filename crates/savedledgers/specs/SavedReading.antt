@@ -13,7 +13,7 @@ use Rattle.savedrecords.specs.Record.{fileLengthOf, savedPairs}
 use Rattle.savedrecords.specs.RecordCases.{RightRecord, RecordJudged, Exceeds}
 use Rattle.savedrecords.specs.declared.kind.Kind.{Kind}
 use Rattle.savedledgers.specs.Saved.{readRefusal, readAfter, readSaved, readSized, loadedForNumber, loadedForLength}
-use Rattle.savedledgers.specs.declared.loaded_for.LoadedFor.the-variants.{Length}
+use Rattle.savedledgers.specs.declared.loaded_for.LoadedFor.the-variants.{FileLength}
 
 -- the length of a ledger that is not refused
 pub record RightLength (ledger : List ℕ) : Type 0 where
@@ -56,5 +56,5 @@ pub record SavedAnswers (bytes ledger : List ℕ) : Type 0 where
   pub one-number : loadedNumber (readSaved bytes ledger) ≡ readRefusal kindOne bytes ledger
   pub one-read : readRefusal kindOne bytes ledger ≡ 0 → readSaved bytes ledger ≡ Done
   pub two-number : loadedForNumber (readSized bytes ledger) ≡ readRefusal kindTwo bytes ledger
-  pub two-read : readRefusal kindTwo bytes ledger ≡ 0 → (readSized bytes ledger ≡ Length (fileLengthOf bytes)) × (loadedForLength (readSized bytes ledger) ≡ fileLengthOf bytes)
+  pub two-read : readRefusal kindTwo bytes ledger ≡ 0 → (readSized bytes ledger ≡ FileLength (fileLengthOf bytes)) × (loadedForLength (readSized bytes ledger) ≡ fileLengthOf bytes)
   pub two-refused : 0 < readRefusal kindTwo bytes ledger → loadedForLength (readSized bytes ledger) ≡ 0

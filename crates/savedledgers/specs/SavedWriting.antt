@@ -10,7 +10,7 @@ use Rattle.answers.specs.Written.{Refuses, Writes}
 use Rattle.ledger.specs.Pairs.{Pairs, size}
 use Rattle.ledger.specs.Ledger.{obeys, pairsOf}
 use Rattle.savedrecords.specs.Record.{pairBytes}
-use Rattle.savedrecords.specs.declared.kind.Second.the-variants.{End}
+use Rattle.savedrecords.specs.declared.kind.SecondNumber.the-variants.{End}
 use Rattle.savedledgers.specs.Saved.{savedOf, writeSaved, writeSavedAfter}
 use Rattle.savedledgers.specs.SavedReading.{RightLength}
 

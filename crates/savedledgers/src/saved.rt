@@ -9,7 +9,7 @@ use octets::entries;
 use octets::little;
 use savedrecords::kind;
 use savedrecords::kind::Kind;
-use savedrecords::kind::Second;
+use savedrecords::kind::SecondNumber;
 use savedrecords::pair;
 use savedrecords::record;
 use savedrecords::record::PAIR_LENGTH;
@@ -21,7 +21,7 @@ ghost use lib.ListN.{length};
 ghost use Rattle.ledger.specs.Pairs.{size, ObeyFrom, endsAtMost};
 ghost use Rattle.ledger.specs.Ledger.{pairsOf, laidOut, capacity};
 ghost use Rattle.savedrecords.specs.Record.{pairsIn};
-ghost use Rattle.savedrecords.specs.declared.kind.Second.the-variants.{Length};
+ghost use Rattle.savedrecords.specs.declared.kind.SecondNumber.the-variants.{Length};
 ghost use Rattle.savedledgers.specs.Numbers.{numberBytes};
 ghost use Rattle.savedledgers.specs.Saved.{readRefusal, readAfter, readSaved, readSavedAfter, readSized, readSizedAfter, writeSaved, writeSavedAfter};
 
@@ -52,7 +52,7 @@ fn refusal(kind: Kind, bytes: &[u8], ledger: &[u64]) -> u8
 }
 
 // Fills the entries with start and end of each pair.
-fn fill(second: Second, pairs: &[u8], entries: &mut [u64])
+fn fill(second: SecondNumber, pairs: &[u8], entries: &mut [u64])
     requires { ⌜ (length (now entries) ≡ 2 * (length (now pairs) / 16)) × ObeyFrom 0 (pairsIn second (length (now pairs) / 16) (now pairs)) × (endsAtMost 18446744073709551615 (pairsIn second (length (now pairs) / 16) (now pairs)) ≡ true) ⌝ }
     ensures { λ _. ⌜ now (entries .exit) ≡ laidOut (capacity (now (entries .entry))) (pairsIn second (length (now (pairs .entry)) / 16) (now (pairs .entry))) ⌝ }
 {
@@ -104,7 +104,7 @@ pub fn read_sized(bytes: &[u8], ledger: &mut [u64]) -> LoadedFor
     if 0 < k {
         return LoadedFor::Refused(k);
     }
-    LoadedFor::Length(record::file_length(bytes))
+    LoadedFor::FileLength(record::file_length(bytes))
 }
 
 // ---- writing

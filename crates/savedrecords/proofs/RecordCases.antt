@@ -18,8 +18,8 @@ use Rattle.savedrecords.specs.Kind.{headLength, endOf}
 use Rattle.savedrecords.specs.Record.{startIn, endIn, pairPart, savedPairs, frameRefusal, recordRefusal}
 use Rattle.savedrecords.specs.RecordCases.{RightFrame, IsKind, RightBody, RightRecord, RecordJudged, by-61, by-62, by-63, is-record, Exceeds, RecordCases}
 use Rattle.savedrecords.specs.declared.kind.Kind.{Kind}
-use Rattle.savedrecords.specs.declared.kind.Second.{Second}
-use Rattle.savedrecords.specs.declared.kind.Second.the-variants.{End, Length}
+use Rattle.savedrecords.specs.declared.kind.SecondNumber.{SecondNumber}
+use Rattle.savedrecords.specs.declared.kind.SecondNumber.the-variants.{End, Length}
 use Rattle.savedrecords.proofs.RecordPairs.{filled-at}
 use Rattle.savedrecords.proofs.RecordFrame.{frame-short, frame-length-wrong, frame-kind-wrong, frame-right, frame-sound}
 use Rattle.savedrecords.proofs.RecordRefusal.{refusal-frame, refusal-head, refusal-parts, refusal-order, refusal-none, refusal-sound}
@@ -46,7 +46,7 @@ module _ (number : ℕ) (bytes : List ℕ) where
 
 -- ---- a zero pair
 
-zero-end : (second : Second) → endOf second 0 0 ≡ 0
+zero-end : (second : SecondNumber) → endOf second 0 0 ≡ 0
 zero-end End = refl
 zero-end Length = refl
 
@@ -75,6 +75,13 @@ exceeds-none f ps n = go (endsAtMost f ps) refl
     go : (t : Bool) → endsAtMost f ps ≡ t → t ≡ true
     go true e = refl
     go false e = absurd (n (exceeds-some f ps e))
+
+pub exceeds-false : (f : ℕ) (ps : Pairs) → Exceeds f ps → endsAtMost f ps ≡ false
+exceeds-false f ps x = go (endsAtMost f ps) refl
+  where
+    go : (t : Bool) → endsAtMost f ps ≡ t → t ≡ false
+    go true e = absurd (exceeds-not f ps e x)
+    go false e = refl
 
 -- ---- the cases
 

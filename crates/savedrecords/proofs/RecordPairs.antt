@@ -16,18 +16,18 @@ use Rattle.ledger.specs.Pairs.{Pairs, none, pair, size, ObeyFrom, endsAtMost, o
 use Rattle.ledger.specs.Ledger.{largest}
 use Rattle.savedrecords.specs.Kind.{secondOf}
 use Rattle.savedrecords.specs.Record.{startIn, endIn, pairsIn, pairBytes, mayFollow, lastEnd}
-use Rattle.savedrecords.specs.declared.kind.Second.{Second}
-use Rattle.savedrecords.specs.declared.kind.Second.the-variants.{End}
+use Rattle.savedrecords.specs.declared.kind.SecondNumber.{SecondNumber}
+use Rattle.savedrecords.specs.declared.kind.SecondNumber.the-variants.{End}
 use Rattle.savedrecords.proofs.KindNumbers.{endOf-secondOf, secondOf-endOf, secondOf-le}
 
 -- ---- lengths
 
-pub size-pairsIn : (second : Second) (n : ℕ) (bytes : List ℕ) → size (pairsIn second n bytes) ≡ n
+pub size-pairsIn : (second : SecondNumber) (n : ℕ) (bytes : List ℕ) → size (pairsIn second n bytes) ≡ n
 unfolding size pairsIn
 size-pairsIn second zero bytes = refl
 size-pairsIn second (suc n) bytes = ap suc (size-pairsIn second n (drop 16 bytes))
 
-pub length-pairBytes : (second : Second) (ps : Pairs) → length (pairBytes second ps) ≡ 16 * size ps
+pub length-pairBytes : (second : SecondNumber) (ps : Pairs) → length (pairBytes second ps) ≡ 16 * size ps
 unfolding pairBytes size
 length-pairBytes second none = refl
 length-pairBytes second (pair a b ps) =
@@ -75,7 +75,7 @@ obeyFrom-pair start len a e n ps l = go (decLt a e)
     go (no h) = rw (follows-empty start len a n (omega arith), le-ltb a e (omega arith)) (and-false (leb (lowestAfter start len) a))
 
 -- the k-th pair is looked at
-pub obeyFrom-turn : (second : Second) (bytes : List ℕ) (m k start len a n : ℕ) → k < m → let part = drop (16 * k) bytes in
+pub obeyFrom-turn : (second : SecondNumber) (bytes : List ℕ) (m k start len a n : ℕ) → k < m → let part = drop (16 * k) bytes in
     a ≡ startIn part → n ≡ endIn second part - startIn part
     → obeyFrom (lowestAfter start len) (pairsIn second (m - k) part)
     ≡ (mayFollow start len a n && obeyFrom (lowestAfter a n) (pairsIn second (m - (k + 1)) (drop (16 * (k + 1)) bytes)))
@@ -87,7 +87,7 @@ obeyFrom-turn second bytes m k start len a n h s l =
 
 -- ---- the last end
 
-pub lastEnd-pairsIn : (second : Second) (n : ℕ) (bytes : List ℕ) → lastEnd (pairsIn second (suc n) bytes) ≡ endIn second (drop (16 * n) bytes)
+pub lastEnd-pairsIn : (second : SecondNumber) (n : ℕ) (bytes : List ℕ) → lastEnd (pairsIn second (suc n) bytes) ≡ endIn second (drop (16 * n) bytes)
 unfolding pairsIn lastEnd
 lastEnd-pairsIn second zero bytes = refl
 lastEnd-pairsIn second (suc n) bytes =
@@ -113,7 +113,7 @@ endsAtMost-more f g lo ps o h e =
 
 -- ---- one of the pairs
 
-module _ (second : Second) where
+module _ (second : SecondNumber) where
   -- none by the rule is empty
   pub filled-at : (n k lo : ℕ) (bytes : List ℕ) → k < n → ObeyFrom lo (pairsIn second n bytes)
       → startIn (drop (16 * k) bytes) < endIn second (drop (16 * k) bytes)
@@ -161,7 +161,7 @@ module _ (second : Second) where
 pub eight-back : (n : ℕ) (t : List ℕ) → n < 2 ^ 64 → fromLittleEndian 256 (take 8 (toLittleEndian 256 8 n ++ t)) ≡ n
 eight-back n t h = rw (take-at (toLittleEndian 256 8 n) t 8 (length-toLittle 256 8 n)) (little-reads-back 256 8 n (omega arith) h)
 
-pub pairsIn-pairBytes : (second : Second) (lo : ℕ) (ps : Pairs) → ObeyFrom lo ps → endsAtMost largest ps ≡ true
+pub pairsIn-pairBytes : (second : SecondNumber) (lo : ℕ) (ps : Pairs) → ObeyFrom lo ps → endsAtMost largest ps ≡ true
     → pairsIn second (size ps) (pairBytes second ps) ≡ ps
 unfolding pairsIn pairBytes size endsAtMost
 pairsIn-pairBytes second lo none o h = refl
@@ -198,7 +198,7 @@ ends-fit (suc n) bytes b =
     let e = eight-lt (drop 8 bytes) (below-drop 256 8 bytes b) in
     rw (le-leb (fromLittleEndian 256 (take 8 (drop 8 bytes))) largest (omega (arith, e))) (ends-fit n (drop 16 bytes) (below-drop 256 16 bytes b))
 
-pub pairBytes-pairsIn : (second : Second) (n : ℕ) (bytes : List ℕ) → AllBelow 256 bytes → length bytes ≡ 16 * n
+pub pairBytes-pairsIn : (second : SecondNumber) (n : ℕ) (bytes : List ℕ) → AllBelow 256 bytes → length bytes ≡ 16 * n
     → pairBytes second (pairsIn second n bytes) ≡ bytes
 unfolding pairsIn pairBytes
 pairBytes-pairsIn second zero [] b h = refl

@@ -6,8 +6,8 @@
 use Prim.Native.Nat.{ℕ, _+_, _-_}
 use mathlib.Core.Bool.{true, false, cond}
 use Rattle.savedrecords.specs.declared.kind.Kind.{Kind}
-use Rattle.savedrecords.specs.declared.kind.Second.{Second}
-use Rattle.savedrecords.specs.declared.kind.Second.the-variants.{End, Length}
+use Rattle.savedrecords.specs.declared.kind.SecondNumber.{SecondNumber}
+use Rattle.savedrecords.specs.declared.kind.SecondNumber.the-variants.{End, Length}
 
 -- start and end of each pair
 abbrev pub kindOne : Kind
@@ -22,11 +22,11 @@ abbrev pub headLength : Kind → ℕ
 headLength kind = cond (kind .sized) 8 0
 
 -- where a pair ends whose numbers are a and s, in whole numbers
-abbrev pub endOf : Second → ℕ → ℕ → ℕ
+abbrev pub endOf : SecondNumber → ℕ → ℕ → ℕ
 endOf End a s = s
 endOf Length a s = a + s
 
 -- the second number of a pair from a to e
-abbrev pub secondOf : Second → ℕ → ℕ → ℕ
+abbrev pub secondOf : SecondNumber → ℕ → ℕ → ℕ
 secondOf End a e = e
 secondOf Length a e = e - a

@@ -10,7 +10,7 @@ use Rattle.frames.specs.Frame.{fieldLength, frameLength, lengthField, kindOf, b
 use Rattle.ledger.specs.Pairs.{Pairs, none, pair, obeyFrom, endsAtMost}
 use Rattle.savedrecords.specs.Kind.{headLength, endOf, secondOf}
 use Rattle.savedrecords.specs.declared.kind.Kind.{Kind}
-use Rattle.savedrecords.specs.declared.kind.Second.{Second}
+use Rattle.savedrecords.specs.declared.kind.SecondNumber.{SecondNumber}
 
 -- ---- pairs in bytes, each number in eight of them, little-endian
 
@@ -21,22 +21,18 @@ pairLength = 16
 abbrev pub startIn : List ℕ → ℕ
 startIn bytes = fromLittleEndian 256 (take 8 bytes)
 
-abbrev pub endIn : Second → List ℕ → ℕ
+abbrev pub endIn : SecondNumber → List ℕ → ℕ
 endIn second bytes = endOf second (startIn bytes) (fromLittleEndian 256 (take 8 (drop 8 bytes)))
 
 -- the first n pairs of the bytes
-unfoldable pub pairsIn : Second → ℕ → List ℕ → Pairs
+unfoldable pub pairsIn : SecondNumber → ℕ → List ℕ → Pairs
 pairsIn second zero bytes = none
 pairsIn second (suc n) bytes = pair (startIn bytes) (endIn second bytes) (pairsIn second n (drop pairLength bytes))
 
 -- the bytes of the pairs
-unfoldable pub pairBytes : Second → Pairs → List ℕ
+unfoldable pub pairBytes : SecondNumber → Pairs → List ℕ
 pairBytes second none = []
 pairBytes second (pair a b ps) = toLittleEndian 256 8 a ++ (toLittleEndian 256 8 (secondOf second a b) ++ pairBytes second ps)
-
--- a pair that starts at a and is n long may come after one that starts at `start` and is `len` long; a length of 0 says that there is none before it
-abbrev pub mayFollow : ℕ → ℕ → ℕ → ℕ → Bool
-mayFollow start len a n = (eqb len 0 || ltb (start + len) a) && ltb 0 n
 
 -- ---- a record's parts
 
@@ -53,7 +49,7 @@ savedPairs kind bytes = pairsIn (kind .second) (length (pairPart kind bytes) / p
 
 -- ---- the numbers by which it is refused
 
--- 61: fewer than 6 bytes, or a length field that is wrong; 62: another kind than the one expected; 0 where the frame is right
+-- 61: fewer than 6 bytes, or a length field that is wrong; 62: another kind than was asked for; 0 where the frame is right
 unfoldable pub frameRefusal : ℕ → List ℕ → ℕ
 frameRefusal number bytes =
     cond (not (leb frameLength (length bytes) && eqb (lengthField bytes) (length bytes - fieldLength))) 61
@@ -72,14 +68,20 @@ recordRefusal kind bytes = firstRefusal (frameRefusal (kind .number) bytes) (con
 unfoldable pub lengthRefusal : ℕ → Pairs → ℕ
 lengthRefusal f ps = cond (endsAtMost f ps) 0 65
 
--- where the last pair ends, 0 where there is none
-unfoldable pub lastEnd : Pairs → ℕ
-lastEnd none = 0
-lastEnd (pair a b none) = b
-lastEnd (pair a b (pair c d ps)) = lastEnd (pair c d ps)
-
 -- ---- its bytes
 
 -- the record of this kind with these pairs; the file length f plays no part in a kind that has none
 unfoldable pub recordOf : Kind → ℕ → Pairs → List ℕ
 recordOf kind f ps = framed (kind .number) (toLittleEndian 256 (headLength kind) f ++ pairBytes (kind .second) ps)
+
+-- ---- what the code tests in place of the ledger rule and of all ends
+
+-- a pair that starts at a and is n long may come after one that starts at `start` and is `len` long; a length of 0 says that there is none before it
+abbrev pub mayFollow : ℕ → ℕ → ℕ → ℕ → Bool
+mayFollow start len a n = (eqb len 0 || ltb (start + len) a) && ltb 0 n
+
+-- where the last pair ends, 0 where there is none
+unfoldable pub lastEnd : Pairs → ℕ
+lastEnd none = 0
+lastEnd (pair a b none) = b
+lastEnd (pair a b (pair c d ps)) = lastEnd (pair c d ps)

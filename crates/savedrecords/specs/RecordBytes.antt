@@ -10,8 +10,8 @@ use Rattle.ledger.specs.Pairs.{Pairs, none, pair, size, ObeyFrom, obeyFrom}
 use Rattle.savedrecords.specs.Kind.{kindOne, kindTwo, headLength}
 use Rattle.savedrecords.specs.Record.{pairsIn, pairBytes, fileLengthOf, savedPairs, recordOf}
 use Rattle.savedrecords.specs.declared.kind.Kind.{Kind}
-use Rattle.savedrecords.specs.declared.kind.Second.{Second}
-use Rattle.savedrecords.specs.declared.kind.Second.the-variants.{End, Length}
+use Rattle.savedrecords.specs.declared.kind.SecondNumber.{SecondNumber}
+use Rattle.savedrecords.specs.declared.kind.SecondNumber.the-variants.{End, Length}
 
 pub record RecordBytes : Type 0 where
   -- kind 1: no file length, start and end of each pair
@@ -23,14 +23,14 @@ pub record RecordBytes : Type 0 where
       → recordOf kind f ps
       ≡ toLittleEndian 256 4 (2 + (headLength kind + 16 * size ps))
       ++ (toLittleEndian 256 2 (kind .number) ++ (toLittleEndian 256 (headLength kind) f ++ pairBytes (kind .second) ps))
-  pub no-pair : (second : Second) → pairBytes second none ≡ []
+  pub no-pair : (second : SecondNumber) → pairBytes second none ≡ []
   pub next-end : (a b : ℕ) (ps : Pairs) → pairBytes End (pair a b ps) ≡ toLittleEndian 256 8 a ++ (toLittleEndian 256 8 b ++ pairBytes End ps)
   pub next-length : (a b : ℕ) (ps : Pairs) → pairBytes Length (pair a b ps) ≡ toLittleEndian 256 8 a ++ (toLittleEndian 256 8 (b - a) ++ pairBytes Length ps)
   -- read: the file length from the seventh byte on, and the pairs after it
   pub file-length : (bytes : List ℕ) → fileLengthOf bytes ≡ fromLittleEndian 256 (take 8 (drop 6 bytes))
   pub all-pairs : (kind : Kind) (bytes : List ℕ) → let part = drop (headLength kind) (drop 6 bytes) in
       savedPairs kind bytes ≡ pairsIn (kind .second) (length part / 16) part
-  pub none-read : (second : Second) (bytes : List ℕ) → pairsIn second 0 bytes ≡ none
+  pub none-read : (second : SecondNumber) (bytes : List ℕ) → pairsIn second 0 bytes ≡ none
   pub end-read : (n : ℕ) (bytes : List ℕ)
       → pairsIn End (suc n) bytes ≡ pair (fromLittleEndian 256 (take 8 bytes)) (fromLittleEndian 256 (take 8 (drop 8 bytes))) (pairsIn End n (drop 16 bytes))
   -- ends of kind 2 are whole numbers

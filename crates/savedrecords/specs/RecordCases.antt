@@ -35,7 +35,7 @@ pub record RightRecord (kind : Kind) (bytes : List ℕ) : Type 0 where
 pub data RecordJudged (kind : Kind) (bytes : List ℕ) : ℕ → Type 0 where
   -- fewer than six bytes, or a length field that is wrong
   by-61 : (RightFrame bytes → ⊥) → RecordJudged kind bytes 61
-  -- a kind other than the one expected
+  -- another kind than was asked for
   by-62 : RightFrame bytes → (IsKind kind bytes → ⊥) → RecordJudged kind bytes 62
   -- the file length or the pairs are not whole, or these break the ledger rule
   by-63 : RightFrame bytes → IsKind kind bytes → (RightBody kind bytes → ⊥) → RecordJudged kind bytes 63

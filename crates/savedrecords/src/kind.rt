@@ -3,7 +3,7 @@ ghost use mathlib.Core.Path.{_≡_};
 ghost use Rattle.savedrecords.specs.Kind.{kindOne, kindTwo, headLength};
 
 // What the second number of a pair is, after its start.
-pub enum Second {
+pub enum SecondNumber {
     End,
     Length,
 }
@@ -13,7 +13,7 @@ pub struct Kind {
     pub number: u16,
     // Whether the file length comes before the pairs, in eight bytes.
     pub sized: bool,
-    pub second: Second,
+    pub second: SecondNumber,
 }
 
 pub fn one() -> Kind
@@ -22,7 +22,7 @@ pub fn one() -> Kind
     Kind {
         number: 1,
         sized: false,
-        second: Second::End,
+        second: SecondNumber::End,
     }
 }
 
@@ -32,7 +32,7 @@ pub fn two() -> Kind
     Kind {
         number: 2,
         sized: true,
-        second: Second::Length,
+        second: SecondNumber::Length,
     }
 }
 

@@ -1,5 +1,5 @@
 // A pair of numbers in the bytes of a record.
-use crate::kind::Second;
+use crate::kind::SecondNumber;
 use octets::little;
 use sums::sum;
 ghost use mathlib.Core.Path.{_≡_};
@@ -28,17 +28,17 @@ pub fn number_at(bytes: &[u8], at: usize) -> u64
 }
 
 // The length of a pair from its two numbers.
-fn length_of(second: Second, start: u64, number: u64) -> u64
+fn length_of(second: SecondNumber, start: u64, number: u64) -> u64
     ensures { λ r. ⌜ r ≡ endOf second start number - start ⌝ }
 {
     match second {
-        Second::End => sum::saturating_sub(number, start),
-        Second::Length => number,
+        SecondNumber::End => sum::saturating_sub(number, start),
+        SecondNumber::Length => number,
     }
 }
 
 // The pair that the bytes begin with.
-pub fn first(second: Second, bytes: &[u8]) -> Pair
+pub fn first(second: SecondNumber, bytes: &[u8]) -> Pair
     ensures { λ r. ⌜ (r .start ≡ startIn (now (bytes .entry))) × (r .length ≡ endIn second (now (bytes .entry)) - startIn (now (bytes .entry))) ⌝ }
 {
     let start = number_at(bytes, 0);
@@ -64,11 +64,11 @@ pub fn may_follow(before: Pair, next: Pair) -> bool
 }
 
 // Whether the pair of these numbers ends at the limit or before.
-pub fn ends_by(second: Second, start: u64, number: u64, limit: u64) -> bool
+pub fn ends_by(second: SecondNumber, start: u64, number: u64, limit: u64) -> bool
     ensures { λ r. ⌜ r ≡ leb (endOf second start number) limit ⌝ }
 {
     match second {
-        Second::End => number <= limit,
-        Second::Length => sum::sum_at_most(start, number, limit),
+        SecondNumber::End => number <= limit,
+        SecondNumber::Length => sum::sum_at_most(start, number, limit),
     }
 }

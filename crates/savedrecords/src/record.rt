@@ -1,7 +1,7 @@
 // The record of a saved ledger: its parts, and the numbers by which it is refused.
 use crate::kind;
 use crate::kind::Kind;
-use crate::kind::Second;
+use crate::kind::SecondNumber;
 use crate::pair;
 use crate::pair::Pair;
 use frames::frame;
@@ -45,7 +45,7 @@ pub fn pair_part(kind: Kind, bytes: &[u8]) -> &[u8]
 }
 
 // Whether the pairs obey the ledger rule, all of them used.
-fn in_order(second: Second, pairs: &[u8]) -> bool
+fn in_order(second: SecondNumber, pairs: &[u8]) -> bool
     ensures { λ r. ⌜ r ≡ obeyFrom 0 (pairsIn second (length (now (pairs .entry)) / pairLength) (now (pairs .entry))) ⌝ }
 {
     let n = pairs.len() / PAIR_LENGTH;

@@ -59,7 +59,7 @@ pub fn meaning(number: u64) -> &'static str {
         54 => "an empty ledger has no text",
         55 => "too few bytes for the whole output",
         61 => "a saved ledger that is cut short or says a wrong length",
-        62 => "a saved record of a kind other than the one expected",
+        62 => "a saved record of another kind than was asked for",
         63 => "a saved ledger whose file length or pairs are not whole, or whose pairs break the ledger's rule",
         64 => "a saved ledger of more pairs than the ledger has",
         65 => "a saved ledger with an end above the file length",

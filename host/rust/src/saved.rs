@@ -29,7 +29,7 @@ pub fn read(bytes: &[u8], ledger: &mut [u64]) -> Result<(), Refusal> {
 
 /// Fills the ledger with a saved one of kind 2, and answers the length of the file that it is for. Refused it changes
 /// nothing.
-pub fn read_sized(bytes: &[u8], ledger: &mut [u64]) -> Result<u64, Refusal> {
+pub fn read_kind_2(bytes: &[u8], ledger: &mut [u64]) -> Result<u64, Refusal> {
     let loaded = unsafe {
         raw::cob_saved2_read(
             bytes.as_ptr(),

@@ -191,17 +191,17 @@ fn saved_kinds() {
     let mut ledger = [7; 4];
     assert_eq!(number(saved::read(&two, &mut ledger)), 62);
     assert_eq!(ledger, [7; 4]);
-    assert_eq!(saved::read_sized(&two, &mut ledger).unwrap(), 100);
+    assert_eq!(saved::read_kind_2(&two, &mut ledger).unwrap(), 100);
     assert_eq!(ledger, [0, 90, 0, 0]);
 
-    assert_eq!(number(saved::read_sized(&two, &mut [0; 3])), 53);
-    assert_eq!(number(saved::read_sized(&two[..5], &mut ledger)), 61);
-    assert_eq!(number(saved::read_sized(&one, &mut ledger)), 62);
-    assert_eq!(number(saved::read_sized(b"\x02\0\0\0\x02\0", &mut ledger)), 63);
-    assert_eq!(number(saved::read_sized(&two, &mut [])), 64);
+    assert_eq!(number(saved::read_kind_2(&two, &mut [0; 3])), 53);
+    assert_eq!(number(saved::read_kind_2(&two[..5], &mut ledger)), 61);
+    assert_eq!(number(saved::read_kind_2(&one, &mut ledger)), 62);
+    assert_eq!(number(saved::read_kind_2(b"\x02\0\0\0\x02\0", &mut ledger)), 63);
+    assert_eq!(number(saved::read_kind_2(&two, &mut [])), 64);
     let mut short = two.clone();
     short[6] = 89;
-    assert_eq!(number(saved::read_sized(&short, &mut ledger)), 65);
+    assert_eq!(number(saved::read_kind_2(&short, &mut ledger)), 65);
     assert_eq!(number(saved::to_kind_1(&short)), 65);
     assert_eq!(number(saved::to_kind_2(89, &one)), 65);
     assert_eq!(number(saved::to_kind_2(100, &two)), 62);

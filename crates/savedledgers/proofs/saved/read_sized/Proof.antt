@@ -2,7 +2,7 @@
 use mathlib.Core.Path.{refl, sym, ap, _∙_}
 use native.Mathlib.Omega.{arith}
 use borrow.Author.Needs.{needs}
-use Rattle.savedledgers.specs.declared.loaded_for.LoadedFor.the-variants.{Length, Refused}
+use Rattle.savedledgers.specs.declared.loaded_for.LoadedFor.the-variants.{FileLength, Refused}
 use Rattle.savedledgers.proofs.SavedReading.{sized-refused, sized-done}
 use Rattle.savedledgers.proofs.saved.read_sized.Statement.{statement}
 use Rattle.savedledgers.proofs.saved.read_sized.Tie as tie
@@ -34,7 +34,7 @@ returns-2 c =
     let l = c .before .before .before .before in
     let x = l .before .before .before .before .before .args in
     let e = rw (l .before .before .two .ensures) at (l .load .ensures) in
-    (ap Length (c .file-length .ensures) ∙ sym (sized-done (x .bytes .now) (x .ledger .now) (omega (arith, e .0))), e .1)
+    (ap FileLength (c .file-length .ensures) ∙ sym (sized-done (x .bytes .now) (x .ledger .now) (omega (arith, e .0))), e .1)
 
 pub read-sized-spec : {M : Type 1} → statement M
 read-sized-spec =
