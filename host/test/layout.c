@@ -205,9 +205,11 @@ static int kinds(void)
            again.length == 22 && memcmp(one, back, sizeof one) == 0 && cob_saved_read(two, sizeof two, to, 2) == 62 &&
            cob_saved2_read(one, sizeof one, to, 2).refused == 62 && cob_saved2_read(two, 13, to, 2).refused == 61 &&
            cob_saved2_read(TEXT("\x09\0\0\0\x02\0\0\0\0\0\0\0\0"), to, 2).refused == 63 &&
-           cob_saved2_read(two, sizeof two, to, 0).refused == 64 && cob_saved2_read(two, sizeof two, to, 1).refused == 53 &&
+           cob_saved2_read(two, sizeof two, to, 0).refused == 64 &&
+           cob_saved2_read(two, sizeof two, to, 1).refused == 53 &&
            cob_saved_to_2(89, one, sizeof one, two, sizeof two).refused == 65 &&
-           cob_saved_to_2(90, one, sizeof one, two, 29).refused == 55 && cob_saved_to_1(one, sizeof one, back, 22).refused == 62;
+           cob_saved_to_2(90, one, sizeof one, two, 29).refused == 55 &&
+           cob_saved_to_1(one, sizeof one, back, sizeof back).refused == 62;
 }
 
 static int shows(uint8_t verdict, uint64_t ended, uint64_t count, uint64_t bytes, uint64_t doubted)

@@ -1,5 +1,17 @@
 //! Saved ledgers: kind 1, with start and end of each range, and kind 2, with the length of the file and start and length of
 //! each range.
+//!
+//! ```
+//! use cobnutter::saved;
+//!
+//! let ledger = [0, 90, 0, 0]; // bytes 0 to 89
+//! let kept = saved::to_kind_2(100, &saved::write(&ledger)?)?;
+//!
+//! let mut again = [0; 4];
+//! assert_eq!(saved::read_kind_2(&kept, &mut again)?, 100);
+//! assert_eq!(again, ledger);
+//! # Ok::<(), cobnutter::Refusal>(())
+//! ```
 
 use crate::raw;
 use crate::written::{pairs, written};

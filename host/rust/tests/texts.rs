@@ -197,7 +197,10 @@ fn saved_kinds() {
     assert_eq!(number(saved::read_kind_2(&two, &mut [0; 3])), 53);
     assert_eq!(number(saved::read_kind_2(&two[..5], &mut ledger)), 61);
     assert_eq!(number(saved::read_kind_2(&one, &mut ledger)), 62);
-    assert_eq!(number(saved::read_kind_2(b"\x02\0\0\0\x02\0", &mut ledger)), 63);
+    assert_eq!(
+        number(saved::read_kind_2(b"\x02\0\0\0\x02\0", &mut ledger)),
+        63
+    );
     assert_eq!(number(saved::read_kind_2(&two, &mut [])), 64);
     let mut short = two.clone();
     short[6] = 89;
@@ -402,7 +405,7 @@ fn every_number_has_words() {
         31..=36,
         41..=43,
         51..=55,
-        61..=64,
+        61..=65,
         71..=71,
         73..=74,
     ];
