@@ -17,14 +17,19 @@ pub struct Pair {
     pub length: u64,
 }
 
-// The number in the eight bytes from `at` on, or in those of them that are there.
+// The number in the eight bytes from `at` on, or in those of them that are there. Where all are there they are lent as eight, of which the
+// compiler makes one load.
 pub fn number_at(bytes: &[u8], at: usize) -> u64
     ensures { λ r. ⌜ r ≡ fromLittleEndian 256 (take 8 (drop at (now (bytes .entry)))) ⌝ }
 {
     if bytes.len() < at {
         return 0;
     }
-    little::read(&bytes[at..])
+    let rest = &bytes[at..];
+    if rest.len() < 8 {
+        return little::read(rest);
+    }
+    little::read(&rest[0..8])
 }
 
 // The length of a pair from its two numbers.
