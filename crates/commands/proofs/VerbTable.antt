@@ -3,7 +3,7 @@ use Prim.Native.Nat.{ℕ, zero, suc, _+_, _-_, _≤_, _<_}
 use mathlib.Core.Path.{_≡_, refl, ap}
 use mathlib.Core.Logic.{inl, inr, ⊎-elim}
 use mathlib.Core.Bool.{Bool, true, false, _&&_, and-eq-true-iff, and-false}
-use mathlib.Core.List.{List, [], _∷_}
+use mathlib.Core.List.{List, [], _∷_, map}
 use native.Mathlib.Omega.{arith}
 use native.Mathlib.Numerals.{add-one}
 use native.Mathlib.Decide.{ℕ-discrete}
@@ -11,7 +11,8 @@ use borrow.Author.Tests.{eq-eqb, ne-eqb, eqb-true}
 use lib.Dec.{eqb}
 use lib.ListN.{length, getD, drop, drop-of-length-le}
 use lib.Seq.{drop-cons}
-use Rattle.commands.specs.Line.{verbs, takesNoArgument, equalTexts, verbNumberFrom}
+use Rattle.texts.specs.Text.{isLetter, all}
+use Rattle.commands.specs.Line.{upper, verbs, takesNoArgument, equalTexts, verbNumberFrom}
 use Rattle.commands.specs.Accepted.{TakesNoArgument}
 
 -- ---- two words
@@ -101,6 +102,15 @@ four-letters v h = eqb-true (length (getD verbs v [])) 4 (each-below (λ v. eqb 
 pub own-number : (v : ℕ) → v < 12 → verbNumberFrom 1 verbs (getD verbs v []) ≡ suc v
 unfolding allBelow verbNumberFrom equalTexts
 own-number v h = eqb-true (verbNumberFrom 1 verbs (getD verbs v [])) (suc v) (each-below (λ v. eqb (verbNumberFrom 1 verbs (getD verbs v [])) (suc v)) 12 refl v h)
+
+-- every verb is capital letters
+pub own-letters : (v : ℕ) → v < 12 → all isLetter (getD verbs v []) ≡ true
+unfolding allBelow all
+own-letters v h = each-below (λ v. all isLetter (getD verbs v [])) 12 refl v h
+
+pub own-capitals : (v : ℕ) → v < 12 → map upper (getD verbs v []) ≡ getD verbs v []
+unfolding allBelow equalTexts
+own-capitals v h = equal-texts (map upper (getD verbs v [])) (getD verbs v []) (each-below (λ v. equalTexts (map upper (getD verbs v [])) (getD verbs v [])) 12 refl v h)
 
 -- ---- PASV and SPAS
 

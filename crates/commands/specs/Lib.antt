@@ -1,5 +1,7 @@
 pub mod Line
+pub mod LineAnswers
 pub mod VerbNames
 pub mod Letters
 pub mod Accepted
+pub mod WrittenLines
 pub mod Refused

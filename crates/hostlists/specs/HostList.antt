@@ -87,3 +87,7 @@ refusalNumber (Refused k) = k
 unfoldable pub count : Hosts → ℕ
 count (Count n) = n
 count (Refused k) = 0
+
+-- how many host-ports the text itself has, 0 where it is no list
+unfoldable pub hostCount : List ℕ → ℕ
+hostCount text = count (answerOf (hostsOf text))

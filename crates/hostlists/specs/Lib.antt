@@ -1,2 +1,3 @@
 pub mod HostList
 pub mod HostLists
+pub mod HostCounts

@@ -6,6 +6,7 @@ pub mod OneRange
 pub mod RangeMerging
 mod RangeUnion
 pub mod RangeReading
+pub mod MalformedRanges
 pub mod RangeWriting
 mod RangeRoundTrip
 pub mod RangeLists

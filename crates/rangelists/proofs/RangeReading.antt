@@ -89,7 +89,7 @@ module _ (text ledger : List ℕ) (w : lengthWrong ledger ≡ false) where
   unfolding rangesOf
   row-is = row-from (capacity ledger) [] (parts text) none (no-range none)
 
-  answer-is : readRanges text ledger ≡ loaded (rangesOf (capacity ledger) text)
+  pub answer-is : readRanges text ledger ≡ loaded (rangesOf (capacity ledger) text)
   unfolding readRanges
   answer-is = rw w
 

@@ -1,7 +1,7 @@
 -- Restart range lists (document 01, "Control lines"): a-b with commas between, both ends counted, in any order, overlapping or repeated.
-use Prim.Native.Nat.{ℕ, suc, _-_, _<_, max}
+use Prim.Native.Nat.{ℕ, suc, _+_, _-_, _<_, max}
 use mathlib.Core.Path.{_≡_}
-use mathlib.Core.Bool.{Bool, true, cond, _&&_}
+use mathlib.Core.Bool.{Bool, true, false, cond, _&&_, _||_}
 use mathlib.Core.List.{List, [], _∷_, _++_}
 use lib.Dec.{leb, ltb, eqb}
 use lib.ListN.{length, getD, take, drop, replicate}
@@ -55,6 +55,27 @@ prependToFirst b (t ∷ ts) = (b ∷ t) ∷ ts
 unfoldable pub parts : List ℕ → List (List ℕ)
 parts [] = [] ∷ []
 parts (b ∷ bs) = cond (eqb b 44) ([] ∷ parts bs) (prependToFirst b (parts bs))
+
+unfoldable pub isMalformed : Range → Bool
+isMalformed Malformed = true
+isMalformed (Places s e) = false
+
+-- one of the texts is malformed
+unfoldable pub someMalformed : List (List ℕ) → Bool
+someMalformed [] = false
+someMalformed (t ∷ ts) = isMalformed (rangeOf t) || someMalformed ts
+
+-- how many of the texts are ranges
+unfoldable pub rangesAmong : List (List ℕ) → ℕ
+rangesAmong [] = 0
+rangesAmong (t ∷ ts) = cond (isMalformed (rangeOf t)) 0 1 + rangesAmong ts
+
+-- of a list's text: whether one of its ranges is malformed, and how many are not
+unfoldable pub hasMalformed : List ℕ → Bool
+hasMalformed text = someMalformed (parts text)
+
+unfoldable pub rangeCount : List ℕ → ℕ
+rangeCount text = rangesAmong (parts text)
 
 -- what a list says: the merged set, or the number of the first trouble in reading order
 pub data Merged : Type 0 where
