@@ -1,14 +1,16 @@
--- No argument is longer than 2,041 bytes, and each verb has a line for each argument that it can have: `WrittenLines` holds.
+-- No argument is longer than 2,041 bytes, and each verb has its lines: `WrittenLines` holds.
 use Prim.Native.Nat.{ℕ, _+_, _-_, _≤_, _<_}
 use mathlib.Core.Path.{_≡_, refl, sym, ap, _∙_}
-use mathlib.Core.Logic.{⊎-elim, _≢_}
-use mathlib.Core.List.{List, [], _∷_, _++_}
+use mathlib.Core.Logic.{⊎-elim, inl, _≢_}
+use mathlib.Core.List.{List, [], _∷_, _++_, append-nil}
 use native.Mathlib.Omega.{arith}
 use lib.ListN.{length, getD, replicate, length-append, length-replicate, length-map}
 use Rattle.commands.specs.Line.{upper, verbs}
 use Rattle.commands.specs.Accepted.{Printable, IsVerb, TakesNoArgument, CommandLine}
+use Rattle.commands.specs.Refused.{RefusedBy, by-35-missing}
 use Rattle.commands.specs.WrittenLines.{WrittenLines}
 use Rattle.commands.proofs.VerbTable.{four-letters, own-letters, own-capitals, no-argument-dec}
+use Rattle.commands.proofs.Printable.{printable-at, letters-printable}
 use Rattle.commands.proofs.LineParts.{crLf}
 
 verb-length : (word : List ℕ) (v : ℕ) → IsVerb word v → length word ≡ 4
@@ -55,5 +57,12 @@ without v b =
       first = λ e. omega arith;
     }
 
+missing : (v : ℕ) → 0 < v → v ≤ 12 → (TakesNoArgument v → ⊥) → RefusedBy (getD verbs (v - 1) [] ++ crLf) 35
+missing v l h takes =
+    let n = named v l h in
+    let name = getD verbs (v - 1) [] in
+    by-35-missing name name v 0 (omega (arith, line-length name [] v 0 n)) refl (printable-at name (letters-printable name (n .letters)))
+    (record { whole = sym (append-nil name); verb-is = n; followed = inl refl }) takes
+
 pub written-lines : WrittenLines
-written-lines = record { longest-argument = longest; with-argument = with-one; without-argument = without }
+written-lines = record { longest-argument = longest; with-argument = with-one; without-argument = without; missing-argument = missing }

@@ -3,5 +3,5 @@ pub mod LineAnswers
 pub mod VerbNames
 pub mod Letters
 pub mod Accepted
-pub mod WrittenLines
 pub mod Refused
+pub mod WrittenLines

@@ -1,0 +1,4 @@
+pub mod Console
+pub mod Rows
+pub mod Table
+pub mod Sessions
