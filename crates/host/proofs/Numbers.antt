@@ -1,5 +1,9 @@
 -- `Numbers` holds.
 use mathlib.Core.Path.{_≡_, refl}
+use mathlib.Core.Bool.{Bool, true, false}
+use native.Mathlib.Omega.{arith}
+use borrow.Author.Tests.{lt-ltb, ne-eqb}
+use lib.Dec.{ltb}
 use Rattle.eblock.specs.Header.{refusalNumber as headerNumber}
 use Rattle.eblock.specs.declared.header.Header.{Header}
 use Rattle.eblock.specs.declared.header.Header.the-variants.{Data, Eodc, Refused as NotRead}
@@ -18,12 +22,19 @@ use Rattle.savedledgers.specs.declared.loaded_for.LoadedFor.the-variants.{FileL
 use Rattle.receiver.specs.declared.show.Screen.{Screen}
 use Rattle.receiver.specs.declared.show.Screen.the-variants.{Shows, Refused as NotShown}
 use Rattle.receiver.specs.Shown.{screenNumber}
+use Rattle.verdicts.specs.Verdict.{toVerdict}
+use Rattle.verdicts.specs.declared.verdict.Verdict.{Verdict}
+use Rattle.verdicts.specs.declared.verdict.Verdict.the-variants.{Guess, Result, Suspect, Broken}
+use Rattle.console.specs.declared.state.Endpoint.{Endpoint}
+use Rattle.console.specs.declared.state.Endpoint.the-variants.{None, Listening, Connecting}
+use Rattle.host.specs.Received.{verdictCode}
 use Rattle.host.specs.Header.{fieldsOf}
 use Rattle.host.specs.Written.{writtenOf}
 use Rattle.host.specs.Loaded.{loadedForOf}
 use Rattle.host.specs.Line.{commandOf}
 use Rattle.host.specs.Hosts.{hostPortCountOf}
 use Rattle.host.specs.Shown.{shownBy}
+use Rattle.host.specs.Consoles.{endpointMeant, verdictMeant, isOne, endpointCode}
 use Rattle.host.specs.Numbers.{Numbers}
 
 header : (x : Header) → fieldsOf x .refused ≡ headerNumber x
@@ -61,6 +72,21 @@ unfolding listNumber
 list (Count n) = refl
 list (NoList k) = refl
 
+yes-back : (b : Bool) → ltb 0 (isOne b) ≡ b
+yes-back true = refl
+yes-back false = refl
+
+endpoint-back : (e : Endpoint) → endpointMeant (endpointCode e) ≡ e
+endpoint-back None = refl
+endpoint-back Listening = refl
+endpoint-back Connecting = refl
+
+verdict-back : (v : Verdict) → verdictMeant (verdictCode (toVerdict v)) ≡ v
+verdict-back Guess = refl
+verdict-back Result = refl
+verdict-back Suspect = refl
+verdict-back Broken = refl
+
 pub numbers : Numbers
 numbers =
     record {
@@ -77,4 +103,9 @@ numbers =
       not-received = λ k w. refl;
       words = refl;
       list = list;
+      console-back = λ s. rw (yes-back (s .extended), endpoint-back (s .endpoint), yes-back (s .running));
+      verdict-back = verdict-back;
+      other-yes = λ n. (lt-ltb 0 (n .extended), lt-ltb 0 (n .running));
+      other-endpoint = λ n h. rw (ne-eqb n 1 (λ e. omega arith), ne-eqb n 2 (λ e. omega arith));
+      other-verdict = λ n h. rw (ne-eqb n 1 (λ e. omega arith), ne-eqb n 2 (λ e. omega arith), ne-eqb n 3 (λ e. omega arith));
     }

@@ -6,4 +6,5 @@ pub mod Loaded
 pub mod Sending
 pub mod Line
 pub mod Hosts
+pub mod Consoles
 pub mod Numbers

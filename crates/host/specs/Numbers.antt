@@ -1,7 +1,8 @@
 -- The field `refused` of what a host has is document 01's number of the answer, 0 where nothing is refused; a writer's `length` is how many bytes it wrote;
--- and a word is a code.
-use Prim.Native.Nat.{ℕ}
+-- a word is a code; and a console's state is numbers.
+use Prim.Native.Nat.{ℕ, _<_}
 use mathlib.Core.Path.{_≡_}
+use mathlib.Core.Bool.{true}
 use mathlib.Core.List.{[], _∷_, map}
 use Rattle.eblock.specs.Header.{refusalNumber as headerNumber}
 use Rattle.eblock.specs.declared.header.Header.{Header}
@@ -17,6 +18,10 @@ use Rattle.sender.specs.declared.state.Sender.{Sender}
 use Rattle.transfer.specs.Transfer.{World, guess, result, suspect, broken, verdictOf}
 use Rattle.transfer.specs.Receive.{refused, took}
 use Rattle.verdicts.specs.Verdict.{toVerdict}
+use Rattle.verdicts.specs.declared.verdict.Verdict.{Verdict}
+use Rattle.verdicts.specs.declared.verdict.Verdict.the-variants.{Guess}
+use Rattle.console.specs.declared.state.Console.{Console}
+use Rattle.console.specs.declared.state.Endpoint.the-variants.{None}
 use Rattle.receiver.specs.declared.show.Shown.{Shown}
 use Rattle.receiver.specs.declared.show.Screen.{Screen}
 use Rattle.receiver.specs.declared.show.Screen.the-variants.{Shows, Refused}
@@ -29,6 +34,8 @@ use Rattle.host.specs.Line.{commandOf}
 use Rattle.host.specs.Hosts.{hostPortCountOf}
 use Rattle.host.specs.Sending.{sentBy}
 use Rattle.host.specs.Shown.{shownBy}
+use Rattle.host.specs.Consoles.{endpointMeant, verdictMeant, consoleOf, numbersOf}
+use Rattle.host.specs.declared.consoles.ConsoleNumbers.{ConsoleNumbers}
 
 pub record Numbers : Type 0 where
   pub header : (x : Header) → fieldsOf x .refused ≡ headerNumber x
@@ -51,3 +58,10 @@ pub record Numbers : Type 0 where
   -- the codes of the words, no two alike
   pub words : map verdictCode (guess ∷ result ∷ broken ∷ suspect ∷ []) ≡ 0 ∷ 1 ∷ 2 ∷ 3 ∷ []
   pub list : (x : Hosts) → hostPortCountOf x .refused ≡ listNumber x
+  -- a console and a verdict that were handed out mean the same when they are handed back
+  pub console-back : (s : Console) → consoleOf (numbersOf s) ≡ s
+  pub verdict-back : (v : Verdict) → verdictMeant (verdictCode (toVerdict v)) ≡ v
+  -- the numbers that nothing hands out: yes, no endpoint, GUESS
+  pub other-yes : (n : ConsoleNumbers) → (0 < n .extended → consoleOf n .extended ≡ true) × (0 < n .running → consoleOf n .running ≡ true)
+  pub other-endpoint : (n : ℕ) → 2 < n → endpointMeant n ≡ None
+  pub other-verdict : (n : ℕ) → 3 < n → verdictMeant n ≡ Guess
