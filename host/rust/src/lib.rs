@@ -64,9 +64,12 @@
 //! - What a channel is given depends on no other channel, so each connection can have a thread and a clone of the
 //!   sender.
 //!
+//! [`Console`] says which code each command of a session gets, and the end of a transfer.
+//!
 //! The other modules read and write what the control channel carries and what a host saves. [`raw`] has the linked
 //! functions themselves.
 
+mod console;
 pub mod header;
 pub mod hosts;
 mod ledgers;
@@ -83,6 +86,7 @@ mod transfer;
 mod verdict;
 mod written;
 
+pub use console::{Console, Endpoint, Reply};
 pub use ledgers::Ledgers;
 pub use refusal::{meaning, Refusal};
 pub use sender::Sender;

@@ -177,6 +177,29 @@ pub struct LoadedFor {
     pub refused: u8,
 }
 
+/// A console's state. Every number means something.
+#[repr(C)]
+#[derive(Clone, Copy, Debug, Default, PartialEq, Eq)]
+pub struct Console {
+    /// 0 where MODE E was not asked for; any other number where it was.
+    pub mode_e: u8,
+    /// 1 listening, 2 connecting; any other number says no endpoint.
+    pub endpoint: u8,
+    /// 0 where no transfer runs; any other number where one does.
+    pub running: u8,
+}
+
+#[repr(C)]
+#[derive(Clone, Copy, Debug, PartialEq, Eq)]
+pub struct ConsoleAnswer {
+    /// The console from now on.
+    pub console: Console,
+    /// 0 where there is none.
+    pub code: u16,
+    /// 1 where the word SUSPECT goes with the code, else 0.
+    pub suspect: u8,
+}
+
 extern "C" {
     /// A fresh transfer for a file of `len` bytes; zeroes both ledgers.
     pub fn cob2_start(
@@ -301,4 +324,9 @@ extern "C" {
         out: *mut u8,
         out_len: usize,
     ) -> Written;
+
+    /// Answers a line of the control channel, CR LF included.
+    pub fn cob_console_line(console: Console, line: *const u8, line_len: usize) -> ConsoleAnswer;
+    /// Answers the end of a transfer: 0 GUESS, 1 RESULT, 2 BROKEN, 3 SUSPECT; any other number says GUESS.
+    pub fn cob_console_end(console: Console, verdict: u8) -> ConsoleAnswer;
 }

@@ -23,6 +23,15 @@ impl Verdict {
             _ => Verdict::Broken,
         }
     }
+
+    pub(crate) fn number(self) -> u8 {
+        match self {
+            Verdict::Guess => 0,
+            Verdict::Result => 1,
+            Verdict::Broken => 2,
+            Verdict::Suspect => 3,
+        }
+    }
 }
 
 impl fmt::Display for Verdict {

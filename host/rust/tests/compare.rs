@@ -8,6 +8,16 @@ mod stored;
 mod both;
 #[path = "compare/buffers.rs"]
 mod buffers;
+#[path = "compare/console_arguments.rs"]
+mod console_arguments;
+#[path = "compare/console_examples.rs"]
+mod console_examples;
+#[path = "compare/console_lines.rs"]
+mod console_lines;
+#[path = "compare/console_rows.rs"]
+mod console_rows;
+#[path = "compare/consoles.rs"]
+mod consoles;
 #[path = "compare/crafted.rs"]
 mod crafted;
 #[path = "compare/deliveries.rs"]

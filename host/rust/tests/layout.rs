@@ -27,6 +27,8 @@ fn sizes_and_offsets() {
     layout!(List, 16, count 0, refused 8);
     layout!(Found, 24, value 0, next 8, found 16);
     layout!(LoadedFor, 16, length 0, refused 8);
+    layout!(Console, 3, mode_e 0, endpoint 1, running 2);
+    layout!(ConsoleAnswer, 8, console 0, code 4, suspect 6);
     assert_eq!(align_of::<Transfer>(), 8);
     assert_eq!(align_of::<Sender>(), 8);
 }

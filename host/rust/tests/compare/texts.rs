@@ -137,7 +137,7 @@ fn room(random: &Random) -> usize {
 }
 
 /// The numbers of a good one, with many a 0.
-fn host_port(random: &Random) -> [String; 6] {
+pub fn host_port(random: &Random) -> [String; 6] {
     let most = *random.pick(&[0, 255, 255, 255]);
     let [a, b, c, d] = [most; 4].map(|most| *random.pick(&[0, most, random.size(most)]));
     let half = 1 + random.size(254);
@@ -173,7 +173,7 @@ fn spoil(list: &mut [[String; 6]], random: &Random) -> &'static str {
 }
 
 /// From 00 to 09, or from 000 to 099.
-fn padded(random: &Random) -> String {
+pub fn padded(random: &Random) -> String {
     let digits = random.between(1, 2);
     let most = 10usize.pow(digits as u32) - 1;
     let number = *random.pick(&[random.size(most), random.between(0, most)]);

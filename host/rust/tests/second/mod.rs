@@ -2,6 +2,7 @@
 //! apart from the proved library. An `Err` is a number of the table "Numbers the host sees", as those items leave it.
 
 pub mod block;
+pub mod console;
 pub mod control;
 mod fit;
 pub mod ledger;
