@@ -98,6 +98,11 @@ extern "C" {
 /* As final as COB_RESULT, with bytes in doubtful ranges. */
 #define COB_SUSPECT 3
 
+/* A console's endpoint: none; one that the peer connects to (PASV, SPAS); one of the peer (PORT, SPOR). */
+#define COB_NO_ENDPOINT 0
+#define COB_LISTENING 1
+#define COB_CONNECTING 2
+
 /* ---- one transfer */
 
 /*
@@ -247,6 +252,22 @@ typedef struct cob_loaded_for {
     uint8_t refused;
 } cob_loaded_for;
 
+/*
+ * A console's state, which begins as all 0. The answer holds the next one, which takes its place. Every number means
+ * something, so a host can hand over any.
+ */
+typedef struct cob_console {
+    uint8_t mode_e;   /* MODE E was asked for: 1, or any number but 0 */
+    uint8_t endpoint; /* COB_LISTENING, COB_CONNECTING; any other number: no endpoint */
+    uint8_t running;  /* a transfer is running: 1, or any number but 0 */
+} cob_console;
+
+typedef struct cob_console_answer {
+    cob_console console;
+    uint16_t code;   /* the reply code, 0 where there is none to send */
+    uint8_t suspect; /* 1 where the word SUSPECT goes with it, else 0 */
+} cob_console_answer;
+
 /* The line with its CR LF. */
 cob_command cob_line_read(const uint8_t *line, size_t line_len);
 
@@ -258,6 +279,18 @@ cob_list cob_hosts_read(const uint8_t *text, size_t text_len, uint64_t *list, si
 
 /* The host-port that begins at one place, for a host that walks a text; what stands before the place is not looked at. */
 cob_found cob_host_at(const uint8_t *text, size_t text_len, size_t at);
+
+/*
+ * The code for a line, CR LF included. From 500 on it is a refusal, by which nothing changes. To listen, to connect and to
+ * receive or send is the host's.
+ */
+cob_console_answer cob_console_line(cob_console console, const uint8_t *line, size_t line_len);
+
+/*
+ * The code for the end of the transfer with that verdict. With none running, and under COB_GUESS or a number that is no
+ * verdict, the code is 0 and nothing changes.
+ */
+cob_console_answer cob_console_end(cob_console console, uint8_t verdict);
 
 /* ---- ledgers as text and as saved bytes; where a reader answers a number, it is that of the refusal, or 0 */
 

@@ -1,6 +1,7 @@
 /*
  * The layout of every struct, and every function called from C: the screen lines of document 01, of a file sent, of one
- * that its sender suspects in part, and of a doubtful ledger that is too short.
+ * that its sender suspects in part, and of a doubtful ledger that is too short. The readers and the console
+ * print nothing.
  */
 #include "../cobnutter.h"
 
@@ -93,6 +94,16 @@ AT(cob_found, found, 16);
 SIZE(cob_loaded_for, 16);
 AT(cob_loaded_for, length, 0);
 AT(cob_loaded_for, refused, 8);
+
+SIZE(cob_console, 3);
+AT(cob_console, mode_e, 0);
+AT(cob_console, endpoint, 1);
+AT(cob_console, running, 2);
+
+SIZE(cob_console_answer, 8);
+AT(cob_console_answer, console, 0);
+AT(cob_console_answer, code, 4);
+AT(cob_console_answer, suspect, 6);
 
 static cob_transfer transfer;
 static uint8_t file[8];
@@ -247,9 +258,63 @@ static int refused(void)
            cob_start(sizeof file, claimed, 2, doubtful, 0).refused == 5 && claimed[1] == 2 && doubtful[1] == 9;
 }
 
+/* A line, or the end of the transfer where there is none: what is answered, and the console after it. */
+static const struct step {
+    const char *line;
+    uint8_t verdict;
+    cob_console_answer answer;
+} steps[] = {
+    {"SPAS\r\n", 0, {{0, COB_NO_ENDPOINT, 0}, 503, 0}},
+    {"SPOR x\r\n", 0, {{0, COB_NO_ENDPOINT, 0}, 503, 0}},
+    {"MODE E \r\n", 0, {{0, COB_NO_ENDPOINT, 0}, 504, 0}},
+    {"MODE e\r\n", 0, {{1, COB_NO_ENDPOINT, 0}, 200, 0}},
+    {"SPOR x\r\n", 0, {{1, COB_NO_ENDPOINT, 0}, 501, 0}},
+    {"SPAS\r\n", 0, {{1, COB_LISTENING, 0}, 229, 0}},
+    {"RETR a\r\n", 0, {{1, COB_LISTENING, 0}, 503, 0}},
+    {"REST 0-9,x\r\n", 0, {{1, COB_LISTENING, 0}, 501, 0}},
+    {"REST 0-9\r\n", 0, {{1, COB_LISTENING, 0}, 350, 0}},
+    {"STOR a\r\n", 0, {{1, COB_LISTENING, 1}, 150, 0}},
+    {"PASV\r\n", 0, {{1, COB_LISTENING, 1}, 503, 0}},
+    {"PASV", 0, {{1, COB_LISTENING, 1}, 500, 0}},
+    {"PASV x\r\n", 0, {{1, COB_LISTENING, 1}, 501, 0}},
+    {0, COB_GUESS, {{1, COB_LISTENING, 1}, 0, 0}},
+    {0, COB_SUSPECT, {{1, COB_NO_ENDPOINT, 0}, 226, 1}},
+    {0, COB_RESULT, {{1, COB_NO_ENDPOINT, 0}, 0, 0}},
+    {"PORT 127,0,0,1,4,0 127,0,0,1,4,1\r\n", 0, {{1, COB_NO_ENDPOINT, 0}, 501, 0}},
+    {"PORT 127,0,0,1,4,0\r\n", 0, {{1, COB_CONNECTING, 0}, 200, 0}},
+    {"ERET a\r\n", 0, {{1, COB_CONNECTING, 1}, 150, 0}},
+    {0, 4, {{1, COB_CONNECTING, 1}, 0, 0}},
+    {0, COB_BROKEN, {{1, COB_NO_ENDPOINT, 0}, 426, 0}},
+};
+
+static int same(cob_console_answer a, cob_console_answer b)
+{
+    return a.console.mode_e == b.console.mode_e && a.console.endpoint == b.console.endpoint &&
+           a.console.running == b.console.running && a.code == b.code && a.suspect == b.suspect;
+}
+
+/* Two transfers with the commands around them, and a state of numbers that the library never hands out. */
+static int console(void)
+{
+    cob_console desk = {0, COB_NO_ENDPOINT, 0}, odd = {200, 200, 200};
+    cob_console_answer taken = {{1, COB_NO_ENDPOINT, 1}, 503, 0};
+    for (size_t i = 0; i < sizeof steps / sizeof *steps; i++) {
+        const char *line = steps[i].line;
+        cob_console_answer answer = line ? cob_console_line(desk, (const uint8_t *)line, strlen(line))
+                                         : cob_console_end(desk, steps[i].verdict);
+        if (!same(answer, steps[i].answer))
+            return 0;
+        desk = answer.console;
+    }
+    return same(cob_console_line(odd, TEXT("OPTS x\r\n")), taken);
+}
+
 int main(void)
 {
     int good = start() && block(0, 0, 0, "plai") && block(1, 8, 4, "d123") && block(0, 72, 2, "") &&
                memcmp(file, "plaid123", sizeof file) == 0 && shows(COB_RESULT, 2, 2, sizeof file, 0);
-    return good && sending() && suspected() && broken() && refused() && control() && forms() && kinds() ? 0 : 1;
+    return good && sending() && suspected() && broken() && refused() && control() && forms() && kinds() &&
+                   console()
+               ? 0
+               : 1;
 }
