@@ -1,5 +1,5 @@
--- What the reader's answer says of REST's text, where 1,020 entries are lent: a pair for each of 510 ranges, the most that 2,041 bytes hold.
-use Prim.Native.Nat.{ℕ, _≤_}
+-- What the reader's answer says of REST's text, where 1,020 entries or more are lent: a pair for each of 510 ranges, the most that 2,041 bytes hold.
+use Prim.Native.Nat.{ℕ, _%_, _≤_}
 use mathlib.Core.Path.{_≡_, refl, _∙_}
 use mathlib.Core.Bool.{Bool, true, false, cond}
 use mathlib.Core.List.{List}
@@ -9,9 +9,10 @@ use Rattle.answers.specs.declared.loaded.Loaded.the-variants.{Done, Refused}
 use Rattle.rangelists.specs.RangeText.{hasMalformed, readRanges}
 use Rattle.rangelists.proofs.MalformedRanges.{malformed-ranges}
 
-module _ (text ledger : List ℕ) (short : length text ≤ 2041) (lent : length ledger ≡ 1020) where
+module _ (text ledger : List ℕ) (short : length text ≤ 2041) (even : length ledger % 2 ≡ 0) (few : length ledger ≤ 8192)
+  (lent : 1020 ≤ length ledger) where
   reads : readRanges text ledger ≡ cond (hasMalformed text) (Refused 51) Done
-  reads = malformed-ranges .by-the-text text ledger (rw lent) (omega arith) (omega (arith, malformed-ranges .four-bytes-each text))
+  reads = malformed-ranges .by-the-text text ledger even few (omega (arith, malformed-ranges .four-bytes-each text))
 
   pub done-none : Done ≡ readRanges text ledger → hasMalformed text ≡ false
   done-none e = go (hasMalformed text) (e ∙ reads)

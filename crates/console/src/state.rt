@@ -1,6 +1,6 @@
 // A console's state, and what it answers.
 ghost use mathlib.Core.Path.{_≡_};
-ghost use Rattle.console.specs.Console.{gets};
+ghost use Rattle.console.specs.Console.{beginning, gets};
 
 // Where the data connections will come from: nowhere yet, from the peer, or opened to it.
 pub enum Endpoint {
@@ -24,6 +24,17 @@ pub struct Answer {
     pub code: u16,
     // The word SUSPECT goes with it.
     pub suspect: bool,
+}
+
+// Mode E not asked for, no endpoint, no transfer running.
+pub fn beginning() -> Console
+    ensures { λ r. ⌜ r ≡ beginning ⌝ }
+{
+    Console {
+        extended: false,
+        endpoint: Endpoint::None,
+        running: false,
+    }
 }
 
 // An answer with a code and without the word.

@@ -1,5 +1,6 @@
 // Which call each kind of request makes.
 use crate::calls;
+use crate::consoles;
 use crate::control;
 use crate::conversions;
 use crate::headers;
@@ -112,6 +113,9 @@ pub fn serve(
         49 => sending::next(s, body, source),
         50 => sending::lend(s, body, source),
         51 => sending::harm(s, body),
+        56 => consoles::begin(s, body),
+        57 => consoles::line(s, body),
+        58 => consoles::end(s, body),
         _ => Turn {
             session: s,
             goes_on: read_or_write(kind, body),

@@ -1,5 +1,6 @@
 // Makes the call that each request on standard input names, and prints a line for each, until the input ends or a request is malformed.
 mod calls;
+mod consoles;
 mod control;
 mod conversions;
 mod entries;

@@ -1,10 +1,12 @@
 // What is kept from one request to the next, beside the file, the ledgers and the file that the sender is lent.
+use console::state;
+use console::state::Console;
 use receiver::receive::Receiver;
 use receiver::start;
 use sender::begin;
 use sender::state::Sender;
 
-// The receiver, and how much of the file and of either ledger a call is lent at present; the sender, and how much of its file.
+// The receiver, and how much of the file and of either ledger a call is lent at present; the sender, and how much of its file; the console.
 pub struct Session {
     pub receiver: Receiver,
     pub bytes: usize,
@@ -12,6 +14,7 @@ pub struct Session {
     pub doubtful: usize,
     pub sender: Sender,
     pub source: usize,
+    pub console: Console,
 }
 
 // The session that a request left, and whether more requests may come: none after a malformed one.
@@ -43,6 +46,7 @@ pub fn receiving(
     doubtful: usize,
 ) -> Session {
     let sender = s.sender;
+    let console = s.console;
     Session {
         receiver: receiver,
         bytes: bytes,
@@ -50,6 +54,7 @@ pub fn receiving(
         doubtful: doubtful,
         sender: sender,
         source: s.source,
+        console: console,
     }
 }
 
@@ -62,6 +67,7 @@ pub fn lending(s: Session, bytes: usize, claimed: usize, doubtful: usize) -> Ses
 // The session with another sender, and so much lent to it.
 pub fn sending(s: Session, sender: Sender, source: usize) -> Session {
     let receiver = s.receiver;
+    let console = s.console;
     Session {
         receiver: receiver,
         bytes: s.bytes,
@@ -69,10 +75,26 @@ pub fn sending(s: Session, sender: Sender, source: usize) -> Session {
         doubtful: s.doubtful,
         sender: sender,
         source: source,
+        console: console,
     }
 }
 
-// What a start with no bytes and no entries leaves, and a beginning that is refused.
+// The session with another console.
+pub fn at_console(s: Session, console: Console) -> Session {
+    let receiver = s.receiver;
+    let sender = s.sender;
+    Session {
+        receiver: receiver,
+        bytes: s.bytes,
+        claimed: s.claimed,
+        doubtful: s.doubtful,
+        sender: sender,
+        source: s.source,
+        console: console,
+    }
+}
+
+// What a start with no bytes and no entries leaves, a beginning that is refused, and a new console.
 pub fn first(claimed: &mut [u64], doubtful: &mut [u64]) -> Session {
     let started = start::start(0, &mut claimed[..0], &mut doubtful[..0]);
     let receiver = started.receiver;
@@ -85,5 +107,6 @@ pub fn first(claimed: &mut [u64], doubtful: &mut [u64]) -> Session {
         doubtful: 0,
         sender: sender,
         source: 0,
+        console: state::beginning(),
     }
 }

@@ -1,6 +1,6 @@
 -- `run`.
 use Prim.Native.Nat.{_-_}
-use mathlib.Core.Path.{_≡_}
+use mathlib.Core.Path.{_≡_, _∙_}
 use native.Mathlib.Omega.{arith}
 use borrow.Author.Needs.{needs}
 use lib.ListN.{length}
@@ -24,16 +24,24 @@ one-request-requires : tie.Need-one-request-requires Inv-loop μ-loop
 one-request-requires c κs = search needs
 
 same-length : tie.Need-same-length Inv-loop μ-loop
-same-length c = search needs
+same-length c =
+    let q = c .before .before .before .before .before .before .before .before .before .before in
+    q .one-request .kept .1 .1 .0 ∙ q .before .before .before .before .before .before .loop .inv .0
 
 same-length-2 : tie.Need-same-length-2 Inv-loop μ-loop
-same-length-2 c = search needs
+same-length-2 c =
+    let q = c .before .before .before .before .before .before .before .before .before .before in
+    q .one-request .kept .1 .1 .1 .0 ∙ q .before .before .before .before .before .before .loop .inv .1 ∙ q .before .before .before .before .before .before .before .before .before .before .before .first .kept .0
 
 same-length-3 : tie.Need-same-length-3 Inv-loop μ-loop
-same-length-3 c = search needs
+same-length-3 c =
+    let q = c .before .before .before .before .before .before .before .before .before .before in
+    q .one-request .kept .1 .1 .1 .1 .0 ∙ q .before .before .before .before .before .before .loop .inv .2 ∙ q .before .before .before .before .before .before .before .before .before .before .before .first .kept .1 .0
 
 same-length-4 : tie.Need-same-length-4 Inv-loop μ-loop
-same-length-4 c = search needs
+same-length-4 c =
+    let q = c .before .before .before .before .before .before .before .before .before .before in
+    q .one-request .kept .1 .1 .1 .1 .1 .0 ∙ q .before .before .before .before .before .before .loop .inv .3
 
 returns : tie.Need-returns Inv-loop μ-loop
 returns c = search needs

@@ -1,5 +1,6 @@
 -- `lines::has_malformed`.
 use mathlib.Core.Path.{refl, sym, _∙_}
+use native.Mathlib.Omega.{arith}
 use Rattle.console.proofs.RestRanges.{done-none, refused-some}
 use borrow.Author.Needs.{needs}
 use Rattle.console.proofs.lines.has_malformed.Statement.{statement}
@@ -20,12 +21,12 @@ enum-told-2 c = search needs
 returns : tie.Need-returns
 returns c =
     let r = c .before .before .before in
-    sym (done-none _ _ (r .before .before .before .pre) refl (sym (c .enum-told .given .1) ∙ r .read .ensures .0))
+    sym (done-none _ _ (r .before .before .before .pre) refl (omega arith) (omega arith) (sym (c .enum-told .given .1) ∙ r .read .ensures .0))
 
 returns-2 : tie.Need-returns-2
 returns-2 c =
     let r = c .before .before .before in
-    sym (refused-some _ _ (r .before .before .before .pre) refl _ (sym (c .enum-told2 .given .1) ∙ r .read .ensures .0))
+    sym (refused-some _ _ (r .before .before .before .pre) refl (omega arith) (omega arith) _ (sym (c .enum-told2 .given .1) ∙ r .read .ensures .0))
 
 pub has-malformed-spec : {M : Type 1} → statement M
 has-malformed-spec =
