@@ -1,4 +1,4 @@
--- The number and the verb of each case of an answer.
+-- The refusal number and the verb of what the line reader answers: a command, or a refusal.
 use Prim.Native.Nat.{ℕ}
 use mathlib.Core.Path.{_≡_}
 use Rattle.commands.specs.Line.{refusalNumber, verb}

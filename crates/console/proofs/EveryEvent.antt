@@ -11,7 +11,7 @@ use Rattle.commands.specs.Refused.{RefusedBy, by-31, by-32, by-33, by-34, by-35
 use Rattle.commands.proofs.Accepted.{accepted-lines}
 use Rattle.commands.proofs.Refused.{refusals}
 use Rattle.hostlists.specs.HostLists.{ListText}
-use Rattle.rangelists.specs.MalformedRanges.{SomeMalformed}
+use Rattle.rangelists.specs.MalformedRanges.{HasMalformed}
 use Rattle.verdicts.specs.declared.verdict.Verdict.{Verdict}
 use Rattle.verdicts.specs.declared.verdict.Verdict.the-variants.{Guess, Result, Suspect, Broken}
 use Rattle.console.specs.declared.state.Console.{Console}
@@ -21,12 +21,12 @@ use Rattle.console.specs.Console.{Event, line, ending}
 use Rattle.console.specs.Rows.{MODE, PASV, PORT, REST, RETR, STOR, SPAS, SPOR, ERET, ESTO, SBUF, OPTS, Row, mode-e, mode-other, too-early, spas, port, port-refused, spor, spor-refused, stor, stor-refused, retr, retr-refused, rest, rest-refused, while-running, end-of-none, outcome, modeRow, spasRow, portRow, sporRow, restRow, refusedRow, commandRow, endRow, rowOf, answerTo}
 use Rattle.console.specs.Table.{Command, IsE, IsHostPort, Table}
 use Rattle.console.proofs.Rows.{by-mode, by-pasv, by-spas, by-port, by-spor, by-stor, by-retr, by-rest, by-sbuf-opts}
-use Rattle.console.proofs.Tests.{Tests, holds, fails, tests-e, tests-host-port, tests-list, tests-malformed, tests-listening, tests-connecting}
-use Rattle.console.proofs.Sentences.{running-row, command-row, refused-row}
+use Rattle.console.proofs.Conditions.{Reflects, holds, fails, tests-e, tests-host-port, tests-list, tests-malformed, tests-listening, tests-connecting}
+use Rattle.console.proofs.Table.{running-row, command-row, refused-row}
 
 -- a number from k on is k or comes after it
-next : {R : Type 0} (v k : ℕ) → k ≤ v → (v ≡ k → R) → (k < v → R) → R
-next {R = R} v k h f g = go (ℕ-discrete v k)
+at-or-after : {R : Type 0} (v k : ℕ) → k ≤ v → (v ≡ k → R) → (k < v → R) → R
+at-or-after {R = R} v k h f g = go (ℕ-discrete v k)
   where
     go : Dec (v ≡ k) → R
     go (yes e) = f e
@@ -42,7 +42,7 @@ module _ (Answers : Console → Event → Row → Answer → Type 0) (t : Table 
   by-row s e r h a = rw h a
 
   -- one row of two, by a test
-  chosen : (s : Console) (e : Event) (P : Type 0) (b : Bool) → Tests P b → (x y : Row) → (P → Gets s e x) → ((P → ⊥) → Gets s e y) → Gets s e (cond b x y)
+  chosen : (s : Console) (e : Event) (P : Type 0) (b : Bool) → Reflects P b → (x y : Row) → (P → Gets s e x) → ((P → ⊥) → Gets s e y) → Gets s e (cond b x y)
   chosen s e P true (holds p) x y f g = f p
   chosen s e P false (fails n) x y f g = g n
 
@@ -58,7 +58,7 @@ module _ (Answers : Console → Event → Row → Answer → Type 0) (t : Table 
         go false f g = g refl
 
     -- mode E is asked for and the endpoint is at hand, or not
-    by-both : (P : Type 0) (b : Bool) → Tests P b → (x y : Row) → (s .extended ≡ true → P → Gets s (line l) x)
+    by-both : (P : Type 0) (b : Bool) → Reflects P b → (x y : Row) → (s .extended ≡ true → P → Gets s (line l) x)
         → ((s .extended ≡ false) ⊎ (P → ⊥) → Gets s (line l) y) → Gets s (line l) (cond (s .extended && b) x y)
     by-both P b k x y f g = go (s .extended) f g
       where
@@ -99,7 +99,7 @@ module _ (Answers : Console → Event → Row → Answer → Type 0) (t : Table 
 
     of-rest : Command l REST text → Gets s (line l) (restRow text)
     unfolding outcome
-    of-rest c = chosen s (line l) (SomeMalformed text) _ (tests-malformed text) rest-refused rest (t .rest-gets-501 s l text (h, c)) (t .rest-gets-350 s l text (h, c))
+    of-rest c = chosen s (line l) (HasMalformed text) _ (tests-malformed text) rest-refused rest (t .rest-gets-501 s l text (h, c)) (t .rest-gets-350 s l text (h, c))
 
     of-sbuf-opts : (v : ℕ) → Command l v text → (v ≡ SBUF) ⊎ (v ≡ OPTS) → Gets s (line l) (commandRow s v text)
     unfolding outcome
@@ -108,17 +108,17 @@ module _ (Answers : Console → Event → Row → Answer → Type 0) (t : Table 
     of-command : (v : ℕ) → 0 < v → v ≤ 12 → Command l v text → Gets s (line l) (commandRow s v text)
     unfolding outcome
     of-command v lo hi c =
-        next v MODE lo (λ e. rw (by-mode s v text e) (of-mode (rw e at c)))
-        (λ b. next v PASV b (λ e. rw (by-pasv s v text e) (t .pasv-gets-227 s l text (h, rw e at c)))
-        (λ b. next v PORT b (λ e. rw (by-port s v text e) (of-port (rw e at c)))
-        (λ b. next v REST b (λ e. rw (by-rest s v text e) (of-rest (rw e at c)))
-        (λ b. next v RETR b (λ e. of-retr v c (inl e))
-        (λ b. next v STOR b (λ e. of-stor v c (inl e))
-        (λ b. next v SPAS b (λ e. rw (by-spas s v text e) (of-spas (rw e at c)))
-        (λ b. next v SPOR b (λ e. rw (by-spor s v text e) (of-spor (rw e at c)))
-        (λ b. next v ERET b (λ e. of-retr v c (inr e))
-        (λ b. next v ESTO b (λ e. of-stor v c (inr e))
-        (λ b. next v SBUF b (λ e. of-sbuf-opts v c (inl e)) (λ b. of-sbuf-opts v c (inr (omega arith)))))))))))))
+        at-or-after v MODE lo (λ e. rw (by-mode s v text e) (of-mode (rw e at c)))
+        (λ b. at-or-after v PASV b (λ e. rw (by-pasv s v text e) (t .pasv-gets-227 s l text (h, rw e at c)))
+        (λ b. at-or-after v PORT b (λ e. rw (by-port s v text e) (of-port (rw e at c)))
+        (λ b. at-or-after v REST b (λ e. rw (by-rest s v text e) (of-rest (rw e at c)))
+        (λ b. at-or-after v RETR b (λ e. of-retr v c (inl e))
+        (λ b. at-or-after v STOR b (λ e. of-stor v c (inl e))
+        (λ b. at-or-after v SPAS b (λ e. rw (by-spas s v text e) (of-spas (rw e at c)))
+        (λ b. at-or-after v SPOR b (λ e. rw (by-spor s v text e) (of-spor (rw e at c)))
+        (λ b. at-or-after v ERET b (λ e. of-retr v c (inr e))
+        (λ b. at-or-after v ESTO b (λ e. of-stor v c (inr e))
+        (λ b. at-or-after v SBUF b (λ e. of-sbuf-opts v c (inl e)) (λ b. of-sbuf-opts v c (inr (omega arith)))))))))))))
 
   -- ---- a line
 
@@ -149,7 +149,7 @@ module _ (Answers : Console → Event → Row → Answer → Type 0) (t : Table 
         go v text c n false h = by-row s (line l) (commandRow s v text) (command-row s l v text c h) (of-command s l text h v (n .0) (n .1) c)
 
   pub every-line : (s : Console) (l : List ℕ) → Answers s (line l) (rowOf s (line l)) (answerTo s (line l))
-  every-line s l = next (refusalNumber (readOf l)) 0 (omega arith) (of-accepted s l)
+  every-line s l = at-or-after (refusalNumber (readOf l)) 0 (omega arith) (of-accepted s l)
       (λ n. let r = refusals .refused-is l n in
       by-row s (line l) (refusedRow (refusalNumber (readOf l))) (refused-row s l (refusalNumber (readOf l)) r) (of-refused s l (refusalNumber (readOf l)) r))
 

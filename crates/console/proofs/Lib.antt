@@ -1,10 +1,10 @@
 mod Rows
 mod RestRanges
 mod LineRows
-mod Tests
-mod Sentences
+mod Conditions
+mod Table
 mod EveryEvent
-mod Written
+mod ExampleLines
 mod Reached
 mod RowsMet
 pub mod Sessions

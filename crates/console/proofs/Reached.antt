@@ -1,21 +1,20 @@
 -- The states that sequences of lines and endings come to.
-use Prim.Native.Nat.{ℕ}
 use mathlib.Core.Path.{_≡_, refl, sym, ap, _∙_}
 use mathlib.Core.Logic.{_⊎_, ⊎-elim, inl, inr, _≢_}
 use mathlib.Core.Bool.{Bool, true, false, false≢true}
 use mathlib.Core.List.{List, [], _∷_, _++_}
-use native.Mathlib.Omega.{arith}
 use Rattle.console.specs.declared.state.Console.{Console}
 use Rattle.console.specs.declared.state.Endpoint.{Endpoint}
 use Rattle.console.specs.declared.state.Endpoint.the-variants.{None, Listening, Connecting}
 use Rattle.console.specs.declared.state.Answer.{Answer}
 use Rattle.console.specs.Console.{Event, line, ending, beginning, asked, atEndpoint, started}
-use Rattle.console.specs.Rows.{MODE, PASV, PORT, RETR, STOR, answerTo}
+use Rattle.console.specs.Rows.{MODE, PASV, PORT, RETR, STOR, isListening, isConnecting, answerTo}
 use Rattle.console.specs.Table.{Table}
-use Rattle.console.specs.Sessions.{after, Reached}
-use Rattle.console.proofs.Sentences.{sentences}
+use Rattle.console.specs.Sessions.{after, Reached, Possible}
+use Rattle.console.proofs.Table.{sentences}
 use Rattle.console.proofs.EveryEvent.{every-line, every-ending}
-use Rattle.console.proofs.Written.{takesArgument, lineOf, bare, bare-command, command-of, capital-e, letter-x, host-port, of-e, of-x, of-host-port, is-host-port}
+use Rattle.commands.specs.WrittenLines.{lineOf, bareLine}
+use Rattle.console.proofs.ExampleLines.{takesArgument, bare-command, command-of, capital-e, letter-x, host-port, of-e, of-x, of-host-port, is-host-port}
 
 -- ---- one event more
 
@@ -45,7 +44,7 @@ module _ (s : Console) (r : Reached s) (h : s .running ≡ false) where
       (sentences .mode-e-gets-200 s (lineOf MODE capital-e) capital-e (h, command-of MODE capital-e refl of-e) (inl refl) .1)
 
   pub listens : Reached (atEndpoint s Listening)
-  listens = next s r (line (bare PASV)) _ (sentences .pasv-gets-227 s (bare PASV) [] (h, bare-command PASV (inl refl)) .1)
+  listens = next s r (line (bareLine PASV)) _ (sentences .pasv-gets-227 s (bareLine PASV) [] (h, bare-command PASV (inl refl)) .1)
 
   pub connects : Reached (atEndpoint s Connecting)
   unfolding takesArgument
@@ -66,10 +65,6 @@ module _ (s : Console) (r : Reached s) (h : s .running ≡ false) where
       (sentences .retr-gets-150 s (lineOf RETR letter-x) letter-x RETR (h, command-of RETR letter-x refl of-x) (inl refl) m e .1)
 
 -- ---- the eight states
-
--- nothing runs, or mode E and an endpoint are there
-abbrev pub Possible : Console → Type 0
-Possible s = (s .running ≡ false) ⊎ ((s .extended ≡ true) × (s .endpoint ≢ None))
 
 pub mode-e-asked : Reached (asked beginning)
 mode-e-asked = asks-mode-e beginning at-beginning refl
@@ -105,10 +100,10 @@ not-none : (e f : Endpoint) → e ≡ f → f ≢ None → e ≢ None
 not-none e f h n k = n (sym h ∙ k)
 
 listening-is-one : Listening ≢ None
-listening-is-one e = let z : _≡_ {A = ℕ} 0 1 = cc in omega arith
+listening-is-one e = false≢true (sym (ap isListening e))
 
 connecting-is-one : Connecting ≢ None
-connecting-is-one e = let z : _≡_ {A = ℕ} 0 1 = cc in omega arith
+connecting-is-one e = false≢true (sym (ap isConnecting e))
 
 -- by every sentence a possible state leads to a possible one
 stays-possible : Table (λ s e r a. Possible s → Possible (a .console))

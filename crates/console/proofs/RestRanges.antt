@@ -10,8 +10,8 @@ use Rattle.rangelists.specs.RangeText.{hasMalformed, readRanges}
 use Rattle.rangelists.proofs.MalformedRanges.{malformed-ranges}
 
 module _ (text ledger : List ℕ) (short : length text ≤ 2041) (even : length ledger % 2 ≡ 0) (few : length ledger ≤ 8192)
-  (lent : 1020 ≤ length ledger) where
-  reads : readRanges text ledger ≡ cond (hasMalformed text) (Refused 51) Done
+    (lent : 1020 ≤ length ledger) where
+  pub reads : readRanges text ledger ≡ cond (hasMalformed text) (Refused 51) Done
   reads = malformed-ranges .by-the-text text ledger even few (omega (arith, malformed-ranges .four-bytes-each text))
 
   pub done-none : Done ≡ readRanges text ledger → hasMalformed text ≡ false

@@ -1,8 +1,8 @@
 -- Which row an argument and a verb lead to.
 use Prim.Native.Nat.{ℕ}
-use mathlib.Core.Path.{_≡_, refl}
+use mathlib.Core.Path.{_≡_, refl, sym, ap, _∙_}
 use mathlib.Core.Logic.{_⊎_, inl, inr}
-use mathlib.Core.Bool.{Bool, true, false, cond, _&&_, _||_}
+use mathlib.Core.Bool.{Bool, true, false, cond, _&&_, _||_, and-false}
 use mathlib.Core.List.{List, [], _∷_}
 use native.Mathlib.Omega.{arith}
 use borrow.Author.Tests.{ne-eqb}
@@ -11,7 +11,7 @@ use lib.ListN.{length, getD}
 use Rattle.verdicts.specs.declared.verdict.Verdict.{Verdict}
 use Rattle.console.specs.declared.state.Console.{Console}
 use Rattle.console.specs.declared.state.Answer.{Answer}
-use Rattle.console.specs.Rows.{MODE, PASV, PORT, REST, RETR, STOR, SPAS, SPOR, ERET, ESTO, SBUF, OPTS, Row, pasv, sbuf-opts, outcome, isE, modeRow, spasRow, portRow, sporRow, storRow, retrRow, restRow, commandRow, endRow}
+use Rattle.console.specs.Rows.{MODE, PASV, PORT, REST, RETR, STOR, SPAS, SPOR, ERET, ESTO, SBUF, OPTS, Row, pasv, stor, stor-refused, retr, retr-refused, sbuf-opts, outcome, isE, modeRow, spasRow, portRow, sporRow, storRow, retrRow, restRow, commandRow, endRow}
 
 -- ---- MODE's argument
 
@@ -76,31 +76,38 @@ module _ (s : Console) (v : ℕ) (text : List ℕ) where
   by-others a b c d e f g h =
       rw (ne-eqb v MODE a, ne-eqb v PASV b, ne-eqb v SPAS c, ne-eqb v PORT d, ne-eqb v SPOR e, ne-eqb v STOR (λ x. f (inl x)), ne-eqb v ESTO (λ x. f (inr x)), ne-eqb v RETR (λ x. g (inl x)), ne-eqb v ERET (λ x. g (inr x)), ne-eqb v REST h)
 
--- ---- what the rows answer
+-- ---- one row of two, and what it answers
 
--- an answer is that of the first of two rows where the test holds, else that of the second
-module _ (b : Bool) (x y : Row) (s : Console) (a : Answer) where
-  pub by-first : b ≡ true → a ≡ outcome x s → a ≡ outcome (cond b x y) s
-  by-first e h = rw e h
+module _ (b : Bool) (x y : Row) where
+  pub first : b ≡ true → cond b x y ≡ x
+  first e = rw e
 
-  pub by-second : b ≡ false → a ≡ outcome y s → a ≡ outcome (cond b x y) s
-  by-second e h = rw e h
+  pub second : b ≡ false → cond b x y ≡ y
+  second e = rw e
 
--- the answer of a command that needs mode E and an endpoint
-module _ (e ready : Bool) (x y a : Answer) where
-  pub no-mode : e ≡ false → a ≡ y → a ≡ cond (e && ready) x y
-  no-mode m h = rw m h
+  module _ (s : Console) (a : Answer) where
+    pub by-first : b ≡ true → a ≡ outcome x s → a ≡ outcome (cond b x y) s
+    by-first e h = h ∙ ap (λ r. outcome r s) (sym (first e))
 
-  pub not-ready : e ≡ true → ready ≡ false → a ≡ y → a ≡ cond (e && ready) x y
-  not-ready m r h = rw (m, r) h
+    pub by-second : b ≡ false → a ≡ outcome y s → a ≡ outcome (cond b x y) s
+    by-second e h = h ∙ ap (λ r. outcome r s) (sym (second e))
 
-  pub both : e ≡ true → ready ≡ true → a ≡ x → a ≡ cond (e && ready) x y
-  both m r h = rw (m, r) h
+-- both parts of a test hold, or one does not
+module _ (a b : Bool) where
+  pub and-true : a ≡ true → b ≡ true → (a && b) ≡ true
+  and-true e f = rw (e, f)
 
--- one answer of two, where each is its row's
-pub by-either : (b : Bool) (x y : Row) (s : Console) → cond b (outcome x s) (outcome y s) ≡ outcome (cond b x y) s
-by-either true x y s = refl
-by-either false x y s = refl
+  pub and-left : a ≡ false → (a && b) ≡ false
+  and-left e = rw e
+
+  pub and-right : b ≡ false → (a && b) ≡ false
+  and-right e = rw (e, and-false a)
+
+-- RETR's rows answer as STOR's do
+pub stor-as-retr : (b : Bool) (s : Console) → outcome (cond b stor stor-refused) s ≡ outcome (cond b retr retr-refused) s
+unfolding outcome
+stor-as-retr true s = refl
+stor-as-retr false s = refl
 
 -- the end of the transfer that runs, with this verdict
 pub by-ending : (v w : Verdict) (s : Console) (a : Answer) → v ≡ w → a ≡ outcome (endRow w) s → a ≡ outcome (endRow v) s

@@ -8,9 +8,10 @@ use Rattle.console.specs.declared.state.Console.{Console}
 use Rattle.console.specs.Console.{Event, beginning}
 use Rattle.console.specs.Rows.{MODE, PASV, PORT, REST, RETR, STOR, SPAS, SPOR, SBUF, Row, mode-e, mode-other, too-early, pasv, spas, port, port-refused, spor, spor-refused, stor, stor-refused, retr, retr-refused, rest, rest-refused, sbuf-opts, line-refused, argument-refused, while-running, end-result, end-suspect, end-broken, end-guess, end-of-none, rowOf}
 use Rattle.console.specs.Sessions.{Reached, Met}
-use Rattle.console.proofs.Sentences.{sentences}
+use Rattle.console.proofs.Table.{sentences}
 use Rattle.console.proofs.Reached.{at-beginning, mode-e-asked, is-listening, is-connecting, is-storing}
-use Rattle.console.proofs.Written.{takesArgument, bare, bare-command, command-of, capital-e, capital-s, letter-x, host-port, two-host-ports, one-range, of-e, of-s, of-x, of-host-port, of-two, of-range, s-is-not-e, is-host-port, is-list, two-are-not-one, x-is-no-list, range-is-well-formed, x-is-malformed, empty-refused, bare-mode-refused}
+use Rattle.commands.specs.WrittenLines.{bareLine}
+use Rattle.console.proofs.ExampleLines.{takesArgument, bare-command, command-of, capital-e, capital-s, letter-x, host-port, two-host-ports, one-range, of-e, of-s, of-x, of-host-port, of-two, of-range, s-is-not-e, is-host-port, is-list, two-are-not-one, x-is-no-list, range-is-well-formed, x-is-malformed, empty-refused, bare-mode-refused}
 
 met-by : {s : Console} {r : Row} → Reached s → (e : Event) → rowOf s e ≡ r → Met r
 met-by k e h = record { events = k .events; next = e; has-row = ap (λ t. rowOf t e) (k .comes-to) ∙ h }
@@ -34,8 +35,8 @@ met rest = met-by at-beginning _ (sentences .rest-gets-350 _ _ _ (refl, command-
 met rest-refused = met-by at-beginning _ (sentences .rest-gets-501 _ _ _ (refl, command-of REST letter-x refl of-x) x-is-malformed .0)
 met sbuf-opts = met-by at-beginning _ (sentences .sbuf-opts-get-200 _ _ _ SBUF (refl, command-of SBUF letter-x refl of-x) (inl refl) .0)
 met line-refused = met-by at-beginning _ (sentences .refused-line-gets-500 _ [] 32 empty-refused (omega arith) (omega arith) .0)
-met argument-refused = met-by at-beginning _ (sentences .refused-argument-gets-501 _ (bare MODE) bare-mode-refused .0)
-met while-running = met-by is-storing _ (sentences .running-gets-503 _ (bare PASV) [] PASV refl (bare-command PASV (inl refl)) .0)
+met argument-refused = met-by at-beginning _ (sentences .refused-argument-gets-501 _ (bareLine MODE) bare-mode-refused .0)
+met while-running = met-by is-storing _ (sentences .running-gets-503 _ (bareLine PASV) [] PASV refl (bare-command PASV (inl refl)) .0)
 met end-result = met-by is-storing _ (sentences .result-gets-226 _ refl .0)
 met end-suspect = met-by is-storing _ (sentences .suspect-gets-226 _ refl .0)
 met end-broken = met-by is-storing _ (sentences .broken-gets-426 _ refl .0)

@@ -1,7 +1,7 @@
 -- The console keeps to the table over any sequence: `Sessions` holds.
 use Prim.Native.Nat.{ℕ, _-_, _≤_}
-use mathlib.Core.Path.{_≡_, refl, sym, ap, _∙_}
-use mathlib.Core.Logic.{_⊎_, inl, inr}
+use mathlib.Core.Path.{_≡_, refl, ap, _∙_}
+use mathlib.Core.Logic.{inl, inr}
 use mathlib.Core.Bool.{Bool, true, false, cond}
 use mathlib.Core.List.{List, [], _∷_, map}
 use native.Mathlib.Omega.{arith}
@@ -9,36 +9,35 @@ use lib.Dec.{eqb}
 use lib.ListN.{getD}
 use Rattle.commands.specs.Refused.{RefusedBy}
 use Rattle.commands.proofs.VerbNames.{verb-names}
+use Rattle.commands.proofs.WrittenLines.{written-lines}
+use Rattle.rangelists.proofs.MalformedRanges.{malformed-ranges}
 use Rattle.console.specs.declared.state.Console.{Console}
 use Rattle.console.specs.declared.state.Answer.{Answer}
-use Rattle.console.specs.Console.{Event, line, ending, beginning, gets}
+use Rattle.console.specs.Console.{Event, line, ending}
 use Rattle.console.specs.Rows.{MODE, PASV, PORT, REST, RETR, STOR, SPAS, SPOR, ERET, ESTO, SBUF, OPTS, Row, mode-e, mode-other, too-early, pasv, spas, port, port-refused, spor, spor-refused, stor, stor-refused, retr, retr-refused, rest, rest-refused, sbuf-opts, line-refused, argument-refused, while-running, end-result, end-suspect, end-broken, end-guess, end-of-none, outcome, refusedRow, rowOf, answerTo}
-use Rattle.console.specs.Table.{Table}
-use Rattle.console.specs.Sessions.{answersFrom, Sessions}
-use Rattle.console.proofs.Sentences.{sentences, refused-row}
+use Rattle.console.specs.Table.{answer, Table}
+use Rattle.console.specs.Sessions.{answersFrom, after, IsRefusal, Sessions}
+use Rattle.console.proofs.Table.{sentences, refused-row}
 use Rattle.console.proofs.EveryEvent.{every-line, every-ending}
+use Rattle.console.proofs.RestRanges.{reads}
 use Rattle.console.proofs.Reached.{reached, reached-only}
 use Rattle.console.proofs.RowsMet.{met}
 
 -- ---- whoever keeps to the table
 
-module _ (answer : Console → Event → Answer) (t : Table (λ s e r a. answer s e ≡ a)) where
-  same : (s : Console) (e : Event) → answer s e ≡ answerTo s e
+module _ (respond : Console → Event → Answer) (t : Table (λ s e r a. respond s e ≡ a)) where
+  same : (s : Console) (e : Event) → respond s e ≡ answerTo s e
   same s (line l) = every-line _ t s l
   same s (ending v) = every-ending _ t s v
 
-  same-from : (s : Console) (es : List Event) → answersFrom answer s es ≡ answersFrom answerTo s es
+  same-from : (s : Console) (es : List Event) → answersFrom respond s es ≡ answersFrom answerTo s es
   unfolding answersFrom
   same-from s [] = refl
   same-from s (e ∷ es) = rw (same s e) (ap (λ xs. answerTo s e ∷ xs) (same-from (answerTo s e .console) es))
 
 -- ---- refused commands
 
--- a code from 500 on is one of four
-abbrev IsRefusal : ℕ → Type 0
-IsRefusal code = (code ≡ 500) ⊎ ((code ≡ 501) ⊎ ((code ≡ 503) ⊎ (code ≡ 504)))
-
-refuses : (r : Row) (s : Console) → 500 ≤ outcome r s .code → (outcome r s ≡ gets s (outcome r s .code)) × IsRefusal (outcome r s .code)
+refuses : (r : Row) (s : Console) → 500 ≤ outcome r s .code → (outcome r s ≡ answer s (outcome r s .code) false) × IsRefusal (outcome r s .code)
 unfolding outcome
 refuses mode-e s h = absurd (omega arith)
 refuses mode-other s h = (refl, inr (inr (inr refl)))
@@ -65,18 +64,53 @@ refuses end-broken s h = absurd (omega arith)
 refuses end-guess s h = absurd (omega arith)
 refuses end-of-none s h = absurd (omega arith)
 
--- a refused line's answer is the same code in all states
-refused-code : (k : ℕ) (s t : Console) → outcome (refusedRow k) s ≡ gets s (outcome (refusedRow k) t .code)
+-- a refused line's answer
+refused-code : (k : ℕ) (s : Console) → outcome (refusedRow k) s ≡ answer s (cond (eqb k 35) 501 500) false
 unfolding outcome
-refused-code k s t = go (eqb k 35)
+refused-code k s = go (eqb k 35)
   where
-    go : (b : Bool) → outcome (cond b argument-refused line-refused) s ≡ gets s (outcome (cond b argument-refused line-refused) t .code)
+    go : (b : Bool) → outcome (cond b argument-refused line-refused) s ≡ answer s (cond b 501 500) false
     go true = refl
     go false = refl
 
 answer-refused : (s : Console) (l : List ℕ) (k : ℕ) → RefusedBy l k → answerTo s (line l) ≡ outcome (refusedRow k) s
 unfolding answerTo
 answer-refused s l k r = ap (λ w. outcome w s) (refused-row s l k r)
+
+-- ---- mode E
+
+-- no row takes it back
+keeps-mode-e : (r : Row) (s : Console) → s .extended ≡ true → outcome r s .console .extended ≡ true
+unfolding outcome
+keeps-mode-e mode-e s h = refl
+keeps-mode-e mode-other s h = h
+keeps-mode-e too-early s h = h
+keeps-mode-e pasv s h = h
+keeps-mode-e spas s h = h
+keeps-mode-e port s h = h
+keeps-mode-e port-refused s h = h
+keeps-mode-e spor s h = h
+keeps-mode-e spor-refused s h = h
+keeps-mode-e stor s h = h
+keeps-mode-e stor-refused s h = h
+keeps-mode-e retr s h = h
+keeps-mode-e retr-refused s h = h
+keeps-mode-e rest s h = h
+keeps-mode-e rest-refused s h = h
+keeps-mode-e sbuf-opts s h = h
+keeps-mode-e line-refused s h = h
+keeps-mode-e argument-refused s h = h
+keeps-mode-e while-running s h = h
+keeps-mode-e end-result s h = h
+keeps-mode-e end-suspect s h = h
+keeps-mode-e end-broken s h = h
+keeps-mode-e end-guess s h = h
+keeps-mode-e end-of-none s h = h
+
+mode-e-stays : (s : Console) (es : List Event) → s .extended ≡ true → after s es .extended ≡ true
+unfolding answerTo after
+mode-e-stays s [] h = h
+mode-e-stays s (e ∷ es) h = mode-e-stays (answerTo s e .console) es (keeps-mode-e (rowOf s e) s h)
 
 pub sessions : Sessions
 unfolding answerTo
@@ -85,10 +119,13 @@ sessions =
       table = sentences;
       line-is = every-line;
       end-is = every-ending;
-      runs = λ answer t. same-from answer t beginning;
+      runs = same-from;
       changes-nothing = λ s l h. refuses (rowOf s (line l)) s h .0;
       refused-with = λ s l h. refuses (rowOf s (line l)) s h .1;
-      judged-first = λ s t l k r. answer-refused s l k r ∙ refused-code k s t ∙ ap (λ a. gets s (a .code)) (sym (answer-refused t l k r));
+      judged-first = λ s l k r. answer-refused s l k r ∙ refused-code k s;
+      mode-e-stays = mode-e-stays;
+      at-most-510 = λ l text v c. omega (arith, malformed-ranges .four-bytes-each text, written-lines .longest-argument l (c .0) text v (c .1) (c .2));
+      rest-is-51 = λ l text ledger c. reads text ledger (written-lines .longest-argument l (c .0) text REST (c .1) (c .2));
       reached = reached;
       reached-only = reached-only;
       met = met;

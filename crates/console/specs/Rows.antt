@@ -169,10 +169,10 @@ commandRow s v text =
 abbrev pub refusedRow : ℕ → Row
 refusedRow k = cond (eqb k 35) argument-refused line-refused
 
--- a line that is refused has no verb
+-- a line that is refused; then any command while a transfer runs; then the commands
 unfoldable pub lineRow : Console → List ℕ → Row
 lineRow s l =
-    cond (eqb (verb (readOf l)) 0) (refusedRow (refusalNumber (readOf l)))
+    cond (ltb 0 (refusalNumber (readOf l))) (refusedRow (refusalNumber (readOf l)))
     (cond (s .running) while-running (commandRow s (verb (readOf l)) (argumentOf (readOf l) l)))
 
 unfoldable pub endRow : Verdict → Row

@@ -1,25 +1,34 @@
--- The console keeps to the table, over any sequence of lines and endings from the beginning.
-use Prim.Native.Nat.{ℕ, _-_, _≤_}
+-- The console keeps to the table, over any sequence of lines and endings.
+use Prim.Native.Nat.{ℕ, _-_, _%_, _≤_}
 use mathlib.Core.Path.{_≡_}
 use mathlib.Core.Logic.{_⊎_, _≢_}
-use mathlib.Core.Bool.{true, false}
+use mathlib.Core.Bool.{true, false, cond}
 use mathlib.Core.List.{List, [], _∷_, map}
-use lib.ListN.{getD}
+use lib.Dec.{eqb}
+use lib.ListN.{length, getD}
+use Rattle.answers.specs.declared.loaded.Loaded.the-variants.{Done, Refused}
 use Rattle.commands.specs.Line.{verbs}
 use Rattle.commands.specs.Refused.{RefusedBy}
 use Rattle.commands.specs.VerbNames.{bytes}
+use Rattle.rangelists.specs.RangeText.{hasMalformed, rangeCount, readRanges}
 use Rattle.verdicts.specs.declared.verdict.Verdict.{Verdict}
 use Rattle.console.specs.declared.state.Console.{Console}
 use Rattle.console.specs.declared.state.Endpoint.the-variants.{None}
 use Rattle.console.specs.declared.state.Answer.{Answer}
-use Rattle.console.specs.Console.{Event, line, ending, beginning, gets}
+use Rattle.console.specs.Console.{Event, line, ending, beginning}
 use Rattle.console.specs.Rows.{MODE, PASV, PORT, REST, RETR, STOR, SPAS, SPOR, ERET, ESTO, SBUF, OPTS, Row, rowOf, answerTo}
-use Rattle.console.specs.Table.{Table}
+use Rattle.console.specs.Table.{Command, answer, Table}
 
--- the answers to a sequence of events, each asked of the console that the one before left
+-- the event falls under this row and gets this answer
+abbrev pub Answered : Console → Event → Row → Answer → Type 0
+Answered s e r a = (rowOf s e ≡ r) × (answerTo s e ≡ a)
+
+-- ---- sequences of events, each asked of the console that the one before left
+
+-- their answers
 unfoldable pub answersFrom : (Console → Event → Answer) → Console → List Event → List Answer
-answersFrom answer s [] = []
-answersFrom answer s (e ∷ es) = answer s e ∷ answersFrom answer (answer s e .console) es
+answersFrom respond s [] = []
+answersFrom respond s (e ∷ es) = respond s e ∷ answersFrom respond (respond s e .console) es
 
 -- the console after them
 unfoldable pub after : Console → List Event → Console
@@ -37,26 +46,39 @@ pub record Met (r : Row) : Type 0 where
   pub next : Event
   pub has-row : rowOf (after beginning events) next ≡ r
 
+-- eight of the 12 states: the six in which nothing runs, and the two in which a transfer runs with mode E and an endpoint
+abbrev pub Possible : Console → Type 0
+Possible s = (s .running ≡ false) ⊎ ((s .extended ≡ true) × (s .endpoint ≢ None))
+
+-- the codes by which a command is refused
+abbrev pub IsRefusal : ℕ → Type 0
+IsRefusal code = (code ≡ 500) ⊎ ((code ≡ 501) ⊎ ((code ≡ 503) ⊎ (code ≡ 504)))
+
 pub record Sessions : Type 1 where
   -- the console answers by each sentence of the table
-  pub table : Table (λ s e r a. (rowOf s e ≡ r) × (answerTo s e ≡ a))
+  pub table : Table Answered
   -- every line and every ending falls under a sentence, in every state: whatever holds by all the sentences holds of the console's answer
   pub line-is : (Answers : Console → Event → Row → Answer → Type 0) → Table Answers → (s : Console) (l : List ℕ)
       → Answers s (line l) (rowOf s (line l)) (answerTo s (line l))
   pub end-is : (Answers : Console → Event → Row → Answer → Type 0) → Table Answers → (s : Console) (v : Verdict)
       → Answers s (ending v) (rowOf s (ending v)) (answerTo s (ending v))
-  -- over any sequence, whoever keeps to the table answers the same
-  pub runs : (answer : Console → Event → Answer) → Table (λ s e r a. answer s e ≡ a) → (events : List Event)
-      → answersFrom answer beginning events ≡ answersFrom answerTo beginning events
+  -- over any sequence, from the beginning and from any other state, whoever keeps to the table answers the same
+  pub runs : (respond : Console → Event → Answer) → Table (λ s e r a. respond s e ≡ a) → (s : Console) (events : List Event)
+      → answersFrom respond s events ≡ answersFrom answerTo s events
   -- a refused command changes nothing; its code is one of four, without the word
-  pub changes-nothing : (s : Console) (l : List ℕ) → 500 ≤ answerTo s (line l) .code → answerTo s (line l) ≡ gets s (answerTo s (line l) .code)
-  pub refused-with : (s : Console) (l : List ℕ) → 500 ≤ answerTo s (line l) .code
-      → (answerTo s (line l) .code ≡ 500) ⊎ ((answerTo s (line l) .code ≡ 501) ⊎ ((answerTo s (line l) .code ≡ 503) ⊎ (answerTo s (line l) .code ≡ 504)))
-  -- a line that is refused gets the same code in every state
-  pub judged-first : (s t : Console) (l : List ℕ) (k : ℕ) → RefusedBy l k → answerTo s (line l) ≡ gets s (answerTo t (line l) .code)
-  -- the states that sequences reach: the six in which nothing runs, and two in which a transfer runs, with mode E and an endpoint
-  pub reached : (s : Console) → (s .running ≡ false) ⊎ ((s .extended ≡ true) × (s .endpoint ≢ None)) → Reached s
-  pub reached-only : (s : Console) → Reached s → (s .running ≡ false) ⊎ ((s .extended ≡ true) × (s .endpoint ≢ None))
+  pub changes-nothing : (s : Console) (l : List ℕ) → 500 ≤ answerTo s (line l) .code → answerTo s (line l) ≡ answer s (answerTo s (line l) .code) false
+  pub refused-with : (s : Console) (l : List ℕ) → 500 ≤ answerTo s (line l) .code → IsRefusal (answerTo s (line l) .code)
+  -- a line that is refused gets its code in every state, also while a transfer runs
+  pub judged-first : (s : Console) (l : List ℕ) (k : ℕ) → RefusedBy l k → answerTo s (line l) ≡ answer s (cond (eqb k 35) 501 500) false
+  -- mode E stays asked for
+  pub mode-e-stays : (s : Console) (events : List Event) → s .extended ≡ true → after s events .extended ≡ true
+  -- REST's 501 is the reader's 51: a line has at most 510 ranges, and into a pair for each the reader answers nothing else
+  pub at-most-510 : (l text : List ℕ) (v : ℕ) → Command l v text → rangeCount text ≤ 510
+  pub rest-is-51 : (l text ledger : List ℕ) → Command l REST text → length ledger % 2 ≡ 0 → length ledger ≤ 8192 → 1020 ≤ length ledger
+      → readRanges text ledger ≡ cond (hasMalformed text) (Refused 51) Done
+  -- the states that sequences from the beginning reach, and no others
+  pub reached : (s : Console) → Possible s → Reached s
+  pub reached-only : (s : Console) → Reached s → Possible s
   -- every row is met
   pub met : (r : Row) → Met r
   -- the numbers that stand for the verbs

@@ -15,8 +15,8 @@ ghost use Prim.Native.Nat.{_≤_};
 ghost use lib.ListN.{length};
 ghost use Rattle.hostlists.specs.HostList.{hostCount};
 ghost use Rattle.rangelists.specs.RangeText.{hasMalformed};
-ghost use Rattle.console.specs.Console.{asked, atEndpoint, started, gets, line};
-ghost use Rattle.console.specs.Rows.{isE, isListening, isConnecting, modeRow, spasRow, portRow, sporRow, restRow, refusedRow, commandRow, outcome, answerTo};
+ghost use Rattle.console.specs.Console.{asked, atEndpoint, started, line};
+ghost use Rattle.console.specs.Rows.{stor, stor-refused, isE, isListening, isConnecting, modeRow, spasRow, portRow, sporRow, restRow, refusedRow, commandRow, outcome, answerTo};
 
 // The verbs by their numbers.
 const MODE: u8 = 1;
@@ -39,7 +39,7 @@ const ERET: u8 = 9;
 
 const ESTO: u8 = 10;
 
-// The entries of a pair for each range that an argument can have: 510 of 4 bytes, a comma counted with each but the last.
+// Two entries for each of 510 ranges, the most that an argument can have: a range has three bytes or more, and a comma stands between two.
 const ENTRIES: usize = 1020;
 
 // ---- what a command does to the console
@@ -175,9 +175,9 @@ fn spor(console: Console, text: &[u8]) -> Answer
     state::gets(at_endpoint(console, Endpoint::Connecting), 200)
 }
 
-// STOR and ESTO, RETR and ERET, with the endpoint that they need or not.
+// STOR and ESTO, with the endpoint that they need or not. RETR and ERET are answered alike.
 fn start(console: Console, ready: bool) -> Answer
-    ensures { λ r. ⌜ r ≡ cond (console .extended && ready) (gets (started console) 150) (gets console 503) ⌝ }
+    ensures { λ r. ⌜ r ≡ outcome (cond (console .extended && ready) stor stor-refused) console ⌝ }
 {
     if !console.extended {
         return state::gets(console, 503);

@@ -2,7 +2,7 @@
 ghost use mathlib.Core.Path.{_≡_};
 ghost use Rattle.console.specs.Console.{beginning, gets};
 
-// Where the data connections will come from: nowhere yet, from the peer, or opened to it.
+// How the data connections will be made: it is not settled, the peer opens them, or they are opened to the peer.
 pub enum Endpoint {
     None,
     Listening,

@@ -84,5 +84,5 @@ host-counts =
       two = λ h i. written-counts (h ∷ i ∷ []) (omega arith) (omega arith);
       shortest = shortest;
       -- the first worked case of a host-port
-      of-11 = whole _ 1 (host-port-cases .0);
+      shortest-one = whole _ 1 (host-port-cases .0);
     }

@@ -22,4 +22,4 @@ pub record HostCounts : Type 0 where
   pub two : (h i : HostPortNumerals) → hostCount (hostPortText h ++ (32 ∷ hostPortText i)) ≡ 2
   -- the shortest list has 11 bytes, as 0,0,0,0,0,1 has
   pub shortest : (text : List ℕ) → ListText text → 11 ≤ length text
-  pub of-11 : (h : HostPortNumerals) × (hostPortText h ≡ 48 ∷ 44 ∷ 48 ∷ 44 ∷ 48 ∷ 44 ∷ 48 ∷ 44 ∷ 48 ∷ 44 ∷ 49 ∷ [])
+  pub shortest-one : (h : HostPortNumerals) × (hostPortText h ≡ 48 ∷ 44 ∷ 48 ∷ 44 ∷ 48 ∷ 44 ∷ 48 ∷ 44 ∷ 48 ∷ 44 ∷ 49 ∷ [])

@@ -17,7 +17,7 @@ use Rattle.ledger.proofs.PairsJoin.{join-size}
 use Rattle.ledger.proofs.LedgerSizes.{length-right}
 use Rattle.rangelists.specs.RangeText.{isPosition, rangeOf, prependToFirst, parts, isMalformed, someMalformed, rangesAmong, hasMalformed, rangeCount, mergeRange, mergedFrom, rangesOf, loaded, readRanges}
 use Rattle.rangelists.specs.Parts.{withCommas}
-use Rattle.rangelists.specs.MalformedRanges.{SomeMalformed, MalformedRanges}
+use Rattle.rangelists.specs.MalformedRanges.{HasMalformed, MalformedRanges}
 use Rattle.rangelists.specs.declared.ranges.Range.{Range}
 use Rattle.rangelists.specs.declared.ranges.Range.the-variants.{Places, Malformed}
 use Rattle.rangelists.proofs.Parts.{parted}
@@ -31,17 +31,17 @@ unfolding isMalformed someMalformed
 malformed-among [] after t e = rw e
 malformed-among (u ∷ before) after t e = rw (malformed-among before after t e, or-true (isMalformed (rangeOf u)))
 
-malformed-true : (text : List ℕ) → SomeMalformed text → hasMalformed text ≡ true
+malformed-true : (text : List ℕ) → HasMalformed text → hasMalformed text ≡ true
 unfolding hasMalformed
 malformed-true text m = rw (m .among) (malformed-among (m .before) (m .after) (m .malformed) (one-range .else-malformed (m .malformed) (m .no-range)))
 
 -- the first of the remaining texts that is malformed
-first-malformed : (text : List ℕ) (before ts : List (List ℕ)) → parts text ≡ before ++ ts → someMalformed ts ≡ true → SomeMalformed text
+first-malformed : (text : List ℕ) (before ts : List (List ℕ)) → parts text ≡ before ++ ts → someMalformed ts ≡ true → HasMalformed text
 unfolding isMalformed someMalformed
 first-malformed text before [] e h = absurd (false≢true h)
 first-malformed text before (t ∷ ts) e h = go (rangeOf t) refl h (first-malformed text (before ++ (t ∷ [])) ts (e ∙ sym (append-snoc before t ts)))
   where
-    go : (x : Range) → rangeOf t ≡ x → (isMalformed x || someMalformed ts) ≡ true → (someMalformed ts ≡ true → SomeMalformed text) → SomeMalformed text
+    go : (x : Range) → rangeOf t ≡ x → (isMalformed x || someMalformed ts) ≡ true → (someMalformed ts ≡ true → HasMalformed text) → HasMalformed text
     go Malformed x k i =
         record {
           before = before;
@@ -55,7 +55,7 @@ first-malformed text before (t ∷ ts) e h = go (rangeOf t) refl h (first-malfor
         }
     go (Places s f) x k i = i k
 
-true-malformed : (text : List ℕ) → hasMalformed text ≡ true → SomeMalformed text
+true-malformed : (text : List ℕ) → hasMalformed text ≡ true → HasMalformed text
 unfolding hasMalformed
 true-malformed text h = first-malformed text [] (parts text) refl h
 

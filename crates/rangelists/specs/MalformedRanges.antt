@@ -9,7 +9,7 @@ use Rattle.rangelists.specs.RangeText.{parts, hasMalformed, rangeCount, 
 use Rattle.rangelists.specs.OneRange.{IsRange}
 
 -- some text between two commas is no range
-pub record SomeMalformed (text : List ℕ) : Type 0 where
+pub record HasMalformed (text : List ℕ) : Type 0 where
   pub before : List (List ℕ)
   pub malformed : List ℕ
   pub after : List (List ℕ)
@@ -18,8 +18,8 @@ pub record SomeMalformed (text : List ℕ) : Type 0 where
 
 pub record MalformedRanges : Type 0 where
   -- the test says it, and says nothing else
-  pub malformed-true : (text : List ℕ) → SomeMalformed text → hasMalformed text ≡ true
-  pub true-malformed : (text : List ℕ) → hasMalformed text ≡ true → SomeMalformed text
+  pub malformed-true : (text : List ℕ) → HasMalformed text → hasMalformed text ≡ true
+  pub true-malformed : (text : List ℕ) → hasMalformed text ≡ true → HasMalformed text
   -- with a pair for each range, of which a malformed one needs none: 51 where one is malformed, and else 0; never 52
   pub by-the-text : (text ledger : List ℕ) → length ledger % 2 ≡ 0 → length ledger ≤ 8192 → 2 * rangeCount text ≤ length ledger
       → readRanges text ledger ≡ cond (hasMalformed text) (Refused 51) Done

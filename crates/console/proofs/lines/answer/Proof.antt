@@ -1,14 +1,12 @@
 -- `lines::answer`.
 use mathlib.Core.Path.{sym, ap, _∙_}
+use native.Mathlib.Omega.{arith}
 use Rattle.commands.specs.Line.{readOf, verb}
 use Rattle.console.specs.Rows.{outcome, refusedRow, commandRow, rowOf, answerTo}
-use Rattle.console.proofs.LineRows.{refused-reads, command-reads, has-verb, argument-short, row-refused, row-running, row-command}
+use Rattle.console.proofs.LineRows.{refused-reads, command-reads, argument-short, row-refused, row-running, row-command}
 use borrow.Author.Needs.{needs}
 use Rattle.console.proofs.lines.answer.Statement.{statement}
 use Rattle.console.proofs.lines.answer.Tie as tie
-use Rattle.console.proofs.lines.answer.Reads as reads
-use Rattle.console.proofs.lines.command.Reads as command-reads
-use Rattle.console.proofs.lines.refused.Reads as refused-reads
 
 read-requires : tie.Need-read-requires
 read-requires c κs = search needs
@@ -33,7 +31,7 @@ returns c =
     let r = d .before .before in
     let x = r .before .before .args in
     let m = command-reads (x .bytes .now) _ _ _ (sym (d .said2 .given .1) ∙ r .read .ensures) in
-    c .gets .ensures ∙ ap (λ w. outcome w (x .console)) (sym (row-running (x .console) (x .bytes .now) (has-verb (x .bytes .now) (m .0)) (t .if1 .taken)))
+    c .gets .ensures ∙ ap (λ w. outcome w (x .console)) (sym (row-running (x .console) (x .bytes .now) (m .0) (t .if1 .taken)))
 
 argument-requires : tie.Need-argument-requires
 argument-requires c κs = search needs
@@ -53,7 +51,7 @@ returns-2 c =
     let r = d .before .before in
     let x = r .before .before .args in
     let m = refused-reads (x .bytes .now) _ (sym (d .said .given .1) ∙ r .read .ensures) in
-    c .refused .ensures ∙ ap (λ w. outcome w (x .console)) (ap refusedRow (sym (m .0)) ∙ sym (row-refused (x .console) (x .bytes .now) (m .1)))
+    c .refused .ensures ∙ ap (λ w. outcome w (x .console)) (ap refusedRow (sym (m .0)) ∙ sym (row-refused (x .console) (x .bytes .now) (omega (arith, m .0, m .1))))
 
 returns-3 : tie.Need-returns-3
 unfolding rowOf answerTo
@@ -66,7 +64,7 @@ returns-3 c =
     c .command .ensures
     ∙ ap (λ w. outcome w (x .console))
     (ap (λ v. commandRow (x .console) v (c .before .argument .result .now)) (sym (m .1)) ∙ ap (commandRow (x .console) (verb (readOf (x .bytes .now)))) (c .before .argument .ensures)
-    ∙ sym (row-command (x .console) (x .bytes .now) (has-verb (x .bytes .now) (m .0)) (t .if1 .left)))
+    ∙ sym (row-command (x .console) (x .bytes .now) (m .0) (t .if1 .left)))
 
 pub answer-spec : {M : Type 1} → statement M
 answer-spec =

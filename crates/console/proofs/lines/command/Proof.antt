@@ -1,9 +1,9 @@
 -- `lines::command`.
 use mathlib.Core.Path.{sym, ap, _∙_}
 use mathlib.Core.Bool.{cond, _&&_}
-use Rattle.console.specs.Console.{started, gets}
-use Rattle.console.specs.Rows.{stor, stor-refused, retr, retr-refused, isListening, isConnecting, outcome}
-use Rattle.console.proofs.Rows.{by-mode, by-pasv, by-spas, by-port, by-spor, by-stor, by-retr, by-rest, by-others, by-either}
+use Rattle.console.specs.Console.{gets}
+use Rattle.console.specs.Rows.{stor, stor-refused, isConnecting, outcome}
+use Rattle.console.proofs.Rows.{by-mode, by-pasv, by-spas, by-port, by-spor, by-stor, by-retr, by-rest, by-others, stor-as-retr}
 use borrow.Author.Needs.{needs}
 use Rattle.console.proofs.lines.command.Statement.{statement}
 use Rattle.console.proofs.lines.command.Tie as tie
@@ -76,21 +76,18 @@ returns-5 c =
     c .spor .ensures ∙ ap (λ r. outcome r (x .console)) (sym (by-spor (x .console) (x .verb) (x .text .now) (m .match .keys5)))
 
 returns-6 : tie.Need-returns-6
-unfolding outcome
 returns-6 c =
     let m = c .before .before in
     let x = m .before .before .args in
-    c .start .ensures ∙ ap (λ b. cond (x .console .extended && b) (gets (started (x .console)) 150) (gets (x .console) 503)) (c .before .is-listening .ensures)
-    ∙ by-either (x .console .extended && isListening (x .console .endpoint)) stor stor-refused (x .console)
+    c .start .ensures ∙ ap (λ b. outcome (cond (x .console .extended && b) stor stor-refused) (x .console)) (c .before .is-listening .ensures)
     ∙ ap (λ r. outcome r (x .console)) (sym (by-stor (x .console) (x .verb) (x .text .now) (m .match .keys6)))
 
 returns-7 : tie.Need-returns-7
-unfolding outcome
 returns-7 c =
     let m = c .before .before in
     let x = m .before .before .args in
-    c .start2 .ensures ∙ ap (λ b. cond (x .console .extended && b) (gets (started (x .console)) 150) (gets (x .console) 503)) (c .before .is-connecting .ensures)
-    ∙ by-either (x .console .extended && isConnecting (x .console .endpoint)) retr retr-refused (x .console)
+    c .start2 .ensures ∙ ap (λ b. outcome (cond (x .console .extended && b) stor stor-refused) (x .console)) (c .before .is-connecting .ensures)
+    ∙ stor-as-retr (x .console .extended && isConnecting (x .console .endpoint)) (x .console)
     ∙ ap (λ r. outcome r (x .console)) (sym (by-retr (x .console) (x .verb) (x .text .now) (m .match .keys7)))
 
 returns-8 : tie.Need-returns-8

@@ -6,23 +6,18 @@ use borrow.Author.Needs.{needs}
 use Rattle.console.proofs.lines.is_e.Statement.{statement}
 use Rattle.console.proofs.lines.is_e.Tie as tie
 
--- src/lines.rt:99:9
 returns : tie.Need-returns
 returns c = sym (not-one-byte _ (c .if1 .taken))
 
--- src/lines.rt:101:8
 shared-slice-read-if2 : tie.Need-shared-slice-read-if2
 shared-slice-read-if2 c = search needs
 
--- src/lines.rt:102:9
 returns-2 : tie.Need-returns-2
 returns-2 c = sym (rw (one-byte _ (c .before .before .if1 .left), eq-eqb _ _ (c .if2 .taken)))
 
--- src/lines.rt:104:5
 shared-slice-read-result : tie.Need-shared-slice-read-result
 shared-slice-read-result c = search needs
 
--- src/lines.rt:95:1
 returns-3 : tie.Need-returns-3
 returns-3 c = sym (rw (one-byte _ (c .before .before .before .if1 .left), ne-eqb _ _ (c .before .if2 .left)))
 

@@ -5,20 +5,16 @@ use borrow.Author.Needs.{needs}
 use Rattle.console.proofs.lines.refused.Statement.{statement}
 use Rattle.console.proofs.lines.refused.Tie as tie
 
--- src/lines.rt:216:9
 gets-requires : tie.Need-gets-requires
 gets-requires c κs = search needs
 
--- src/lines.rt:216:9
 returns : tie.Need-returns
 unfolding outcome
 returns c = rw (eq-eqb _ _ (c .before .if1 .taken)) (c .gets .ensures)
 
--- src/lines.rt:218:5
 gets-requires-2 : tie.Need-gets-requires-2
 gets-requires-2 c κs = search needs
 
--- src/lines.rt:212:1
 returns-2 : tie.Need-returns-2
 unfolding outcome
 returns-2 c = rw (ne-eqb _ _ (c .before .if1 .left)) (c .gets2 .ensures)

@@ -1,31 +1,39 @@
--- The console answers by each sentence of the table.
-use Prim.Native.Nat.{ℕ}
+-- The console answers by each sentence of `Table`.
+use Prim.Native.Nat.{ℕ, _<_}
 use mathlib.Core.Path.{_≡_, refl, ap, _∙_}
 use mathlib.Core.Logic.{_⊎_, ⊎-elim}
-use mathlib.Core.Bool.{Bool, true, false, cond, _&&_, and-false}
+use mathlib.Core.Bool.{Bool, true, false, cond, _&&_}
 use mathlib.Core.List.{List}
 use native.Mathlib.Omega.{arith}
 use borrow.Author.Tests.{ne-eqb}
 use lib.Dec.{ltb, eqb}
 use Rattle.commands.specs.Line.{readOf, argumentOf, refusalNumber, verb}
-use Rattle.commands.specs.Refused.{RefusedBy}
+use Rattle.commands.specs.Refused.{RefusedBy, by-31, by-32, by-33, by-34, by-35-missing, by-35-present}
 use Rattle.commands.proofs.Accepted.{accepted-lines}
 use Rattle.commands.proofs.Refused.{refusals}
 use Rattle.hostlists.specs.HostList.{hostCount}
 use Rattle.hostlists.specs.HostLists.{ListText}
 use Rattle.rangelists.specs.RangeText.{hasMalformed}
-use Rattle.rangelists.specs.MalformedRanges.{SomeMalformed}
+use Rattle.rangelists.specs.MalformedRanges.{HasMalformed}
 use Rattle.console.specs.declared.state.Console.{Console}
 use Rattle.console.specs.declared.state.Endpoint.the-variants.{Listening, Connecting}
-use Rattle.console.specs.declared.state.Answer.{Answer}
 use Rattle.console.specs.Console.{Event, line}
 use Rattle.console.specs.Rows.{MODE, PASV, PORT, REST, SPAS, SPOR, Row, mode-e, mode-other, too-early, pasv, spas, port, port-refused, spor, spor-refused, stor, stor-refused, retr, retr-refused, rest, rest-refused, sbuf-opts, line-refused, argument-refused, while-running, end-result, end-suspect, end-broken, end-guess, end-of-none, outcome, isE, refusedRow, commandRow, endRow, rowOf, answerTo}
 use Rattle.console.specs.Table.{Command, Asks, IsE, IsHostPort, Table}
-use Rattle.console.proofs.Rows.{by-mode, by-pasv, by-spas, by-port, by-spor, by-stor, by-retr, by-rest, by-sbuf-opts}
-use Rattle.console.proofs.LineRows.{has-verb, row-refused, row-running, row-command}
-use Rattle.console.proofs.Tests.{Tests, is-true, is-false, tests-e, tests-host-port, tests-list, tests-malformed, tests-listening, tests-connecting}
+use Rattle.console.specs.Sessions.{Answered}
+use Rattle.console.proofs.Rows.{first, second, and-true, and-left, and-right, by-mode, by-pasv, by-spas, by-port, by-spor, by-stor, by-retr, by-rest, by-sbuf-opts}
+use Rattle.console.proofs.LineRows.{row-refused, row-running, row-command}
+use Rattle.console.proofs.Conditions.{Reflects, is-true, is-false, tests-e, tests-host-port, tests-list, tests-malformed, tests-listening, tests-connecting}
 
 -- ---- the row of a command, and of a line that is refused
+
+above-0 : (l : List ℕ) (k : ℕ) → RefusedBy l k → 0 < k
+above-0 l k (by-31 _) = omega arith
+above-0 l k (by-32 _ _) = omega arith
+above-0 l k (by-33 _ _ _ _ _ _) = omega arith
+above-0 l k (by-34 _ _ _ _ _) = omega arith
+above-0 l k (by-35-missing _ _ _ _ _ _ _ _ _) = omega arith
+above-0 l k (by-35-present _ _ _ _ _ _ _ _ _ _) = omega arith
 
 module _ (s : Console) (l : List ℕ) where
   module _ (v : ℕ) (text : List ℕ) (c : Command l v text) where
@@ -34,39 +42,17 @@ module _ (s : Console) (l : List ℕ) where
 
     pub running-row : s .running ≡ true → rowOf s (line l) ≡ while-running
     unfolding rowOf
-    running-row = row-running s l (has-verb l (reads .0))
+    running-row = row-running s l (reads .0)
 
     pub command-row : s .running ≡ false → rowOf s (line l) ≡ commandRow s v text
     unfolding rowOf
-    command-row h = row-command s l (has-verb l (reads .0)) h ∙ ap (λ w. commandRow s w (argumentOf (readOf l) l)) (reads .1) ∙ ap (commandRow s v) (reads .2)
+    command-row h = row-command s l (reads .0) h ∙ ap (λ w. commandRow s w (argumentOf (readOf l) l)) (reads .1) ∙ ap (commandRow s v) (reads .2)
 
   pub refused-row : (k : ℕ) → RefusedBy l k → rowOf s (line l) ≡ refusedRow k
   unfolding rowOf
-  refused-row k r = let n = refusals .refused-only l k r in row-refused s l (n .1) ∙ ap refusedRow (n .0)
-
--- ---- one row of two
-
-module _ (b : Bool) (x y : Row) where
-  first : b ≡ true → cond b x y ≡ x
-  first e = rw e
-
-  second : b ≡ false → cond b x y ≡ y
-  second e = rw e
-
--- both parts of a test hold, or one does not
-and-true : (a b : Bool) → a ≡ true → b ≡ true → (a && b) ≡ true
-and-true a b e f = rw (e, f)
-
-and-left : (a b : Bool) → a ≡ false → (a && b) ≡ false
-and-left a b e = rw e
-
-and-right : (a b : Bool) → b ≡ false → (a && b) ≡ false
-and-right a b e = rw (e, and-false a)
+  refused-row k r = let n = refusals .refused-only l k r .0 in row-refused s l (omega (arith, n, above-0 l k r)) ∙ ap refusedRow n
 
 -- ---- the sentences
-
-abbrev pub Answered : Console → Event → Row → Answer → Type 0
-Answered s e r a = (rowOf s e ≡ r) × (answerTo s e ≡ a)
 
 answered : (s : Console) (e : Event) (r : Row) → rowOf s e ≡ r → Answered s e r (outcome r s)
 unfolding answerTo
@@ -84,7 +70,7 @@ module _ (s : Console) (l text : List ℕ) where
         (⊎-elim (λ e. by-spas s v text e ∙ second (s .extended) spas too-early h) (λ e. by-spor s v text e ∙ second (s .extended) _ too-early h) w)
 
     -- STOR and ESTO, RETR and ERET, whose endpoint is at hand or not
-    module _ (P : Type 0) (b : Bool) (t : Tests P b) (x y : Row) (e : commandRow s v text ≡ cond (s .extended && b) x y) where
+    module _ (P : Type 0) (b : Bool) (t : Reflects P b) (x y : Row) (e : commandRow s v text ≡ cond (s .extended && b) x y) where
       starts : s .extended ≡ true → P → Answered s (line l) x (outcome x s)
       starts m p = asks v x a (e ∙ first (s .extended && b) x y (and-true (s .extended) b m (is-true P b t p)))
 
@@ -115,9 +101,9 @@ sentences =
       retr-gets-150 = λ s l text v a w. starts s l text v a (s .endpoint ≡ Connecting) _ (tests-connecting (s .endpoint)) retr retr-refused (by-retr s v text w);
       retr-gets-503 = λ s l text v a w. not-starts s l text v a (s .endpoint ≡ Connecting) _ (tests-connecting (s .endpoint)) retr retr-refused (by-retr s v text w);
       rest-gets-350 = λ s l text a n.
-          asks s l text REST rest a (by-rest s REST text refl ∙ second (hasMalformed text) rest-refused rest (is-false (SomeMalformed text) _ (tests-malformed text) n));
+          asks s l text REST rest a (by-rest s REST text refl ∙ second (hasMalformed text) rest-refused rest (is-false (HasMalformed text) _ (tests-malformed text) n));
       rest-gets-501 = λ s l text a p.
-          asks s l text REST rest-refused a (by-rest s REST text refl ∙ first (hasMalformed text) rest-refused rest (is-true (SomeMalformed text) _ (tests-malformed text) p));
+          asks s l text REST rest-refused a (by-rest s REST text refl ∙ first (hasMalformed text) rest-refused rest (is-true (HasMalformed text) _ (tests-malformed text) p));
       sbuf-opts-get-200 = λ s l text v a w. asks s l text v sbuf-opts a (by-sbuf-opts s v text w);
       refused-line-gets-500 = λ s l k r lo hi.
           answered s (line l) line-refused (refused-row s l k r ∙ second (eqb k 35) argument-refused line-refused (ne-eqb k 35 (λ e. omega arith)));
