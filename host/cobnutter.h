@@ -281,14 +281,16 @@ cob_list cob_hosts_read(const uint8_t *text, size_t text_len, uint64_t *list, si
 cob_found cob_host_at(const uint8_t *text, size_t text_len, size_t at);
 
 /*
- * The code for a line, CR LF included. From 500 on it is a refusal, by which nothing changes. To listen, to connect and to
- * receive or send is the host's.
+ * The code for a line, CR LF included. From 500 on it is a refusal, by which nothing changes. The host listens, connects,
+ * receives and sends, and reads the arguments with cob_hosts_read and cob_ranges_read; for the ranges of a REST that got 350, a ledger of
+ * 1,020 entries is always enough.
  */
 cob_console_answer cob_console_line(cob_console console, const uint8_t *line, size_t line_len);
 
 /*
  * The code for the end of the transfer with that verdict. With none running, and under COB_GUESS or a number that is no
- * verdict, the code is 0 and nothing changes.
+ * verdict, the code is 0 and nothing changes. A host that gives up on a transfer hands over COB_BROKEN. Of one that it sent
+ * it hands over COB_RESULT where every channel was given its ending, and else COB_BROKEN.
  */
 cob_console_answer cob_console_end(cob_console console, uint8_t verdict);
 

@@ -34,7 +34,7 @@ use Rattle.host.specs.Loaded.{loadedForOf}
 use Rattle.host.specs.Line.{commandOf}
 use Rattle.host.specs.Hosts.{hostPortCountOf}
 use Rattle.host.specs.Shown.{shownBy}
-use Rattle.host.specs.Consoles.{endpointMeant, verdictMeant, isOne, endpointCode}
+use Rattle.host.specs.Consoles.{endpointMeant, verdictMeant, oneIf, endpointCode}
 use Rattle.host.specs.Numbers.{Numbers}
 
 header : (x : Header) → fieldsOf x .refused ≡ headerNumber x
@@ -72,7 +72,7 @@ unfolding listNumber
 list (Count n) = refl
 list (NoList k) = refl
 
-yes-back : (b : Bool) → ltb 0 (isOne b) ≡ b
+yes-back : (b : Bool) → ltb 0 (oneIf b) ≡ b
 yes-back true = refl
 yes-back false = refl
 
@@ -105,7 +105,11 @@ numbers =
       list = list;
       console-back = λ s. rw (yes-back (s .extended), endpoint-back (s .endpoint), yes-back (s .running));
       verdict-back = verdict-back;
+      endpoints = refl;
+      yes-and-no = refl;
+      begins = refl;
       other-yes = λ n. (lt-ltb 0 (n .extended), lt-ltb 0 (n .running));
       other-endpoint = λ n h. rw (ne-eqb n 1 (λ e. omega arith), ne-eqb n 2 (λ e. omega arith));
+      answered = λ a. (refl, refl, refl);
       other-verdict = λ n h. rw (ne-eqb n 1 (λ e. omega arith), ne-eqb n 2 (λ e. omega arith), ne-eqb n 3 (λ e. omega arith));
     }

@@ -16,16 +16,16 @@ use Rattle.host.specs.declared.consoles.Answered.{Answered}
 abbrev pub endpointMeant : ℕ → Endpoint
 endpointMeant n = cond (eqb n 1) Listening (cond (eqb n 2) Connecting None)
 
-abbrev pub consoleOf : ConsoleNumbers → Console
-consoleOf n = record { extended = ltb 0 (n .extended); endpoint = endpointMeant (n .endpoint); running = ltb 0 (n .running) }
+abbrev pub consoleMeant : ConsoleNumbers → Console
+consoleMeant n = record { extended = ltb 0 (n .extended); endpoint = endpointMeant (n .endpoint); running = ltb 0 (n .running) }
 
 abbrev pub verdictMeant : ℕ → Verdict
 verdictMeant n = cond (eqb n 1) Result (cond (eqb n 2) Broken (cond (eqb n 3) Suspect Guess))
 
 -- ---- what it gets
 
-abbrev pub isOne : Bool → ℕ
-isOne b = cond b 1 0
+abbrev pub oneIf : Bool → ℕ
+oneIf b = cond b 1 0
 
 abbrev pub endpointCode : Endpoint → ℕ
 endpointCode None = 0
@@ -33,7 +33,7 @@ endpointCode Listening = 1
 endpointCode Connecting = 2
 
 abbrev pub numbersOf : Console → ConsoleNumbers
-numbersOf s = record { extended = isOne (s .extended); endpoint = endpointCode (s .endpoint); running = isOne (s .running) }
+numbersOf s = record { extended = oneIf (s .extended); endpoint = endpointCode (s .endpoint); running = oneIf (s .running) }
 
 abbrev pub answeredBy : Answer → Answered
-answeredBy a = record { console = numbersOf (a .console); code = a .code; suspect = isOne (a .suspect) }
+answeredBy a = record { console = numbersOf (a .console); code = a .code; suspect = oneIf (a .suspect) }

@@ -2,7 +2,7 @@
 -- a word is a code; and a console's state is numbers.
 use Prim.Native.Nat.{ℕ, _<_}
 use mathlib.Core.Path.{_≡_}
-use mathlib.Core.Bool.{true}
+use mathlib.Core.Bool.{true, false}
 use mathlib.Core.List.{[], _∷_, map}
 use Rattle.eblock.specs.Header.{refusalNumber as headerNumber}
 use Rattle.eblock.specs.declared.header.Header.{Header}
@@ -21,7 +21,9 @@ use Rattle.verdicts.specs.Verdict.{toVerdict}
 use Rattle.verdicts.specs.declared.verdict.Verdict.{Verdict}
 use Rattle.verdicts.specs.declared.verdict.Verdict.the-variants.{Guess}
 use Rattle.console.specs.declared.state.Console.{Console}
-use Rattle.console.specs.declared.state.Endpoint.the-variants.{None}
+use Rattle.console.specs.declared.state.Endpoint.the-variants.{None, Listening, Connecting}
+use Rattle.console.specs.declared.state.Answer.{Answer}
+use Rattle.console.specs.Console.{beginning}
 use Rattle.receiver.specs.declared.show.Shown.{Shown}
 use Rattle.receiver.specs.declared.show.Screen.{Screen}
 use Rattle.receiver.specs.declared.show.Screen.the-variants.{Shows, Refused}
@@ -34,7 +36,7 @@ use Rattle.host.specs.Line.{commandOf}
 use Rattle.host.specs.Hosts.{hostPortCountOf}
 use Rattle.host.specs.Sending.{sentBy}
 use Rattle.host.specs.Shown.{shownBy}
-use Rattle.host.specs.Consoles.{endpointMeant, verdictMeant, consoleOf, numbersOf}
+use Rattle.host.specs.Consoles.{endpointMeant, verdictMeant, consoleMeant, oneIf, endpointCode, numbersOf, answeredBy}
 use Rattle.host.specs.declared.consoles.ConsoleNumbers.{ConsoleNumbers}
 
 pub record Numbers : Type 0 where
@@ -59,9 +61,15 @@ pub record Numbers : Type 0 where
   pub words : map verdictCode (guess ∷ result ∷ broken ∷ suspect ∷ []) ≡ 0 ∷ 1 ∷ 2 ∷ 3 ∷ []
   pub list : (x : Hosts) → hostPortCountOf x .refused ≡ listNumber x
   -- a console and a verdict that were handed out mean the same when they are handed back
-  pub console-back : (s : Console) → consoleOf (numbersOf s) ≡ s
+  pub console-back : (s : Console) → consoleMeant (numbersOf s) ≡ s
   pub verdict-back : (v : Verdict) → verdictMeant (verdictCode (toVerdict v)) ≡ v
-  -- the numbers that nothing hands out: yes, no endpoint, GUESS
-  pub other-yes : (n : ConsoleNumbers) → (0 < n .extended → consoleOf n .extended ≡ true) × (0 < n .running → consoleOf n .running ≡ true)
+  -- the numbers of a console, no two alike; all 0 is the beginning
+  pub endpoints : map endpointCode (None ∷ Listening ∷ Connecting ∷ []) ≡ 0 ∷ 1 ∷ 2 ∷ []
+  pub yes-and-no : map oneIf (false ∷ true ∷ []) ≡ 0 ∷ 1 ∷ []
+  pub begins : consoleMeant (record { extended = 0; endpoint = 0; running = 0 }) ≡ beginning
+  -- what every other number means: yes, no endpoint, GUESS
+  pub other-yes : (n : ConsoleNumbers) → (0 < n .extended → consoleMeant n .extended ≡ true) × (0 < n .running → consoleMeant n .running ≡ true)
   pub other-endpoint : (n : ℕ) → 2 < n → endpointMeant n ≡ None
   pub other-verdict : (n : ℕ) → 3 < n → verdictMeant n ≡ Guess
+  -- an answer's code is handed on as it is, and the word as 1
+  pub answered : (a : Answer) → (answeredBy a .code ≡ a .code) × (answeredBy a .suspect ≡ oneIf (a .suspect)) × (answeredBy a .console ≡ numbersOf (a .console))

@@ -8,15 +8,15 @@ use verdicts::verdict::Verdict;
 ghost use mathlib.Core.Path.{_≡_};
 ghost use Rattle.console.specs.Console.{line, ending};
 ghost use Rattle.console.specs.Rows.{answerTo};
-ghost use Rattle.host.specs.Consoles.{isOne, endpointMeant, endpointCode, verdictMeant, consoleOf, answeredBy};
+ghost use Rattle.host.specs.Consoles.{oneIf, endpointMeant, endpointCode, verdictMeant, consoleMeant, answeredBy};
 
 #[repr(C)]
 pub struct ConsoleNumbers {
-    // 1 where MODE E was asked for, as any number but 0 says.
+    // 1 where MODE E was asked for; any other number but 0 says the same.
     pub extended: u8,
     // 1 listening, 2 connecting; any other number says no endpoint.
     pub endpoint: u8,
-    // 1 where a transfer is running, as any number but 0 says.
+    // 1 where a transfer is running; any other number but 0 says the same.
     pub running: u8,
 }
 
@@ -30,8 +30,8 @@ pub struct Answered {
     pub suspect: u8,
 }
 
-fn number_of(b: bool) -> u8
-    ensures { λ r. ⌜ r ≡ isOne b ⌝ }
+fn one_if(b: bool) -> u8
+    ensures { λ r. ⌜ r ≡ oneIf b ⌝ }
 {
     if b {
         return 1;
@@ -39,7 +39,7 @@ fn number_of(b: bool) -> u8
     0
 }
 
-fn endpoint_of(n: u8) -> Endpoint
+fn endpoint_meant(n: u8) -> Endpoint
     ensures { λ r. ⌜ r ≡ endpointMeant n ⌝ }
 {
     match n {
@@ -60,7 +60,7 @@ fn endpoint_code(e: Endpoint) -> u8
 }
 
 // Any number but 1, 2 and 3 says GUESS.
-fn verdict_of(n: u8) -> Verdict
+fn verdict_meant(n: u8) -> Verdict
     ensures { λ r. ⌜ r ≡ verdictMeant n ⌝ }
 {
     match n {
@@ -71,12 +71,12 @@ fn verdict_of(n: u8) -> Verdict
     }
 }
 
-fn console_of(n: ConsoleNumbers) -> Console
-    ensures { λ r. ⌜ r ≡ consoleOf n ⌝ }
+fn console_meant(n: ConsoleNumbers) -> Console
+    ensures { λ r. ⌜ r ≡ consoleMeant n ⌝ }
 {
     Console {
         extended: 0 < n.extended,
-        endpoint: endpoint_of(n.endpoint),
+        endpoint: endpoint_meant(n.endpoint),
         running: 0 < n.running,
     }
 }
@@ -88,25 +88,25 @@ fn to_numbers(a: Answer) -> Answered
     let endpoint = console.endpoint;
     Answered {
         console: ConsoleNumbers {
-            extended: number_of(console.extended),
+            extended: one_if(console.extended),
             endpoint: endpoint_code(endpoint),
-            running: number_of(console.running),
+            running: one_if(console.running),
         },
         code: a.code,
-        suspect: number_of(a.suspect),
+        suspect: one_if(a.suspect),
     }
 }
 
 #[no_mangle]
 pub extern "C" fn cob_console_line(console: ConsoleNumbers, bytes: &[u8]) -> Answered
-    ensures { λ r. ⌜ r ≡ answeredBy (answerTo (consoleOf console) (line (now (bytes .entry)))) ⌝ }
+    ensures { λ r. ⌜ r ≡ answeredBy (answerTo (consoleMeant console) (line (now (bytes .entry)))) ⌝ }
 {
-    to_numbers(lines::answer(console_of(console), bytes))
+    to_numbers(lines::answer(console_meant(console), bytes))
 }
 
 #[no_mangle]
 pub extern "C" fn cob_console_end(console: ConsoleNumbers, verdict: u8) -> Answered
-    ensures { λ r. ⌜ r ≡ answeredBy (answerTo (consoleOf console) (ending (verdictMeant verdict))) ⌝ }
+    ensures { λ r. ⌜ r ≡ answeredBy (answerTo (consoleMeant console) (ending (verdictMeant verdict))) ⌝ }
 {
-    to_numbers(endings::answer(console_of(console), verdict_of(verdict)))
+    to_numbers(endings::answer(console_meant(console), verdict_meant(verdict)))
 }

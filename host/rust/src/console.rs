@@ -1,23 +1,24 @@
 use crate::raw;
 use crate::Verdict;
 
-/// Where the data connections of the next transfer will come from.
+/// How the data connections of the next transfer will be made.
 #[derive(Clone, Copy, Debug, Default, PartialEq, Eq, Hash)]
 pub enum Endpoint {
-    /// Nowhere yet.
+    /// It is not settled.
     #[default]
-    None,
+    None = 0,
     /// The peer opens them: PASV or SPAS.
-    Listening,
+    Listening = 1,
     /// They are opened to the peer: PORT or SPOR.
-    Connecting,
+    Connecting = 2,
 }
 
 /// The order of a session's commands: which code each line of the control channel gets, and the end of a transfer.
 ///
-/// It says what is answered. To listen, to connect and to receive or send is the host's, who reads the arguments with
-/// [`hosts`](crate::hosts) and [`ranges`](crate::ranges). All of its state is these three fields, and every value of them is
-/// answered, also those that no session comes to.
+/// It says what is answered. The host listens, connects, receives and sends, and reads the arguments with
+/// [`hosts`](crate::hosts) and [`ranges`](crate::ranges): after a 350 the ranges of the line, for which 510 pairs are always
+/// enough. All of the console's state is these three fields, and every value of them is answered, also those that no
+/// session comes to.
 ///
 /// ```
 /// use cobnutter::{Console, Verdict};
@@ -59,19 +60,22 @@ impl Console {
     }
 
     /// Answers a line, CR LF included. From 500 on the code is a refusal, by which nothing changes.
+    #[must_use = "the code is sent to the peer"]
     pub fn line(&mut self, line: &[u8]) -> Reply {
-        let answered = unsafe { raw::cob_console_line(self.numbers(), line.as_ptr(), line.len()) };
-        self.take(answered)
+        let answered = unsafe { raw::cob_console_line(self.to_raw(), line.as_ptr(), line.len()) };
+        self.update(answered)
     }
 
     /// Answers the end of the transfer with its verdict. With none running, and under GUESS, nothing changes and the code is
-    /// 0.
+    /// 0. A host that gives up on a transfer hands over [`Verdict::Broken`]. Of one that it sent it hands over
+    /// [`Verdict::Result`] where every channel was given its ending, and else [`Verdict::Broken`].
+    #[must_use = "the code is sent to the peer"]
     pub fn end(&mut self, verdict: Verdict) -> Reply {
-        let answered = unsafe { raw::cob_console_end(self.numbers(), verdict.number()) };
-        self.take(answered)
+        let answered = unsafe { raw::cob_console_end(self.to_raw(), verdict.number()) };
+        self.update(answered)
     }
 
-    fn numbers(self) -> raw::Console {
+    fn to_raw(self) -> raw::Console {
         raw::Console {
             mode_e: self.mode_e.into(),
             endpoint: self.endpoint as u8,
@@ -79,7 +83,7 @@ impl Console {
         }
     }
 
-    fn take(&mut self, answered: raw::ConsoleAnswer) -> Reply {
+    fn update(&mut self, answered: raw::ConsoleAnswer) -> Reply {
         let raw::Console {
             mode_e,
             endpoint,

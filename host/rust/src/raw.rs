@@ -177,7 +177,7 @@ pub struct LoadedFor {
     pub refused: u8,
 }
 
-/// A console's state. Every number means something.
+/// A console's state, which begins as all 0. Every number means something.
 #[repr(C)]
 #[derive(Clone, Copy, Debug, Default, PartialEq, Eq)]
 pub struct Console {
@@ -189,12 +189,13 @@ pub struct Console {
     pub running: u8,
 }
 
+/// What a console answers.
 #[repr(C)]
 #[derive(Clone, Copy, Debug, PartialEq, Eq)]
 pub struct ConsoleAnswer {
     /// The console from now on.
     pub console: Console,
-    /// 0 where there is none.
+    /// The reply code; 0 where there is none to send.
     pub code: u16,
     /// 1 where the word SUSPECT goes with the code, else 0.
     pub suspect: u8,

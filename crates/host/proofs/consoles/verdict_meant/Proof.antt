@@ -1,8 +1,8 @@
--- `consoles::verdict_of`.
+-- `consoles::verdict_meant`.
 use mathlib.Core.Path.{sym}
 use borrow.Author.Tests.{ne-eqb}
-use Rattle.host.proofs.consoles.verdict_of.Statement.{statement}
-use Rattle.host.proofs.consoles.verdict_of.Tie as tie
+use Rattle.host.proofs.consoles.verdict_meant.Statement.{statement}
+use Rattle.host.proofs.consoles.verdict_meant.Tie as tie
 
 returns : tie.Need-returns
 returns c = sym (rw (c .match .keys1))
@@ -16,5 +16,5 @@ returns-3 c = sym (rw (c .match .keys3))
 returns-4 : tie.Need-returns-4
 returns-4 c = sym (rw (ne-eqb _ 1 (c .match .rest .0 .0 .1), ne-eqb _ 2 (c .match .rest .0 .1), ne-eqb _ 3 (c .match .rest .1)))
 
-pub verdict-of-spec : {M : Type 1} → statement M
-verdict-of-spec = tie.close (tie.spec returns returns-2 returns-3 returns-4)
+pub verdict-meant-spec : {M : Type 1} → statement M
+verdict-meant-spec = tie.close (tie.spec returns returns-2 returns-3 returns-4)
