@@ -1,2 +1,3 @@
 pub mod ProvedSet
 pub mod CallCases
+pub mod ConsoleSession
