@@ -27,7 +27,7 @@ Command l v text = (word : List ℕ) × (spaces : ℕ) × CommandLine l word tex
 abbrev pub Asks : Console → List ℕ → ℕ → List ℕ → Type 0
 Asks s l v text = (s .running ≡ false) × Command l v text
 
--- E, in either case
+-- E (69), in either case
 abbrev pub IsE : List ℕ → Type 0
 IsE text = (text ≡ 69 ∷ []) ⊎ (text ≡ 101 ∷ [])
 
