@@ -128,10 +128,10 @@ module _ (Answers : Console → Event → Row → Answer → Type 0) (t : Table 
     of-refused k r = go k r r
       where
         go : (k : ℕ) → RefusedBy l k → RefusedBy l k → Gets s (line l) (refusedRow k)
-        go k (by-31 a) r = t .refused-line-gets-500 s l 31 r (omega arith) (omega arith)
-        go k (by-32 a b) r = t .refused-line-gets-500 s l 32 r (omega arith) (omega arith)
-        go k (by-33 a b c d e f) r = t .refused-line-gets-500 s l 33 r (omega arith) (omega arith)
-        go k (by-34 a b c d e) r = t .refused-line-gets-500 s l 34 r (omega arith) (omega arith)
+        go k (by-31 a) r = t .refused-line-gets-500 s l 31 r (omega arith)
+        go k (by-32 a b) r = t .refused-line-gets-500 s l 32 r (omega arith)
+        go k (by-33 a b c d e f) r = t .refused-line-gets-500 s l 33 r (omega arith)
+        go k (by-34 a b c d e) r = t .refused-line-gets-500 s l 34 r (omega arith)
         go k (by-35-missing a b c d e f g h i) r = t .refused-argument-gets-501 s l r
         go k (by-35-present a b c d e f g h i j) r = t .refused-argument-gets-501 s l r
 
@@ -160,7 +160,7 @@ module _ (Answers : Console → Event → Row → Answer → Type 0) (t : Table 
   every-ending s v = go (s .running) refl v
     where
       go : (b : Bool) → s .running ≡ b → (v : Verdict) → Gets s (ending v) (cond b (endRow v) end-of-none)
-      go false h v = t .none-gets-0 s v h
+      go false h v = t .end-of-none-gets-0 s v h
       go true h Guess = t .guess-gets-0 s h
       go true h Result = t .result-gets-226 s h
       go true h Suspect = t .suspect-gets-226 s h

@@ -125,14 +125,14 @@ stays-possible =
       rest-gets-350 = λ s l text a n i. i;
       rest-gets-501 = λ s l text a p i. i;
       sbuf-opts-get-200 = λ s l text v a w i. i;
-      refused-line-gets-500 = λ s l k r lo hi i. i;
+      refused-line-gets-500 = λ s l k r hi i. i;
       refused-argument-gets-501 = λ s l r i. i;
       running-gets-503 = λ s l text v h c i. i;
       result-gets-226 = λ s h i. inl refl;
       suspect-gets-226 = λ s h i. inl refl;
       broken-gets-426 = λ s h i. inl refl;
       guess-gets-0 = λ s h i. i;
-      none-gets-0 = λ s v h i. i;
+      end-of-none-gets-0 = λ s v h i. i;
     }
 
 next-possible : (s : Console) (e : Event) → Possible s → Possible (answerTo s e .console)

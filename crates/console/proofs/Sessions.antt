@@ -3,20 +3,23 @@ use Prim.Native.Nat.{ℕ, _-_, _≤_}
 use mathlib.Core.Path.{_≡_, refl, ap, _∙_}
 use mathlib.Core.Logic.{inl, inr}
 use mathlib.Core.Bool.{Bool, true, false, cond}
-use mathlib.Core.List.{List, [], _∷_, map}
+use mathlib.Core.List.{List, [], _∷_, _++_, map}
 use native.Mathlib.Omega.{arith}
 use lib.Dec.{eqb}
 use lib.ListN.{getD}
 use Rattle.commands.specs.Refused.{RefusedBy}
 use Rattle.commands.proofs.VerbNames.{verb-names}
 use Rattle.commands.proofs.WrittenLines.{written-lines}
+use Rattle.rangelists.specs.RangeText.{hasMalformed}
+use Rattle.rangelists.specs.MalformedRanges.{HasMalformed}
 use Rattle.rangelists.proofs.MalformedRanges.{malformed-ranges}
 use Rattle.console.specs.declared.state.Console.{Console}
 use Rattle.console.specs.declared.state.Answer.{Answer}
 use Rattle.console.specs.Console.{Event, line, ending}
 use Rattle.console.specs.Rows.{MODE, PASV, PORT, REST, RETR, STOR, SPAS, SPOR, ERET, ESTO, SBUF, OPTS, Row, mode-e, mode-other, too-early, pasv, spas, port, port-refused, spor, spor-refused, stor, stor-refused, retr, retr-refused, rest, rest-refused, sbuf-opts, line-refused, argument-refused, while-running, end-result, end-suspect, end-broken, end-guess, end-of-none, outcome, refusedRow, rowOf, answerTo}
-use Rattle.console.specs.Table.{answer, Table}
+use Rattle.console.specs.Table.{Asks, answer, Table}
 use Rattle.console.specs.Sessions.{answersFrom, after, IsRefusal, Sessions}
+use Rattle.console.proofs.Conditions.{Reflects, holds, fails, tests-malformed}
 use Rattle.console.proofs.Table.{sentences, refused-row}
 use Rattle.console.proofs.EveryEvent.{every-line, every-ending}
 use Rattle.console.proofs.RestRanges.{reads}
@@ -34,6 +37,17 @@ module _ (respond : Console → Event → Answer) (t : Table (λ s e r a. respon
   unfolding answersFrom
   same-from s [] = refl
   same-from s (e ∷ es) = rw (same s e) (ap (λ xs. answerTo s e ∷ xs) (same-from (answerTo s e .console) es))
+
+in-turn : (s : Console) (es fs : List Event) → answersFrom answerTo s (es ++ fs) ≡ answersFrom answerTo s es ++ answersFrom answerTo (after s es) fs
+unfolding answersFrom after
+in-turn s [] fs = refl
+in-turn s (e ∷ es) fs = ap (λ xs. answerTo s e ∷ xs) (in-turn (answerTo s e .console) es fs)
+
+-- ---- REST
+
+rest-answer : (s : Console) (l text : List ℕ) → Asks s l REST text → (b : Bool) → Reflects (HasMalformed text) b → answerTo s (line l) ≡ answer s (cond b 501 350) false
+rest-answer s l text a true (holds p) = sentences .rest-gets-501 s l text a p .1
+rest-answer s l text a false (fails n) = sentences .rest-gets-350 s l text a n .1
 
 -- ---- refused commands
 
@@ -113,19 +127,23 @@ mode-e-stays s [] h = h
 mode-e-stays s (e ∷ es) h = mode-e-stays (answerTo s e .console) es (keeps-mode-e (rowOf s e) s h)
 
 pub sessions : Sessions
-unfolding answerTo
+unfolding answerTo answersFrom
 sessions =
     record {
       table = sentences;
       line-is = every-line;
       end-is = every-ending;
       runs = same-from;
+      one-event = λ s e. refl;
+      in-turn = in-turn;
       changes-nothing = λ s l h. refuses (rowOf s (line l)) s h .0;
       refused-with = λ s l h. refuses (rowOf s (line l)) s h .1;
       judged-first = λ s l k r. answer-refused s l k r ∙ refused-code k s;
       mode-e-stays = mode-e-stays;
       at-most-510 = λ l text v c. omega (arith, malformed-ranges .four-bytes-each text, written-lines .longest-argument l (c .0) text v (c .1) (c .2));
-      rest-is-51 = λ l text ledger c. reads text ledger (written-lines .longest-argument l (c .0) text REST (c .1) (c .2));
+      rest-is-51 = λ s l text ledger a even few lent.
+          let c = a .1 in
+          (reads text ledger (written-lines .longest-argument l (c .0) text REST (c .1) (c .2)) even few lent, rest-answer s l text a (hasMalformed text) (tests-malformed text));
       reached = reached;
       reached-only = reached-only;
       met = met;

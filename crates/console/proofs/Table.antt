@@ -105,7 +105,7 @@ sentences =
       rest-gets-501 = λ s l text a p.
           asks s l text REST rest-refused a (by-rest s REST text refl ∙ first (hasMalformed text) rest-refused rest (is-true (HasMalformed text) _ (tests-malformed text) p));
       sbuf-opts-get-200 = λ s l text v a w. asks s l text v sbuf-opts a (by-sbuf-opts s v text w);
-      refused-line-gets-500 = λ s l k r lo hi.
+      refused-line-gets-500 = λ s l k r hi.
           answered s (line l) line-refused (refused-row s l k r ∙ second (eqb k 35) argument-refused line-refused (ne-eqb k 35 (λ e. omega arith)));
       refused-argument-gets-501 = λ s l r. answered s (line l) argument-refused (refused-row s l 35 r);
       running-gets-503 = λ s l text v h c. answered s (line l) while-running (running-row s l v text c h);
@@ -113,5 +113,5 @@ sentences =
       suspect-gets-226 = λ s h. answered s _ end-suspect (first (s .running) end-suspect end-of-none h);
       broken-gets-426 = λ s h. answered s _ end-broken (first (s .running) end-broken end-of-none h);
       guess-gets-0 = λ s h. answered s _ end-guess (first (s .running) end-guess end-of-none h);
-      none-gets-0 = λ s v h. answered s _ end-of-none (second (s .running) (endRow v) end-of-none h);
+      end-of-none-gets-0 = λ s v h. answered s _ end-of-none (second (s .running) (endRow v) end-of-none h);
     }

@@ -3,7 +3,7 @@ use Prim.Native.Nat.{ℕ, _-_, _%_, _≤_}
 use mathlib.Core.Path.{_≡_}
 use mathlib.Core.Logic.{_⊎_, _≢_}
 use mathlib.Core.Bool.{true, false, cond}
-use mathlib.Core.List.{List, [], _∷_, map}
+use mathlib.Core.List.{List, [], _∷_, _++_, map}
 use lib.Dec.{eqb}
 use lib.ListN.{length, getD}
 use Rattle.answers.specs.declared.loaded.Loaded.the-variants.{Done, Refused}
@@ -17,7 +17,7 @@ use Rattle.console.specs.declared.state.Endpoint.the-variants.{None}
 use Rattle.console.specs.declared.state.Answer.{Answer}
 use Rattle.console.specs.Console.{Event, line, ending, beginning}
 use Rattle.console.specs.Rows.{MODE, PASV, PORT, REST, RETR, STOR, SPAS, SPOR, ERET, ESTO, SBUF, OPTS, Row, rowOf, answerTo}
-use Rattle.console.specs.Table.{Command, answer, Table}
+use Rattle.console.specs.Table.{Command, Asks, answer, Table}
 
 -- the event falls under this row and gets this answer
 abbrev pub Answered : Console → Event → Row → Answer → Type 0
@@ -57,7 +57,8 @@ IsRefusal code = (code ≡ 500) ⊎ ((code ≡ 501) ⊎ ((code ≡ 503) ⊎ (cod
 pub record Sessions : Type 1 where
   -- the console answers by each sentence of the table
   pub table : Table Answered
-  -- every line and every ending falls under a sentence, in every state: whatever holds by all the sentences holds of the console's answer
+  -- every line and every ending falls under a sentence, in every state. So whatever is shown of each sentence's answer holds of every answer of
+  -- the console.
   pub line-is : (Answers : Console → Event → Row → Answer → Type 0) → Table Answers → (s : Console) (l : List ℕ)
       → Answers s (line l) (rowOf s (line l)) (answerTo s (line l))
   pub end-is : (Answers : Console → Event → Row → Answer → Type 0) → Table Answers → (s : Console) (v : Verdict)
@@ -65,17 +66,21 @@ pub record Sessions : Type 1 where
   -- over any sequence, from the beginning and from any other state, whoever keeps to the table answers the same
   pub runs : (respond : Console → Event → Answer) → Table (λ s e r a. respond s e ≡ a) → (s : Console) (events : List Event)
       → answersFrom respond s events ≡ answersFrom answerTo s events
-  -- a refused command changes nothing; its code is one of four, without the word
+  -- the first answer is that of the first event, and each later event is asked of the console that those before it left
+  pub one-event : (s : Console) (e : Event) → answersFrom answerTo s (e ∷ []) ≡ answerTo s e ∷ []
+  pub in-turn : (s : Console) (es fs : List Event) → answersFrom answerTo s (es ++ fs) ≡ answersFrom answerTo s es ++ answersFrom answerTo (after s es) fs
+  -- a refused command changes nothing, and there is no word with its code
   pub changes-nothing : (s : Console) (l : List ℕ) → 500 ≤ answerTo s (line l) .code → answerTo s (line l) ≡ answer s (answerTo s (line l) .code) false
+  -- which codes these are
   pub refused-with : (s : Console) (l : List ℕ) → 500 ≤ answerTo s (line l) .code → IsRefusal (answerTo s (line l) .code)
   -- a line that is refused gets its code in every state, also while a transfer runs
   pub judged-first : (s : Console) (l : List ℕ) (k : ℕ) → RefusedBy l k → answerTo s (line l) ≡ answer s (cond (eqb k 35) 501 500) false
   -- mode E stays asked for
   pub mode-e-stays : (s : Console) (events : List Event) → s .extended ≡ true → after s events .extended ≡ true
-  -- REST's 501 is the reader's 51: a line has at most 510 ranges, and into a pair for each the reader answers nothing else
+  -- an argument has at most 510 ranges. Into a pair for each the reader answers 51 where REST gets 501, and 0 where it gets 350
   pub at-most-510 : (l text : List ℕ) (v : ℕ) → Command l v text → rangeCount text ≤ 510
-  pub rest-is-51 : (l text ledger : List ℕ) → Command l REST text → length ledger % 2 ≡ 0 → length ledger ≤ 8192 → 1020 ≤ length ledger
-      → readRanges text ledger ≡ cond (hasMalformed text) (Refused 51) Done
+  pub rest-is-51 : (s : Console) (l text ledger : List ℕ) → Asks s l REST text → length ledger % 2 ≡ 0 → length ledger ≤ 8192 → 1020 ≤ length ledger
+      → (readRanges text ledger ≡ cond (hasMalformed text) (Refused 51) Done) × (answerTo s (line l) ≡ answer s (cond (hasMalformed text) 501 350) false)
   -- the states that sequences from the beginning reach, and no others
   pub reached : (s : Console) → Possible s → Reached s
   pub reached-only : (s : Console) → Reached s → Possible s

@@ -73,8 +73,8 @@ pub record Table (Answers : Console → Event → Row → Answer → Type 0) : T
   pub rest-gets-350 : (s : Console) (l text : List ℕ) → Asks s l REST text → (HasMalformed text → ⊥) → Answers s (line l) rest (answer s 350 false)
   pub rest-gets-501 : (s : Console) (l text : List ℕ) → Asks s l REST text → HasMalformed text → Answers s (line l) rest-refused (answer s 501 false)
   pub sbuf-opts-get-200 : (s : Console) (l text : List ℕ) (v : ℕ) → Asks s l v text → (v ≡ SBUF) ⊎ (v ≡ OPTS) → Answers s (line l) sbuf-opts (answer s 200 false)
-  -- judged first, in every state: a line that is refused; then, while a transfer runs, every command
-  pub refused-line-gets-500 : (s : Console) (l : List ℕ) (k : ℕ) → RefusedBy l k → 31 ≤ k → k ≤ 34 → Answers s (line l) line-refused (answer s 500 false)
+  -- judged first, in every state: a line that is refused, with 31 to 34 or with 35; then, while a transfer runs, every command
+  pub refused-line-gets-500 : (s : Console) (l : List ℕ) (k : ℕ) → RefusedBy l k → k ≤ 34 → Answers s (line l) line-refused (answer s 500 false)
   pub refused-argument-gets-501 : (s : Console) (l : List ℕ) → RefusedBy l 35 → Answers s (line l) argument-refused (answer s 501 false)
   pub running-gets-503 : (s : Console) (l text : List ℕ) (v : ℕ) → s .running ≡ true → Command l v text → Answers s (line l) while-running (answer s 503 false)
   -- the end of the transfer that runs
@@ -83,4 +83,4 @@ pub record Table (Answers : Console → Event → Row → Answer → Type 0) : T
   pub broken-gets-426 : (s : Console) → s .running ≡ true → Answers s (ending Broken) end-broken (answer (console (s .extended) None false) 426 false)
   -- the ends that do nothing
   pub guess-gets-0 : (s : Console) → s .running ≡ true → Answers s (ending Guess) end-guess (answer s 0 false)
-  pub none-gets-0 : (s : Console) (v : Verdict) → s .running ≡ false → Answers s (ending v) end-of-none (answer s 0 false)
+  pub end-of-none-gets-0 : (s : Console) (v : Verdict) → s .running ≡ false → Answers s (ending v) end-of-none (answer s 0 false)

@@ -1,9 +1,10 @@
 -- `Numbers` holds.
+use Prim.Native.Nat.{ℕ}
 use mathlib.Core.Path.{_≡_, refl}
-use mathlib.Core.Bool.{Bool, true, false}
-use native.Mathlib.Omega.{arith}
-use borrow.Author.Tests.{lt-ltb, ne-eqb}
-use lib.Dec.{ltb}
+use mathlib.Core.Logic.{_⊎_, inl, inr}
+use mathlib.Core.Bool.{Bool, true, false, cond}
+use borrow.Author.Tests.{lt-ltb, eqb-true}
+use lib.Dec.{ltb, eqb}
 use Rattle.eblock.specs.Header.{refusalNumber as headerNumber}
 use Rattle.eblock.specs.declared.header.Header.{Header}
 use Rattle.eblock.specs.declared.header.Header.the-variants.{Data, Eodc, Refused as NotRead}
@@ -81,6 +82,24 @@ endpoint-back None = refl
 endpoint-back Listening = refl
 endpoint-back Connecting = refl
 
+endpoint-meant : (n : ℕ) → (endpointMeant n ≡ None) ⊎ (n ≡ endpointCode (endpointMeant n))
+endpoint-meant n = go (eqb n 1) (eqb n 2) refl refl
+  where
+    go : (a b : Bool) → eqb n 1 ≡ a → eqb n 2 ≡ b → (cond a Listening (cond b Connecting None) ≡ None) ⊎ (n ≡ endpointCode (cond a Listening (cond b Connecting None)))
+    go true b e f = inr (eqb-true n 1 e)
+    go false true e f = inr (eqb-true n 2 f)
+    go false false e f = inl refl
+
+verdict-meant : (n : ℕ) → (verdictMeant n ≡ Guess) ⊎ (n ≡ verdictCode (toVerdict (verdictMeant n)))
+verdict-meant n = go (eqb n 1) (eqb n 2) (eqb n 3) refl refl refl
+  where
+    go : (a b c : Bool) → eqb n 1 ≡ a → eqb n 2 ≡ b → eqb n 3 ≡ c
+        → (cond a Result (cond b Broken (cond c Suspect Guess)) ≡ Guess) ⊎ (n ≡ verdictCode (toVerdict (cond a Result (cond b Broken (cond c Suspect Guess)))))
+    go true b c e f g = inr (eqb-true n 1 e)
+    go false true c e f g = inr (eqb-true n 2 f)
+    go false false true e f g = inr (eqb-true n 3 g)
+    go false false false e f g = inl refl
+
 verdict-back : (v : Verdict) → verdictMeant (verdictCode (toVerdict v)) ≡ v
 verdict-back Guess = refl
 verdict-back Result = refl
@@ -108,8 +127,8 @@ numbers =
       endpoints = refl;
       yes-and-no = refl;
       begins = refl;
-      other-yes = λ n. (lt-ltb 0 (n .extended), lt-ltb 0 (n .running));
-      other-endpoint = λ n h. rw (ne-eqb n 1 (λ e. omega arith), ne-eqb n 2 (λ e. omega arith));
+      yes-meant = λ n. (lt-ltb 0 (n .extended), lt-ltb 0 (n .running));
+      endpoint-meant = endpoint-meant;
       answered = λ a. (refl, refl, refl);
-      other-verdict = λ n h. rw (ne-eqb n 1 (λ e. omega arith), ne-eqb n 2 (λ e. omega arith), ne-eqb n 3 (λ e. omega arith));
+      verdict-meant = verdict-meant;
     }

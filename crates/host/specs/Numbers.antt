@@ -2,6 +2,7 @@
 -- a word is a code; and a console's state is numbers.
 use Prim.Native.Nat.{ℕ, _<_}
 use mathlib.Core.Path.{_≡_}
+use mathlib.Core.Logic.{_⊎_}
 use mathlib.Core.Bool.{true, false}
 use mathlib.Core.List.{[], _∷_, map}
 use Rattle.eblock.specs.Header.{refusalNumber as headerNumber}
@@ -67,9 +68,9 @@ pub record Numbers : Type 0 where
   pub endpoints : map endpointCode (None ∷ Listening ∷ Connecting ∷ []) ≡ 0 ∷ 1 ∷ 2 ∷ []
   pub yes-and-no : map oneIf (false ∷ true ∷ []) ≡ 0 ∷ 1 ∷ []
   pub begins : consoleMeant (record { extended = 0; endpoint = 0; running = 0 }) ≡ beginning
-  -- what every other number means: yes, no endpoint, GUESS
-  pub other-yes : (n : ConsoleNumbers) → (0 < n .extended → consoleMeant n .extended ≡ true) × (0 < n .running → consoleMeant n .running ≡ true)
-  pub other-endpoint : (n : ℕ) → 2 < n → endpointMeant n ≡ None
-  pub other-verdict : (n : ℕ) → 3 < n → verdictMeant n ≡ Guess
+  -- what every number means: any but 0 is yes; one that no endpoint has says none, and one that no word has says GUESS
+  pub yes-meant : (n : ConsoleNumbers) → (0 < n .extended → consoleMeant n .extended ≡ true) × (0 < n .running → consoleMeant n .running ≡ true)
+  pub endpoint-meant : (n : ℕ) → (endpointMeant n ≡ None) ⊎ (n ≡ endpointCode (endpointMeant n))
+  pub verdict-meant : (n : ℕ) → (verdictMeant n ≡ Guess) ⊎ (n ≡ verdictCode (toVerdict (verdictMeant n)))
   -- an answer's code is handed on as it is, and the word as 1
   pub answered : (a : Answer) → (answeredBy a .code ≡ a .code) × (answeredBy a .suspect ≡ oneIf (a .suspect)) × (answeredBy a .console ≡ numbersOf (a .console))

@@ -106,6 +106,10 @@ ranges-bytes [] = omega arith
 ranges-bytes (t ∷ []) = omega (arith, range-bytes t)
 ranges-bytes (t ∷ u ∷ ts) = omega (arith, range-bytes t, ranges-bytes (u ∷ ts), length-append t (44 ∷ withCommas (u ∷ ts)))
 
+at-most-parts : (text : List ℕ) → rangeCount text ≤ length (parts text)
+unfolding rangeCount
+at-most-parts text = ranges-few (parts text)
+
 four-bytes-each : (text : List ℕ) → 4 * rangeCount text ≤ length text + 1
 unfolding rangeCount
 four-bytes-each text = omega (arith, ranges-bytes (parts text), ap length (parted .joined text))
@@ -117,7 +121,7 @@ malformed-ranges =
       malformed-true = malformed-true;
       true-malformed = true-malformed;
       by-the-text = by-the-text;
-      by-the-parts = λ text ledger e l h. by-the-text text ledger e l (omega (arith, ranges-few (parts text)));
+      at-most-parts = at-most-parts;
       four-bytes-each = four-bytes-each;
       shortest = (refl, refl);
       no-digit = (refl, refl);

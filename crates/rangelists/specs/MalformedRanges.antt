@@ -8,7 +8,7 @@ use Rattle.answers.specs.declared.loaded.Loaded.the-variants.{Done, Refused}
 use Rattle.rangelists.specs.RangeText.{parts, hasMalformed, rangeCount, readRanges}
 use Rattle.rangelists.specs.OneRange.{IsRange}
 
--- some text between two commas is no range
+-- one of the texts that the commas part is no range
 pub record HasMalformed (text : List ℕ) : Type 0 where
   pub before : List (List ℕ)
   pub malformed : List ℕ
@@ -20,13 +20,11 @@ pub record MalformedRanges : Type 0 where
   -- the test says it, and says nothing else
   pub malformed-true : (text : List ℕ) → HasMalformed text → hasMalformed text ≡ true
   pub true-malformed : (text : List ℕ) → hasMalformed text ≡ true → HasMalformed text
-  -- with a pair for each range, of which a malformed one needs none: 51 where one is malformed, and else 0; never 52
+  -- into as many pairs as the text has ranges, those that are malformed not counted: 51 where one is malformed, else 0; never 52
   pub by-the-text : (text ledger : List ℕ) → length ledger % 2 ≡ 0 → length ledger ≤ 8192 → 2 * rangeCount text ≤ length ledger
       → readRanges text ledger ≡ cond (hasMalformed text) (Refused 51) Done
-  -- so with a pair for each text between commas
-  pub by-the-parts : (text ledger : List ℕ) → length ledger % 2 ≡ 0 → length ledger ≤ 8192 → 2 * length (parts text) ≤ length ledger
-      → readRanges text ledger ≡ cond (hasMalformed text) (Refused 51) Done
-  -- and with one for every four bytes: a range has three or more, and a comma before the next
+  -- these are no more than the texts between the commas, nor than a range for every four bytes, the last one's comma counted
+  pub at-most-parts : (text : List ℕ) → rangeCount text ≤ length (parts text)
   pub four-bytes-each : (text : List ℕ) → 4 * rangeCount text ≤ length text + 1
   -- 0-0, the shortest range, and x, which is none
   pub shortest : (hasMalformed (48 ∷ 45 ∷ 48 ∷ []) ≡ false) × (rangeCount (48 ∷ 45 ∷ 48 ∷ []) ≡ 1)
