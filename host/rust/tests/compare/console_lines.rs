@@ -25,10 +25,10 @@ pub const CASES: [Case; 47] = [
     ("SPOR of few", &[200, 503], |r| {
         line("SPOR", &hosts(few(r), r), r)
     }),
-    ("STOR any", &[150, 503], |r| line("STOR", &any(r), r)),
-    ("ESTO any", &[150, 503], |r| line("ESTO", &any(r), r)),
-    ("RETR any", &[150, 503], |r| line("RETR", &any(r), r)),
-    ("ERET any", &[150, 503], |r| line("ERET", &any(r), r)),
+    ("STOR any", &[150, 503], |r| line("STOR", &any_text(r), r)),
+    ("ESTO any", &[150, 503], |r| line("ESTO", &any_text(r), r)),
+    ("RETR any", &[150, 503], |r| line("RETR", &any_text(r), r)),
+    ("ERET any", &[150, 503], |r| line("ERET", &any_text(r), r)),
     ("MODE, 2 spaces", &[200], |r| bare("MODE", "  E", r)),
     ("MODE E, space", &[504], |r| bare("MODE", " E ", r)),
     ("MODE of others", &[504], |r| line("MODE", other_mode(r), r)),
@@ -80,16 +80,18 @@ pub const CASES: [Case; 47] = [
     ("51 among 510", &[501], |r| {
         bare("REST", &listed(spoil_one(short_ranges(r), r)), r)
     }),
-    ("SBUF any", &[200], |r| line("SBUF", &any(r), r)),
-    ("OPTS any", &[200], |r| line("OPTS", &any(r), r)),
+    ("SBUF any", &[200], |r| line("SBUF", &any_text(r), r)),
+    ("OPTS any", &[200], |r| line("OPTS", &any_text(r), r)),
     ("2,048 bytes", &[200], |r| {
         sized(one(&["SBUF", "OPTS"], r), LONGEST, r)
     }),
     ("2,048 of STOR", &[150, 503], |r| sized("STOR", LONGEST, r)),
     ("2,048 of RETR", &[150, 503], |r| sized("RETR", LONGEST, r)),
-    ("2,049 bytes", &[500], |r| sized(taking(r), LONGEST + 1, r)),
+    ("2,049 bytes", &[500], |r| {
+        sized(argument_verb(r), LONGEST + 1, r)
+    }),
     ("too long", &[500], |r| {
-        sized(taking(r), LONGEST + r.between(1, 3_000), r)
+        sized(argument_verb(r), LONGEST + r.between(1, 3_000), r)
     }),
     ("no CR LF", &[500], |r| {
         let mut line = good(r);
@@ -106,10 +108,10 @@ pub const CASES: [Case; 47] = [
     }),
     ("other verb", &[500], |r| bare("", other_verb(r), r)),
     ("no argument", &[501], |r| {
-        bare(taking(r), &" ".repeat(r.size(3)), r)
+        bare(argument_verb(r), &" ".repeat(r.size(3)), r)
     }),
     ("argument", &[501], |r| {
-        bare(lonely(r), one(&[" ", "  ", " x"], r), r)
+        bare(no_argument_verb(r), one(&[" ", "  ", " x"], r), r)
     }),
     // Where 35 is due too.
     ("31 over 35", &[500], |r| {
@@ -121,7 +123,7 @@ pub const CASES: [Case; 47] = [
         line
     }),
     ("33 over 35", &[500], |r| {
-        bare(lonely(r), one(&[" \t", " \x7f", " \r"], r), r)
+        bare(no_argument_verb(r), one(&[" \t", " \x7f", " \r"], r), r)
     }),
     // It may get any code.
     ("edited", &[], |r| {
@@ -170,12 +172,12 @@ fn one(words: &[&'static str], random: &Random) -> &'static str {
 }
 
 /// A verb that may have no argument.
-fn lonely(random: &Random) -> &'static str {
+fn no_argument_verb(random: &Random) -> &'static str {
     one(&["PASV", "SPAS"], random)
 }
 
 /// A verb that must have one.
-fn taking(random: &Random) -> &'static str {
+fn argument_verb(random: &Random) -> &'static str {
     let mut verbs = VERBS.to_vec();
     verbs.retain(|verb| !["PASV", "SPAS"].contains(verb));
     one(&verbs, random)
@@ -209,7 +211,7 @@ fn other_mode(random: &Random) -> &'static str {
 }
 
 /// An argument that is not read.
-fn any(random: &Random) -> String {
+fn any_text(random: &Random) -> String {
     printable(1 + random.size(20), random)
 }
 
