@@ -1,6 +1,6 @@
 -- Lines for the rows of the table, and texts for their arguments.
 use Prim.Native.Nat.{ℕ, zero, suc, _-_, _≤_, _<_}
-use mathlib.Core.Path.{_≡_, refl, sym, ap, _∙_}
+use mathlib.Core.Path.{_≡_, sym, ap, _∙_}
 use mathlib.Core.Logic.{_⊎_, ⊎-elim, _≢_}
 use mathlib.Core.Bool.{Bool, true, not, _&&_, and-eq-true-iff, false≢true}
 use mathlib.Core.List.{List, [], _∷_, _++_}
@@ -22,7 +22,7 @@ use Rattle.console.specs.Table.{Command, IsE, IsHostPort}
 -- ---- lines
 
 -- every byte is one of 32 to 126
-unfoldable visible : List ℕ → Bool
+unfoldable pub visible : List ℕ → Bool
 visible [] = true
 visible (b ∷ bs) = leb 32 b && (leb b 126 && visible bs)
 
@@ -46,13 +46,30 @@ bare-command v h = (nameOf v, 0, written-lines .without-argument v h)
 unfoldable pub takesArgument : ℕ → Bool
 takesArgument v = (leb 1 v && leb v 12) && (not (eqb v PASV) && not (eqb v SPAS))
 
-pub command-of : (v : ℕ) (text : List ℕ) → takesArgument v ≡ true → Argument text → Command (lineOf v text) v text
+-- a text that can be an argument
+unfoldable pub isArgument : List ℕ → Bool
+isArgument text = (leb 1 (length text) && leb (length text) 2041) && (visible text && not (eqb (getD text 0 0) 32))
+
+argument : (text : List ℕ) → isArgument text ≡ true → Argument text
+unfolding isArgument
+argument text h =
+    let p = and-eq-true-iff (leb 1 (length text) && leb (length text) 2041) (visible text && not (eqb (getD text 0 0) 32)) .0 h in
+    let q = and-eq-true-iff (leb 1 (length text)) (leb (length text) 2041) .0 (p .0) in
+    let n = and-eq-true-iff (visible text) (not (eqb (getD text 0 0) 32)) .0 (p .1) in
+    record {
+      some = leb-true 1 (length text) (q .0);
+      few = leb-true (length text) 2041 (q .1);
+      printable = visible-at text (n .0);
+      first = eqb-false (getD text 0 0) 32 (not-true _ (n .1));
+    }
+
+pub command-of : (v : ℕ) (text : List ℕ) → takesArgument v ≡ true → isArgument text ≡ true → Command (lineOf v text) v text
 unfolding takesArgument
 command-of v text h a =
     let p = and-eq-true-iff (leb 1 v && leb v 12) (not (eqb v PASV) && not (eqb v SPAS)) .0 h in
     let q = and-eq-true-iff (leb 1 v) (leb v 12) .0 (p .0) in
     let n = and-eq-true-iff (not (eqb v PASV)) (not (eqb v SPAS)) .0 (p .1) in
-    (nameOf v, 1, written-lines .with-argument v text (leb-true 1 v (q .0)) (leb-true v 12 (q .1)) (eqb-false v PASV (not-true _ (n .0))) (eqb-false v SPAS (not-true _ (n .1))) a)
+    (nameOf v, 1, written-lines .with-argument v text (leb-true 1 v (q .0)) (leb-true v 12 (q .1)) (eqb-false v PASV (not-true _ (n .0))) (eqb-false v SPAS (not-true _ (n .1))) (argument text a))
 
 -- ---- texts: E, S, x, one host-port, two, a range
 
@@ -73,34 +90,6 @@ two-host-ports = host-port ++ (32 ∷ host-port)
 
 abbrev pub one-range : List ℕ
 one-range = 48 ∷ 45 ∷ 48 ∷ []
-
--- a text whose bytes are looked at one by one
-seen : (text : List ℕ) → 0 < length text → length text ≤ 2041 → visible text ≡ true → getD text 0 0 ≢ 32 → Argument text
-seen text some few v first = record { some = some; few = few; printable = visible-at text v; first = first }
-
-pub of-e : Argument capital-e
-unfolding visible
-of-e = seen capital-e (omega arith) (omega arith) refl (λ e. omega arith)
-
-pub of-s : Argument capital-s
-unfolding visible
-of-s = seen capital-s (omega arith) (omega arith) refl (λ e. omega arith)
-
-pub of-x : Argument letter-x
-unfolding visible
-of-x = seen letter-x (omega arith) (omega arith) refl (λ e. omega arith)
-
-pub of-host-port : Argument host-port
-unfolding visible
-of-host-port = seen host-port (omega arith) (omega arith) refl (λ e. omega arith)
-
-pub of-two : Argument two-host-ports
-unfolding visible
-of-two = seen two-host-ports (omega arith) (omega arith) refl (λ e. omega arith)
-
-pub of-range : Argument one-range
-unfolding visible
-of-range = seen one-range (omega arith) (omega arith) refl (λ e. omega arith)
 
 -- ---- what they say
 

@@ -14,7 +14,7 @@ use Rattle.console.specs.Sessions.{after, Reached, Possible}
 use Rattle.console.proofs.Table.{sentences}
 use Rattle.console.proofs.EveryEvent.{every-line, every-ending}
 use Rattle.commands.specs.WrittenLines.{lineOf, bareLine}
-use Rattle.console.proofs.ExampleLines.{takesArgument, bare-command, command-of, capital-e, letter-x, host-port, of-e, of-x, of-host-port, is-host-port}
+use Rattle.console.proofs.ExampleLines.{visible, takesArgument, isArgument, bare-command, command-of, capital-e, letter-x, host-port, is-host-port}
 
 -- ---- one event more
 
@@ -38,31 +38,31 @@ at-beginning = record { events = []; comes-to = refl }
 
 module _ (s : Console) (r : Reached s) (h : s .running ≡ false) where
   pub asks-mode-e : Reached (asked s)
-  unfolding takesArgument
+  unfolding visible isArgument takesArgument
   asks-mode-e =
       next s r (line (lineOf MODE capital-e)) _
-      (sentences .mode-e-gets-200 s (lineOf MODE capital-e) capital-e (h, command-of MODE capital-e refl of-e) (inl refl) .1)
+      (sentences .mode-e-gets-200 s (lineOf MODE capital-e) capital-e (h, command-of MODE capital-e refl refl) (inl refl) .1)
 
   pub listens : Reached (atEndpoint s Listening)
   listens = next s r (line (bareLine PASV)) _ (sentences .pasv-gets-227 s (bareLine PASV) [] (h, bare-command PASV (inl refl)) .1)
 
   pub connects : Reached (atEndpoint s Connecting)
-  unfolding takesArgument
+  unfolding visible isArgument takesArgument
   connects =
       next s r (line (lineOf PORT host-port)) _
-      (sentences .port-gets-200 s (lineOf PORT host-port) host-port (h, command-of PORT host-port refl of-host-port) is-host-port .1)
+      (sentences .port-gets-200 s (lineOf PORT host-port) host-port (h, command-of PORT host-port refl refl) is-host-port .1)
 
   pub stores : s .extended ≡ true → s .endpoint ≡ Listening → Reached (started s)
-  unfolding takesArgument
+  unfolding visible isArgument takesArgument
   stores m e =
       next s r (line (lineOf STOR letter-x)) _
-      (sentences .stor-gets-150 s (lineOf STOR letter-x) letter-x STOR (h, command-of STOR letter-x refl of-x) (inl refl) m e .1)
+      (sentences .stor-gets-150 s (lineOf STOR letter-x) letter-x STOR (h, command-of STOR letter-x refl refl) (inl refl) m e .1)
 
   pub retrieves : s .extended ≡ true → s .endpoint ≡ Connecting → Reached (started s)
-  unfolding takesArgument
+  unfolding visible isArgument takesArgument
   retrieves m e =
       next s r (line (lineOf RETR letter-x)) _
-      (sentences .retr-gets-150 s (lineOf RETR letter-x) letter-x RETR (h, command-of RETR letter-x refl of-x) (inl refl) m e .1)
+      (sentences .retr-gets-150 s (lineOf RETR letter-x) letter-x RETR (h, command-of RETR letter-x refl refl) (inl refl) m e .1)
 
 -- ---- the eight states
 

@@ -8,11 +8,15 @@ use lib.ListN.{length}
 use Rattle.answers.specs.declared.loaded.Loaded.the-variants.{Done, Refused}
 use Rattle.rangelists.specs.RangeText.{hasMalformed, readRanges}
 use Rattle.rangelists.proofs.MalformedRanges.{malformed-ranges}
+use Rattle.console.specs.Sessions.{ArgumentRanges}
+
+pub argument-ranges : ArgumentRanges
+argument-ranges = record { at-most-510 = λ text h. omega (arith, malformed-ranges .four-bytes-each text) }
 
 module _ (text ledger : List ℕ) (short : length text ≤ 2041) (even : length ledger % 2 ≡ 0) (few : length ledger ≤ 8192)
     (lent : 1020 ≤ length ledger) where
   pub reads : readRanges text ledger ≡ cond (hasMalformed text) (Refused 51) Done
-  reads = malformed-ranges .by-the-text text ledger even few (omega (arith, malformed-ranges .four-bytes-each text))
+  reads = malformed-ranges .by-the-text text ledger even few (omega (arith, argument-ranges .at-most-510 text short))
 
   pub done-none : Done ≡ readRanges text ledger → hasMalformed text ≡ false
   done-none e = go (hasMalformed text) (e ∙ reads)

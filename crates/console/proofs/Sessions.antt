@@ -12,7 +12,6 @@ use Rattle.commands.proofs.VerbNames.{verb-names}
 use Rattle.commands.proofs.WrittenLines.{written-lines}
 use Rattle.rangelists.specs.RangeText.{hasMalformed}
 use Rattle.rangelists.specs.MalformedRanges.{HasMalformed}
-use Rattle.rangelists.proofs.MalformedRanges.{malformed-ranges}
 use Rattle.console.specs.declared.state.Console.{Console}
 use Rattle.console.specs.declared.state.Answer.{Answer}
 use Rattle.console.specs.Console.{Event, line, ending}
@@ -22,7 +21,7 @@ use Rattle.console.specs.Sessions.{answersFrom, after, IsRefusal, Sessio
 use Rattle.console.proofs.Conditions.{Reflects, holds, fails, tests-malformed}
 use Rattle.console.proofs.Table.{sentences, refused-row}
 use Rattle.console.proofs.EveryEvent.{every-line, every-ending}
-use Rattle.console.proofs.RestRanges.{reads}
+use Rattle.console.proofs.RestRanges.{argument-ranges, reads}
 use Rattle.console.proofs.Reached.{reached, reached-only}
 use Rattle.console.proofs.RowsMet.{met}
 
@@ -140,7 +139,7 @@ sessions =
       refused-with = λ s l h. refuses (rowOf s (line l)) s h .1;
       judged-first = λ s l k r. answer-refused s l k r ∙ refused-code k s;
       mode-e-stays = mode-e-stays;
-      at-most-510 = λ l text v c. omega (arith, malformed-ranges .four-bytes-each text, written-lines .longest-argument l (c .0) text v (c .1) (c .2));
+      ranges-are = argument-ranges;
       rest-is-51 = λ s l text ledger a even few lent.
           let c = a .1 in
           (reads text ledger (written-lines .longest-argument l (c .0) text REST (c .1) (c .2)) even few lent, rest-answer s l text a (hasMalformed text) (tests-malformed text));

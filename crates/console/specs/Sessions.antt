@@ -17,7 +17,7 @@ use Rattle.console.specs.declared.state.Endpoint.the-variants.{None}
 use Rattle.console.specs.declared.state.Answer.{Answer}
 use Rattle.console.specs.Console.{Event, line, ending, beginning}
 use Rattle.console.specs.Rows.{MODE, PASV, PORT, REST, RETR, STOR, SPAS, SPOR, ERET, ESTO, SBUF, OPTS, Row, rowOf, answerTo}
-use Rattle.console.specs.Table.{Command, Asks, answer, Table}
+use Rattle.console.specs.Table.{Asks, answer, Table}
 
 -- the event falls under this row and gets this answer
 abbrev pub Answered : Console → Event → Row → Answer → Type 0
@@ -54,6 +54,10 @@ Possible s = (s .running ≡ false) ⊎ ((s .extended ≡ true) × (s .endpoint 
 abbrev pub IsRefusal : ℕ → Type 0
 IsRefusal code = (code ≡ 500) ⊎ ((code ≡ 501) ⊎ ((code ≡ 503) ⊎ (code ≡ 504)))
 
+-- what the longest argument has room for
+pub record ArgumentRanges : Type 0 where
+  pub at-most-510 : (text : List ℕ) → length text ≤ 2041 → rangeCount text ≤ 510
+
 pub record Sessions : Type 1 where
   -- the console answers by each sentence of the table
   pub table : Table Answered
@@ -78,7 +82,7 @@ pub record Sessions : Type 1 where
   -- mode E stays asked for
   pub mode-e-stays : (s : Console) (events : List Event) → s .extended ≡ true → after s events .extended ≡ true
   -- an argument has at most 510 ranges. Into a pair for each the reader answers 51 where REST gets 501, and 0 where it gets 350
-  pub at-most-510 : (l text : List ℕ) (v : ℕ) → Command l v text → rangeCount text ≤ 510
+  pub ranges-are : ArgumentRanges
   pub rest-is-51 : (s : Console) (l text ledger : List ℕ) → Asks s l REST text → length ledger % 2 ≡ 0 → length ledger ≤ 8192 → 1020 ≤ length ledger
       → (readRanges text ledger ≡ cond (hasMalformed text) (Refused 51) Done) × (answerTo s (line l) ≡ answer s (cond (hasMalformed text) 501 350) false)
   -- the states that sequences from the beginning reach, and no others
