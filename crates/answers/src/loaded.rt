@@ -1,5 +1,5 @@
 // Done where the ledger holds what was read, or the number by which it was refused.
-#[derive(Drop)]
+#[derive(Clone, Copy)]
 pub enum Loaded {
     Done,
     Refused(u8),

@@ -9,7 +9,7 @@ use rangechecks::disjoint;
 use transfer::state::Transfer;
 
 // What one pass over the channels finds; where they don't fit, `fits` is false and the counts are 0.
-#[derive(Drop)]
+#[derive(Clone, Copy)]
 pub struct FitReport {
     pub fits: bool,
     // The channels not unused.

@@ -7,7 +7,7 @@ use crate::{channel, held};
 use counts::count;
 use transfer::state::{Channel, Transfer};
 
-#[derive(Drop)]
+#[derive(Clone, Copy)]
 pub struct ChannelTotals {
     // Whether the channels fit, each by itself.
     pub fits: bool,

@@ -4,7 +4,7 @@ ghost use Rattle.std.specs.Prelude.{◌≡◌};
 ghost use Rattle.channels.specs.ChannelState.{with_state, cleared_with_fault};
 
 // What a call can change of its transfer: the channel's numbers and held bytes, count and fault.
-#[derive(Drop)]
+#[derive(Clone, Copy)]
 pub struct ChannelState {
     pub count: u64,
     pub fault: u64,

@@ -10,7 +10,7 @@ use crate::channel_state;
 use crate::channel_state::ChannelState;
 
 // A channel after a whole header or a run of payload bytes, and whether the call continues.
-#[derive(Drop)]
+#[derive(Clone, Copy)]
 pub struct NextState {
     pub channel: ChannelState,
     pub continues: bool,

@@ -6,7 +6,7 @@ use channelchecks::report::FitReport;
 use sums::sum;
 
 // The file's length, and how many of the other channels are not unused and have ended.
-#[derive(Drop)]
+#[derive(Clone, Copy)]
 pub struct OtherChannels {
     pub len: u64,
     pub used: u64,

@@ -11,14 +11,14 @@ use ledger::{place, rule};
 use rangechecks::search;
 
 // Where a range goes: the pairs that it becomes one with are those from `at` up to `past`, counted in pairs.
-#[derive(Drop)]
+#[derive(Clone, Copy)]
 pub struct Slot {
     pub at: usize,
     pub past: usize,
 }
 
 // Whether a range can be claimed: it shares a byte with a claimed one, the ledger lacks a pair for it, or it goes there.
-#[derive(Drop)]
+#[derive(Clone, Copy)]
 pub enum ClaimCheck {
     Overlaps,
     Full,

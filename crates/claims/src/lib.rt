@@ -1,3 +1,4 @@
 // Claiming ranges in a ledger.
+#![tactic(auto)]
 pub mod claim;
 mod shift;

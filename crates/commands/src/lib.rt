@@ -1,2 +1,3 @@
 // The control channel's command lines (document 01, "Control lines").
+#![tactic(auto)]
 pub mod line;

@@ -19,7 +19,7 @@ const PASV: u8 = 2;
 const SPAS: u8 = 7;
 
 // What a line says: the number of its verb, from 1, and the places of its argument in the line; or the number by which it is refused.
-#[derive(Drop)]
+#[derive(Clone, Copy)]
 pub enum Line {
     Command { verb: u8, from: usize, to: usize },
     Refused(u8),

@@ -3,14 +3,14 @@ ghost use Rattle.std.specs.Prelude.{◌≡◌};
 ghost use Rattle.console.specs.Console.{beginning, gets};
 
 // How the data connections will be made: it is not settled, the peer opens them, or they are opened to the peer.
-#[derive(Drop)]
+#[derive(Clone, Copy)]
 pub enum Endpoint {
     None,
     Listening,
     Connecting,
 }
 
-#[derive(Drop)]
+#[derive(Clone, Copy)]
 pub struct Console {
     // Extended block mode was asked for: MODE E.
     pub extended: bool,
@@ -19,7 +19,7 @@ pub struct Console {
     pub running: bool,
 }
 
-#[derive(Drop)]
+#[derive(Clone, Copy)]
 pub struct Answer {
     // The console from now on.
     pub console: Console,

@@ -1,2 +1,4 @@
 // Bytes copied to their place, for the receiver and the sender; no host calls it.
+#![tactic(auto)]
+
 pub mod copy;

@@ -1,2 +1,3 @@
 // Counts over the channels of a transfer.
+#![tactic(auto)]
 pub mod count;

@@ -11,7 +11,7 @@ pub const HEADER_LENGTH: usize = 17;
 pub const COUNT_LIMIT: u64 = 64;
 
 // What 17 bytes say, or the number by which they are refused.
-#[derive(Drop)]
+#[derive(Clone, Copy)]
 pub enum Header {
     Data {
         descriptor: u8,

@@ -13,7 +13,7 @@ pub const FIELD_LENGTH: usize = 4;
 pub const FRAME_LENGTH: usize = 6;
 
 // The record that bytes begin with. Whole has the record's length, the length field's four bytes counted.
-#[derive(Drop)]
+#[derive(Clone, Copy)]
 pub enum First {
     Nothing,
     Cut,

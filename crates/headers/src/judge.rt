@@ -9,7 +9,7 @@ use octets::big;
 use sums::sum;
 
 // What a header asks for: a count, a range, doubtful or not, or neither; or the number of its fault.
-#[derive(Drop)]
+#[derive(Clone, Copy)]
 pub enum Request {
     Counts(u64),
     Claims {

@@ -22,14 +22,14 @@ use transfer::state::Transfer;
 use verdicts::verdict::Verdict;
 
 #[repr(C)]
-#[derive(Drop)]
+#[derive(Clone, Copy)]
 pub struct Started {
     pub transfer: Transfer,
     pub refused: u8,
 }
 
 #[repr(C)]
-#[derive(Drop)]
+#[derive(Clone, Copy)]
 pub struct Received {
     pub transfer: Transfer,
     // The bytes of the piece that were taken.
@@ -41,7 +41,7 @@ pub struct Received {
 
 // What the screen line says. Where it is refused, all other numbers are 0.
 #[repr(C)]
-#[derive(Drop)]
+#[derive(Clone, Copy)]
 pub struct ScreenNumbers {
     // The channels that have ended.
     pub ended: u64,

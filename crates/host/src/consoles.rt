@@ -9,7 +9,7 @@ use console::{endings, lines};
 use verdicts::verdict::Verdict;
 
 #[repr(C)]
-#[derive(Drop)]
+#[derive(Clone, Copy)]
 pub struct ConsoleNumbers {
     // 1 where MODE E was asked for; any other number but 0 says the same.
     pub extended: u8,
@@ -20,7 +20,7 @@ pub struct ConsoleNumbers {
 }
 
 #[repr(C)]
-#[derive(Drop)]
+#[derive(Clone, Copy)]
 pub struct Answered {
     // The console from now on.
     pub console: ConsoleNumbers,

@@ -10,7 +10,7 @@ use eblock::header;
 use eblock::header::Header;
 
 #[repr(C)]
-#[derive(Drop)]
+#[derive(Clone, Copy)]
 pub struct Fields {
     // The payload's length, 0 with EODC.
     pub length: u64,

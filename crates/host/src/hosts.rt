@@ -10,7 +10,7 @@ use hostports::host_port;
 use hostports::host_port::ParsedHostPort;
 
 #[repr(C)]
-#[derive(Drop)]
+#[derive(Clone, Copy)]
 pub struct HostPortCount {
     // How many host-ports the text has.
     pub count: usize,
@@ -18,7 +18,7 @@ pub struct HostPortCount {
 }
 
 #[repr(C)]
-#[derive(Drop)]
+#[derive(Clone, Copy)]
 pub struct HostPortAt {
     // address * 65,536 + port.
     pub value: u64,

@@ -16,7 +16,7 @@ use savedledgers::{loaded_for, saved};
 
 // What the reader of kind 2 answers.
 #[repr(C)]
-#[derive(Drop)]
+#[derive(Clone, Copy)]
 pub struct LoadedFor {
     // The length of the file that the ledger is for.
     pub length: u64,

@@ -7,7 +7,7 @@ use commands::line;
 use commands::line::Line;
 
 #[repr(C)]
-#[derive(Drop)]
+#[derive(Clone, Copy)]
 pub struct Command {
     // The places of the argument in the line, the second not counted.
     pub from: usize,

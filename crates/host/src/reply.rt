@@ -6,7 +6,7 @@ use replies::reply;
 use replies::reply::Class;
 
 #[repr(C)]
-#[derive(Drop)]
+#[derive(Clone, Copy)]
 pub struct Reply {
     // 1 preliminary, 2 completion, 3 intermediate, 4 transient, 5 permanent.
     pub digit: u8,

@@ -8,7 +8,7 @@ use sender::state::Sender;
 use sender::{begin, next};
 
 #[repr(C)]
-#[derive(Drop)]
+#[derive(Clone, Copy)]
 pub struct Begun {
     // All 0 where it is refused.
     pub sender: Sender,
@@ -16,7 +16,7 @@ pub struct Begun {
 }
 
 #[repr(C)]
-#[derive(Drop)]
+#[derive(Clone, Copy)]
 pub struct Sent {
     pub sender: Sender,
     // The bytes written, the first of those lent.

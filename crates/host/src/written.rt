@@ -5,7 +5,7 @@ ghost use Rattle.host.specs.Written.{written_of};
 use answers::written;
 
 #[repr(C)]
-#[derive(Drop)]
+#[derive(Clone, Copy)]
 pub struct Written {
     // The bytes written, the first of those lent.
     pub length: usize,

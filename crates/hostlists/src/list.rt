@@ -12,7 +12,7 @@ pub const HOST_LIMIT: usize = 64;
 const SPACE: u8 = 32;
 
 // What filling a list answers: how many host-ports there are, or the number by which the text is refused.
-#[derive(Drop)]
+#[derive(Clone, Copy)]
 pub enum Hosts {
     Count(usize),
     Refused(u8),

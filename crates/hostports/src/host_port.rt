@@ -11,14 +11,14 @@ const COMMA: u8 = 44;
 const DIGIT_ZERO: u8 = 48;
 
 // One of the six numbers at a place of a text: its value and the place after it, or nothing that is well formed.
-#[derive(Drop)]
+#[derive(Clone, Copy)]
 pub enum ParsedNumber {
     Number { value: u64, next: usize },
     Malformed,
 }
 
 // A host-port at a place of a text: address * 65,536 + port and the place after it, or nothing that is well formed.
-#[derive(Drop)]
+#[derive(Clone, Copy)]
 pub enum ParsedHostPort {
     HostPort { value: u64, next: usize },
     Malformed,
@@ -87,7 +87,7 @@ fn host_port_at(text: &[u8], at: usize) -> ParsedHostPort
 }
 
 // A text and a place in it.
-#[derive(Drop)]
+#[derive(Clone, Copy)]
 pub struct Reader<'a> {
     pub text: &'a [u8],
     pub at: usize,

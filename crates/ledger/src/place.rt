@@ -4,7 +4,7 @@ ghost use Rattle.ledger.specs.Ledger.{capacity};
 ghost use Rattle.ledger.specs.Place.{ends_below, looked, FindResult};
 
 // How far a search has come: the place lies from low up to high, the pairs between are open, and so many pairs were looked at.
-#[derive(Drop)]
+#[derive(Clone, Copy)]
 pub struct Search {
     pub low: usize,
     pub high: usize,
@@ -12,7 +12,7 @@ pub struct Search {
 }
 
 // What a search answers: the place, counted in pairs, and how many pairs it looked at.
-#[derive(Drop)]
+#[derive(Clone, Copy)]
 pub struct Place {
     pub at: usize,
     pub looks: usize,

@@ -152,7 +152,7 @@ fn obeys_with(ledger: &[u64], n: usize, limit: u64) -> bool
 }
 
 // What the rule's test finds.
-#[derive(Drop)]
+#[derive(Clone, Copy)]
 pub struct RuleCheck {
     // Whether the ledger obeys its rule with no end above the limit.
     pub obeys: bool,

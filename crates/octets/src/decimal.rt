@@ -5,7 +5,7 @@ ghost use Rattle.octets.specs.Decimal.{digit_count, in_digits, read_of};
 use texts::text::{ByteKind, is_of_kind};
 
 // What a text says: a number, or nothing, where it is empty, has a byte that is no digit, or says more than the limit.
-#[derive(Drop)]
+#[derive(Clone, Copy)]
 pub enum Number {
     Value(u64),
     Nothing,

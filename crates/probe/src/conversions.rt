@@ -5,7 +5,7 @@ use octets::little;
 use savedconversions::conversion;
 
 // To kind 2 for a file of this length, or to kind 1.
-#[derive(Drop)]
+#[derive(Clone, Copy)]
 enum Target {
     Two(u64),
     One,

@@ -9,7 +9,7 @@ use savedledgers::loaded_for::LoadedFor;
 use savedledgers::saved;
 
 // What a ledger is read from: a saved record is of kind 1, and with the file length of kind 2.
-#[derive(Drop)]
+#[derive(Clone, Copy)]
 pub enum Source {
     Ranges,
     Saved,
@@ -17,7 +17,7 @@ pub enum Source {
 }
 
 // What a ledger is written as.
-#[derive(Drop)]
+#[derive(Clone, Copy)]
 pub enum Form {
     Ranges,
     Saved,

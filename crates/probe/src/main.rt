@@ -1,4 +1,5 @@
 // Makes the call that each request on standard input names, and prints a line for each, until the input ends or a request is malformed.
+#![tactic(auto)]
 mod calls;
 mod consoles;
 mod control;

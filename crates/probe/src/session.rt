@@ -7,7 +7,7 @@ use sender::begin;
 use sender::state::Sender;
 
 // The receiver, and how much of the file and of either ledger a call is lent at present; the sender, and how much of its file; the console.
-#[derive(Drop)]
+#[derive(Clone, Copy)]
 pub struct Session {
     pub receiver: Receiver,
     pub bytes: usize,
@@ -19,7 +19,7 @@ pub struct Session {
 }
 
 // The session that a request left, and whether more requests may come: none after a malformed one.
-#[derive(Drop)]
+#[derive(Clone, Copy)]
 pub struct Turn {
     pub session: Session,
     pub goes_on: bool,

@@ -15,7 +15,7 @@ use texts::text;
 use texts::text::ByteKind;
 
 // What the text between two commas says: the places from start up to end, end not counted, or nothing that is well formed.
-#[derive(Drop)]
+#[derive(Clone, Copy)]
 pub enum Range {
     Places { start: u64, end: u64 },
     Malformed,

@@ -1,4 +1,5 @@
 // The receiver of one transfer: what a host calls.
+#![tactic(auto)]
 pub mod receive;
 pub mod show;
 pub mod start;

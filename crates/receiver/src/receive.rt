@@ -28,20 +28,20 @@ use verdicts::verdict;
 use verdicts::verdict::Verdict;
 
 #[repr(C)]
-#[derive(Drop)]
+#[derive(Clone, Copy)]
 pub struct Receiver {
     pub transfer: Transfer,
 }
 
 // How many bytes of a piece were taken, or the number by which the call was refused.
-#[derive(Drop)]
+#[derive(Clone, Copy)]
 pub enum Answer {
     Took(usize),
     Refused(u8),
 }
 
 // The receiver as a call left it.
-#[derive(Drop)]
+#[derive(Clone, Copy)]
 pub struct Received {
     pub receiver: Receiver,
     pub verdict: Verdict,

@@ -14,7 +14,7 @@ use verdicts::verdict;
 use verdicts::verdict::Verdict;
 
 // A count of 0 is an unknown one, and a fault of 0 is none.
-#[derive(Drop)]
+#[derive(Clone, Copy)]
 pub struct Shown {
     pub verdict: Verdict,
     // The channels that have ended.
@@ -30,7 +30,7 @@ pub struct Shown {
 }
 
 // What the screen line says, or the number by which it is refused.
-#[derive(Drop)]
+#[derive(Clone, Copy)]
 pub enum Screen {
     Shows(Shown),
     Refused(u8),

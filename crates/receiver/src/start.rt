@@ -8,7 +8,7 @@ use octets::entries;
 use transfer::state::{Channel, Transfer};
 
 // The receiver that start gives, and the number by which it was refused, 0 where it was not.
-#[derive(Drop)]
+#[derive(Clone, Copy)]
 pub struct Started {
     pub receiver: Receiver,
     pub refused: u8,

@@ -12,7 +12,7 @@ use frames::frame;
 use frames::frame::First;
 
 // What a chunk led to: the session that takes the place of the one handed in, and how many bytes were written, or the number of a refusal.
-#[derive(Drop)]
+#[derive(Clone, Copy)]
 pub struct Fed {
     pub session: Session,
     pub answer: Written,

@@ -13,7 +13,7 @@ use frames::frame;
 use frames::frame::First;
 
 // What was found: a malformed record stops, and one that is not whole uses no byte.
-#[derive(Drop)]
+#[derive(Clone, Copy)]
 pub struct Looked {
     pub progress: Progress,
     pub written: usize,

@@ -25,7 +25,7 @@ pub const BEFORE_PIECE: usize = 7;
 pub const RECORD_LIMIT: u64 = 16387;
 
 // A start with its numbers, or a piece with its channel.
-#[derive(Drop)]
+#[derive(Clone, Copy)]
 pub enum Asked {
     Start { len: u64, pairs: u64 },
     Piece(u8),

@@ -6,7 +6,7 @@ use receiver::receive::Receiver;
 use receiver::start;
 
 // What the records so far have led to.
-#[derive(Drop)]
+#[derive(Clone, Copy)]
 pub struct Progress {
     pub receiver: Receiver,
     // The number of the next record, the first being 0.
@@ -15,7 +15,7 @@ pub struct Progress {
     pub started: bool,
 }
 
-#[derive(Drop)]
+#[derive(Clone, Copy)]
 pub struct Session {
     pub progress: Progress,
     // How many of the held bytes are in use: those of a record that is not whole.

@@ -10,7 +10,7 @@ use copies::copy;
 use frames::frame;
 
 // How far the chunk was taken, and how much was written.
-#[derive(Drop)]
+#[derive(Clone, Copy)]
 pub struct Stepped {
     pub session: Session,
     pub taken: usize,

@@ -20,7 +20,7 @@ use screen::line as screen_line;
 const PAIRS: usize = 256;
 
 // What a record led to. One that is malformed stops, and writes nothing.
-#[derive(Drop)]
+#[derive(Clone, Copy)]
 pub struct Turned {
     pub progress: Progress,
     pub written: usize,

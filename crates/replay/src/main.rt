@@ -1,4 +1,5 @@
 // Replays a recording (document 02, Item 4): chunks of it from standard input, the printed lines to standard output.
+#![tactic(auto)]
 ghost use Rattle.std.specs.Prelude.{◌≡◌, length};
 
 use answers::written::Written;
@@ -10,7 +11,7 @@ use recordings::{feed, finish, session};
 const READS: u64 = 18446744073709551615;
 
 // The session as a chunk left it, whether more is to be read, and whether all lines so far could be written.
-#[derive(Drop)]
+#[derive(Clone, Copy)]
 struct Turn {
     session: Session,
     goes_on: bool,

@@ -14,7 +14,7 @@ use channels::other_channels::OtherChannels;
 use verdicts::verdict;
 
 // A channel after a run of bytes, how many they were, and whether the call continues.
-#[derive(Drop)]
+#[derive(Clone, Copy)]
 pub struct RunResult {
     pub channel: ChannelState,
     pub taken: usize,

@@ -13,7 +13,7 @@ use channels::channel_state::ChannelState;
 use channels::other_channels::OtherChannels;
 
 // A channel after a piece, and how many of its bytes were taken.
-#[derive(Drop)]
+#[derive(Clone, Copy)]
 pub struct CallResult {
     pub channel: ChannelState,
     pub taken: usize,

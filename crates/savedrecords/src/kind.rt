@@ -3,13 +3,13 @@ ghost use Rattle.std.specs.Prelude.{◌≡◌};
 ghost use Rattle.savedrecords.specs.Kind.{kind_one, kind_two, head_length};
 
 // What the second number of a pair is, after its start.
-#[derive(Drop)]
+#[derive(Clone, Copy)]
 pub enum SecondNumber {
     End,
     Length,
 }
 
-#[derive(Drop)]
+#[derive(Clone, Copy)]
 pub struct Kind {
     // What the frame has as its kind.
     pub number: u16,

@@ -9,7 +9,7 @@ use octets::little;
 use sums::sum;
 
 // Where a pair starts and how long it is. Its end need not fit 64 bits.
-#[derive(Drop)]
+#[derive(Clone, Copy)]
 pub struct Pair {
     pub start: u64,
     // 0 where it ends at its start or before.

@@ -1,2 +1,3 @@
 // The screen line of a transfer.
+#![tactic(auto)]
 pub mod line;

@@ -6,7 +6,7 @@ use crate::range::out_of_range;
 use crate::state::Sender;
 
 // The sender that a beginning gives, and the number by which it was refused, 0 where it was not.
-#[derive(Drop)]
+#[derive(Clone, Copy)]
 pub struct Begun {
     pub sender: Sender,
     pub refused: u8,

@@ -13,7 +13,7 @@ use eblock::header;
 use eblock::header::HEADER_LENGTH;
 
 // The sender as a call left it, and how many bytes were written or the number by which it was refused.
-#[derive(Drop)]
+#[derive(Clone, Copy)]
 pub struct Sent {
     pub sender: Sender,
     pub answer: Written,

@@ -5,7 +5,7 @@ ghost use Rattle.sender.specs.Blocks.{block_count, block_start, block_length, bl
 ghost use Rattle.sender.specs.Sender.{most_on, all_at_most};
 
 // A block's header: its descriptor, its length, and the offset or, with 72, the count. Its bytes are those of the file from the offset on.
-#[derive(Drop)]
+#[derive(Clone, Copy)]
 pub struct Outline {
     pub descriptor: u8,
     pub length: u64,

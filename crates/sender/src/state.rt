@@ -6,7 +6,7 @@ pub const CHANNELS: usize = 64;
 pub const SIZE_LIMIT: u64 = 65536;
 
 #[repr(C)]
-#[derive(Drop)]
+#[derive(Clone, Copy)]
 pub struct Sender {
     // The file's length, the number of channels and the block size that it was begun with.
     pub len: u64,

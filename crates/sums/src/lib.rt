@@ -1,2 +1,4 @@
 // Sums and differences that 64 bits may not hold. Every function takes any input.
+#![tactic(auto)]
+
 pub mod sum;

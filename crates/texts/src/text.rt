@@ -2,7 +2,7 @@
 ghost use Rattle.std.specs.Prelude.{◌≡◌};
 ghost use Rattle.texts.specs.Text.{between, is_letter, is_of_kind, leading_count};
 
-#[derive(Drop)]
+#[derive(Clone, Copy)]
 pub enum ByteKind {
     Digit,
     Letter,

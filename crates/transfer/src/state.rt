@@ -7,7 +7,7 @@
 // A header without a payload, of length 0 or a count of end markers, leads to the next header or, with bit 8, to the end. After a fault the
 // channel is in a header of which nothing is held; 19 leaves it unused.
 #[repr(C)]
-#[derive(Drop)]
+#[derive(Clone, Copy)]
 pub struct Channel {
     // 0 unused, 1 in a header, 2 in a payload, 3 in a payload after which the channel ends, 4 ended.
     pub state: u8,
@@ -19,7 +19,7 @@ pub struct Channel {
 }
 
 #[repr(C)]
-#[derive(Drop)]
+#[derive(Clone, Copy)]
 pub struct Transfer {
     // The file's length, F.
     pub len: u64,

@@ -8,7 +8,7 @@ use ledger::rule;
 use transfer::state::Transfer;
 
 // The four words of the screen.
-#[derive(Drop)]
+#[derive(Clone, Copy)]
 pub enum Verdict {
     Guess,
     Result,

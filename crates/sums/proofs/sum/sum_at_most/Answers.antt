@@ -5,8 +5,7 @@ use mathlib.Core.Bool.{Bool, true, false}
 use native.Mathlib.Omega.{arith}
 use borrow.Author.Tests.{le-leb, lt-leb, leb-true, leb-false}
 use lib.Dec.{leb}
-use Rattle.sums.proofs.sum.sum_at_most.Statement.{statement}
-use Rattle.sums.proofs.sum.sum_at_most.Tie as tie
+use Rattle.sums.proofs.sum.sum_at_most.Goals as goal
 
 -- x fits between a and b
 fits-between : (a x b : ℕ) → a ≤ b → leb x (b - a) ≡ leb (a + x) b
@@ -16,11 +15,8 @@ fits-between a x b h = go (leb x (b - a)) refl
     go true e = e ∙ sym (le-leb (a + x) b (omega (arith, leb-true x (b - a) e)))
     go false e = e ∙ sym (lt-leb (a + x) b (omega (arith, leb-false x (b - a) e)))
 
-returns : tie.Need-returns
-returns c = let x = c.before.args in sym (lt-leb (x.a + x.x) x.b (omega arith))
+pub returns-then-b-a : goal.returns-then-b-a
+returns-then-b-a c = let x = c.args in sym (lt-leb (x.a + x.x) x.b (omega arith))
 
-returns-2 : tie.Need-returns-2
-returns-2 c = let x = c.before.args in fits-between x.a x.x x.b c.if1.false
-
-pub sum-at-most-spec : {M : Type 1} → statement M
-sum-at-most-spec = tie.close (tie.spec returns returns-2)
+pub returns : goal.returns
+returns c = let x = c.args in fits-between x.a x.x x.b c.if-b-a.false
