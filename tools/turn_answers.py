@@ -1,7 +1,8 @@
 #!/usr/bin/env python3
 """Turns the proofs that walk a function's goals (proofs/F/Proof.antt, of the older Rattle) into Invariants.antt and Answers.antt.
 
-usage: python3 tools/turn_answers.py CRATE NAMES    CRATE is a folder crates/NAME; NAMES the names.json that `rt check --generated DIR --old-names` wrote there
+usage: python3 tools/turn_answers.py CRATE NAMES [VIEWS]    CRATE is a folder crates/NAME; NAMES the names.json that `rt check --generated DIR --old-names`
+wrote there; VIEWS what `rt check --generated DIR` wrote after a first turn, which says which places have a record of their own
 
 It goes by text. A goal, a place, a step and a field get the names that NAMES lists; answers that only call a tactic on what is known are left out, since the
 check tries those itself; what a proof said of its own stays in Answers.antt. Each Proof.antt moves to /tmp/old-proofs/CRATE/F.antt.
@@ -21,8 +22,11 @@ def norm(s):
 
 
 class Function:
-    def __init__(self, info):
+    def __init__(self, info, view=None):
         self.info = info
+        self.canon = None
+        if view and os.path.exists(view):
+            self.canon = set(re.findall(r"pub record In-([\w'+-]+)", open(view, encoding="utf-8").read()))
         self.needs = {norm(a): b for a, b in info["needs"]}
         self.at = {}
         for (old, new), (place, _) in zip(info["needs"], info["asked_at"]):
@@ -44,6 +48,20 @@ class Function:
                 self.arms[norm(info["places"][i][0])] = a
         self.loops = {norm(a[0][0]): (a[0][1], a[1], c) for a, c in zip(info["loops"], info["changed"])}
         self.unknown = []
+
+    def named(self, place):
+        """The new name of a place, or of the next one below it that has a record of its own."""
+        todo = [place]
+        while todo:
+            p = todo.pop(0)
+            n = self.new_place.get(p)
+            if n and (self.canon is None or n in self.canon):
+                return n
+            todo += [q for q, e in self.places.items() if e[0] == p]
+        return self.new_place.get(place, place)
+
+    def goal(self, old, name):
+        return self.needs.get(old) or self.needs.get(norm(name))
 
     def turn_chain(self, place, comps):
         """New components of a chain that begins at a place, and the place at which it ends, if it is one."""
@@ -159,9 +177,9 @@ class Root:
 
 def alias(fn, value):
     root, place = value
-    if place is None or place == root.place or place not in fn.new_place:
+    if place is None or place not in fn.new_place or fn.named(place) == fn.named(root.place):
         return root.name
-    return f"(goal.at.{root.at} {root.name}).{fn.new_place[place]}"
+    return f"(goal.at.{root.at} {root.name}).{fn.named(place)}"
 
 
 def up(fn, place, n):
@@ -232,6 +250,19 @@ def turn_body(fn, text, env, helpers):
         if m and (pos == 0 or not re.match(r"[\w'.₀-]", text[pos - 1])):
             t = m.group(0)
             pos = m.end()
+            if t in fn.params and t not in env:
+                out.append(t)
+                for want in fn.params[t]:
+                    a = re.compile(r"(\s+)(" + IDENT + r"(?:\.[\w'-]+)*|\((?:[^()]|\([^()]*\))*\)(?:\.[\w'-]+)*)").match(text, pos)
+                    if not a:
+                        break
+                    pos = a.end()
+                    v = read_alias(fn, a.group(2), env, helpers) if want else None
+                    if v:
+                        out.append(a.group(1) + alias(fn, (v[0], want)))
+                    else:
+                        out.append(a.group(1) + turn_body(fn, a.group(2), env, helpers))
+                continue
             if t.startswith("\n"):
                 out.append(t)
                 continue
@@ -250,8 +281,8 @@ def turn_tie_types(fn, text, imports):
     def one(m):
         n = norm(m.group(1))
         if n in fn.new_place:
-            imports.add(fn.new_place[n])
-            return fn.new_place[n]
+            imports.add(fn.named(n))
+            return fn.named(n)
         return m.group(0)
 
     text = re.sub(r"tie\.([\w'-]+)((?: (?:invariant-loop|decreases-loop)[\w-]*)*)", lambda m: one(m), text)
@@ -294,7 +325,7 @@ def convert(path, fn, module, crate):
             helper_place[name] = norm(mm.group(1))
     # what the older file called the answers
     for old, name, it in answers:
-        new = fn.needs.get(old)
+        new = fn.goal(old, name)
         rename[name] = new
     imports = set()
     inv_text = []
@@ -336,6 +367,28 @@ def convert(path, fn, module, crate):
         rhs = re.sub(r"(?<![\w'.₀-])" + IDENT, lambda m: sub.get(m.group(0), m.group(0)), rhs)
         nn = f"{kind}-{new}"
         inv_text += head + [f"abbrev pub {nn} : goal.{nn}"] + ([unf.rstrip("\n")] if unf else []) + [f"{nn} l ={rhs}".rstrip("\n"), ""]
+    fn.params = {}
+    for name, it in helpers_i:
+        joined = "\n".join(it)
+        typ = joined[joined.index(name + " :") + len(name) + 2:]
+        cut = typ.find("\n" + name)
+        typ = typ[:cut] if cut > 0 else typ
+        plain = []
+        for part in typ.split("→"):
+            part = part.strip()
+            m = re.match(r"tie\.([\w'-]+)", part)
+            if m:
+                plain.append(norm(m.group(1)))
+                continue
+            b = re.findall(r"\(((?:" + IDENT + r" )+): (tie\.([\w'-]+))?", part) if part.startswith("(") else []
+            for names_, _, place in b:
+                plain += [norm(place) if place else None] * len(names_.split())
+            if not b:
+                plain.append(None)
+        while plain and not plain[-1]:
+            plain.pop()
+        if plain:
+            fn.params[name] = plain
     ans_text = []
 
     def params_env(name, body, typ):
@@ -380,7 +433,7 @@ def convert(path, fn, module, crate):
         for m in re.finditer(r"\((" + IDENT + r"(?: " + IDENT + r")*) : (tie\.([\w'-]+))?", typ):
             for n in m.group(1).split():
                 named.append(norm(m.group(3)) if m.group(3) else None)
-        roots = {a: (Root(a, p, fn.new_place.get(p, p)), p) for a, p in env.items() if p}
+        roots = {a: (Root(a, p, fn.named(p)), p) for a, p in env.items() if p}
         if name in helper_place:
             # it only goes back to an earlier place
             continue
@@ -389,7 +442,7 @@ def convert(path, fn, module, crate):
         out = turn_tie_types(fn, sig2 + body2, imports)
         need_text += [out.rstrip("\n"), ""]
     for old, name, it in answers:
-        new = fn.needs.get(old)
+        new = fn.goal(old, name)
         joined = "\n".join(it)
         k = joined.index(name + " :")
         comment = joined[:k].strip("\n")
@@ -412,7 +465,7 @@ def convert(path, fn, module, crate):
         if new is None:
             print(f"look: {path}: {name}: no goal {old} any more")
             continue
-        place = fn.at.get(old)
+        place = fn.at.get(old) or fn.at.get(norm(name))
         rhs = turn_body(fn, rhs, {"c": (Root("c", place, new), place)}, helper_place)
         rhs = turn_tie_types(fn, rhs, imports)
         for a, b in rename.items():
@@ -452,7 +505,8 @@ def main(argv):
             if key not in names:
                 print(f"look: {folder}: {key} is not among the names")
                 continue
-            convert(os.path.join(folder, "Proof.antt"), Function(names[key]), module, crate)
+            view = os.path.join(argv[2], f"Rattle-{crate}-proofs", rel, "Lts", "View.antt") if len(argv) > 2 else None
+            convert(os.path.join(folder, "Proof.antt"), Function(names[key], view), module, crate)
 
 
 main(sys.argv[1:])

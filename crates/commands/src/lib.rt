@@ -1,3 +1,4 @@
 // The control channel's command lines (document 01, "Control lines").
 #![tactic(auto)]
+
 pub mod line;

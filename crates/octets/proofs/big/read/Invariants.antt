@@ -1,0 +1,15 @@
+-- `big::read`: after i bytes n is the number of the first i.
+use Prim.Native.Nat.{◌-◌, ◌≤◌, ◌<◌, ◌^◌}
+use mathlib.Core.Path.{◌≡◌, refl, ap, ◌∙◌}
+use native.Mathlib.Omega.{arith}
+use borrow.Author.Rules.{rules}
+use lib.ListN.{get_or, take}
+use Rattle.octets.specs.Digits.{from_big_endian, from_little_endian}
+use Rattle.octets.proofs.LoopStep.{room, grows, big_more, take-eight}
+use Rattle.octets.proofs.big.read.Given as goal
+
+abbrev pub invariant-loop-i : goal.invariant-loop-i
+invariant-loop-i l = (l.i ≤ l.w) × (l.n < 256 ^ l.i) × (l.n ≡ from_big_endian 256 (take l.i l.bytes))
+
+abbrev pub decreases-loop-i : goal.decreases-loop-i
+decreases-loop-i l = l.w - l.i
