@@ -1,0 +1,18 @@
+-- `host_port::host_port_at`: the numbers read, and those that are to come after them, make the host-port.
+use Prim.Native.Nat.{suc, ◌+◌, ◌-◌, ◌^◌, ◌≤◌, ◌<◌}
+use mathlib.Core.Path.{◌≡◌, sym, ap, ◌∙◌}
+use native.Mathlib.Omega.{arith}
+use borrow.Author.Rules.{rules}
+use lib.ListN.{get_or-eq_default}
+use Rattle.hostports.specs.HostPort.{number_at, more_at, refuse_port_zero, host_port_at}
+use Rattle.hostports.specs.declared.host_port.ParsedNumber.TheVariants.{Number}
+use Rattle.hostports.specs.declared.host_port.ParsedHostPort.TheVariants.{HostPort}
+use Rattle.hostports.proofs.HostPort.{first-malformed, first-number, no_comma, more-malformed, one_more, more-done, still-malformed, port-zero, port-kept, room-left, grows}
+use Rattle.hostports.proofs.HostPortsRead.{number_bound}
+use Rattle.hostports.proofs.host_port.host_port_at.Given as goal
+
+abbrev pub invariant-loop-k : goal.invariant-loop-k
+invariant-loop-k l = (l.k ≤ 5) × (l.v < 256 ^ (l.k + 1)) × (refuse_port_zero (more_at (5 - l.k) l.text l.v l.place) ≡ host_port_at l.text l.at)
+
+abbrev pub decreases-loop-k : goal.decreases-loop-k
+decreases-loop-k l = 5 - l.k
