@@ -9,17 +9,17 @@ use lib.ListN.{length, drop}
 use Rattle.rangechecks.specs.Ranges.{all_disjoint}
 use Rattle.rangechecks.proofs.Ranges.{all_more, all-over, stops, goes_on}
 use Rattle.rangechecks.proofs.disjoint.all_disjoint.Goals as goal
-use Rattle.rangechecks.proofs.disjoint.all_disjoint.Goals.{After-disjoint_from, Then-starts-lengths}
+use Rattle.rangechecks.proofs.disjoint.all_disjoint.Goals.{After-disjoint_from, Else-starts-lengths}
 
 -- the ranges from so many on
-abbrev left-from : Then-starts-lengths → ℕ → Bool
+abbrev left-from : Else-starts-lengths → ℕ → Bool
 left-from s i = let x = s.args in all_disjoint (drop i x.starts.now) (drop i x.lengths.now)
 
-abbrev all : Then-starts-lengths → Bool
+abbrev all : Else-starts-lengths → Bool
 all s = let x = s.args in eqb (length x.starts.now) (length x.lengths.now) && all_disjoint x.starts.now x.lengths.now
 
 -- the range at hand, and those after it
-more : (c : After-disjoint_from) → left-from (goal.at.After-disjoint_from c).Then-starts-lengths c.loop-i.i ≡ (c.disjoint_from.result && left-from (goal.at.After-disjoint_from c).Then-starts-lengths (c.loop-i.i + 1))
+more : (c : After-disjoint_from) → left-from (goal.at.After-disjoint_from c).Else-starts-lengths c.loop-i.i ≡ (c.disjoint_from.result && left-from (goal.at.After-disjoint_from c).Else-starts-lengths (c.loop-i.i + 1))
 more c =
     let x = c.args in
     all_more x.starts.now x.lengths.now c.loop-i.i (omega arith) c.loop-i.invariant.0 ∙ rw c.disjoint_from.ensures
@@ -35,11 +35,11 @@ loop-i-init c =
 
 pub returns-then-not-disjoint_from : goal.returns-then-not-disjoint_from
 returns-then-not-disjoint_from c =
-    stops (left-from (goal.at.returns-then-not-disjoint_from c).Then-starts-lengths) c.loop-i.i (all (goal.at.returns-then-not-disjoint_from c).Then-starts-lengths) c.disjoint_from.result c.loop-i.invariant.1 (more (goal.at.returns-then-not-disjoint_from c).After-disjoint_from) (not-true c.disjoint_from.result c.if-not-disjoint_from.true-raw)
+    stops (left-from (goal.at.returns-then-not-disjoint_from c).Else-starts-lengths) c.loop-i.i (all (goal.at.returns-then-not-disjoint_from c).Else-starts-lengths) c.disjoint_from.result c.loop-i.invariant.1 (more (goal.at.returns-then-not-disjoint_from c).After-disjoint_from) (not-true c.disjoint_from.result c.if-not-disjoint_from.true-raw)
 
 pub loop-i-preserved : goal.loop-i-preserved
 loop-i-preserved c =
-    (c.loop-i.invariant.0, goes_on (left-from (goal.at.loop-i-preserved c).Then-starts-lengths) c.loop-i.i (all (goal.at.loop-i-preserved c).Then-starts-lengths) c.disjoint_from.result c.loop-i.invariant.1 (more (goal.at.loop-i-preserved c).After-disjoint_from) (not-false c.disjoint_from.result c.if-not-disjoint_from.false-raw))
+    (c.loop-i.invariant.0, goes_on (left-from (goal.at.loop-i-preserved c).Else-starts-lengths) c.loop-i.i (all (goal.at.loop-i-preserved c).Else-starts-lengths) c.disjoint_from.result c.loop-i.invariant.1 (more (goal.at.loop-i-preserved c).After-disjoint_from) (not-false c.disjoint_from.result c.if-not-disjoint_from.false-raw))
 
 pub returns : goal.returns
 returns c =
