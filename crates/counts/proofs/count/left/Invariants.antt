@@ -6,6 +6,9 @@ use Rattle.transfer.specs.Transfer.{left_of}
 use Rattle.counts.proofs.Sum.{length-mapped, Summed, summed-none, summed-more, summed-all}
 use Rattle.counts.proofs.count.left.Given as goal
 
+abbrev pub largest : ℕ
+largest = 18446744073709551615
+
 abbrev pub invariant-loop-c : goal.invariant-loop-c
 invariant-loop-c l = (l.n ≤ largest) × (Summed largest (λ k. k.left) l.t.channels l.n l.c)
 
