@@ -317,7 +317,9 @@ def turn_tie_types(fn, text, imports, users=()):
 
 def convert(path, fn, module, crate):
     text = open(path, encoding="utf-8").read()
-    text = text.replace("\n    tie.close", "\n    tie.close")
+    for a, b in fn.info.get("args", []):
+        if a.startswith(".args .") and re.fullmatch(r"\.args \.[a-z]\d+", a):
+            text = re.sub(r"\." + a[7:] + r"(?![\w'-])", "." + b[7:], text)
     its = items(text)
     uses, invs, helpers_i, answers, whole = [], [], [], [], []
     comment_top = []
