@@ -99,6 +99,11 @@ class Function:
                 return b.split(".") + rest[2:]
             if "." not in a and rest[0] == a:
                 return [b] + rest[1:]
+        if len(rest) > 1 and rest[1] == "given":
+            for typed in self.info.get("typed", []):
+                for var, step in typed:
+                    if norm(step) == f:
+                        return ["type_inv", var] + rest[2:]
         entry = self.places.get(place)
         new = None
         subs = {}
@@ -254,6 +259,12 @@ def turn_body(fn, text, env, helpers):
     let = re.compile(r"let (" + IDENT + r") = ([^\n=]*?) in(\s+)")
     call = re.compile(r"\((" + IDENT + r") (" + IDENT + r"(?:\.before)*|\([^()]*\))\)((?:\.[\w'-]+)*)")
     while pos < len(text):
+        m = re.compile(r"λ [^.]*\.").match(text, pos)
+        if m:
+            # names that a function binds
+            out.append(m.group(0))
+            pos = m.end()
+            continue
         m = let.match(text, pos)
         if m and (pos == 0 or not re.match(r"[\w'-]", text[pos - 1])):
             v = read_alias(fn, m.group(2), env, helpers)

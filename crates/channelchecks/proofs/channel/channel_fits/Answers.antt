@@ -10,8 +10,7 @@ use Rattle.ledger.specs.Pairs.{Pairs}
 use Rattle.ledger.specs.Ledger.{pairs_of}
 use Rattle.transfer.specs.declared.state.Channel.{Channel}
 use Rattle.transfer.specs.Fit.{empty_fits, header_fits, payload_fits, channel_fits}
-use Rattle.channelchecks.proofs.channel.channel_fits.Statement.{statement}
-use Rattle.channelchecks.proofs.channel.channel_fits.Tie as tie
+use Rattle.channelchecks.proofs.channel.channel_fits.Goals as goal
 
 module _ (ps : Pairs) (k : Channel) (held : List ℕ) where
   resting : (s : ℕ) → (s ≡ 0) ⊎ (s ≡ 4) → empty_fits k held ≡ channel_fits ps s k held
@@ -40,48 +39,22 @@ module _ (ps : Pairs) (k : Channel) (held : List ℕ) where
   no-state (suc (suc (suc (suc zero)))) f h = absurd (f (inr refl))
   no-state (suc (suc (suc (suc (suc s))))) f h = refl
 
-empty-fits-requires : tie.Need-empty-fits-requires
-empty-fits-requires c κs = search rules
+pub returns-in-0 : goal.returns-in-0
+returns-in-0 c =
+    let x = c.args in
+    c.empty_fits.ensures ∙ resting (pairs_of x.ledger.now) x.k x.held.now x.k.state c.in-0.is
 
-header-fits-requires : tie.Need-header-fits-requires
-header-fits-requires c κs = search rules
+pub returns-in-1 : goal.returns-in-1
+returns-in-1 c =
+    let x = c.args in
+    c.header_fits.ensures ∙ collecting (pairs_of x.ledger.now) x.k x.held.now x.k.state c.in-1.is
 
-payload-fits-requires : tie.Need-payload-fits-requires
-payload-fits-requires c κs = search rules
+pub returns-in-2 : goal.returns-in-2
+returns-in-2 c =
+    let x = c.args in
+    c.payload_fits.ensures ∙ storing (pairs_of x.ledger.now) x.k x.held.now x.k.state c.in_default-1.rest.0.1 c.in_default-1.rest.1 c.if-state-lt4.true
 
-returns : tie.Need-returns
-returns c =
-    let m = c.before in
-    let x = m.before.before.before.args in
-    c.empty-fits.ensures ∙ resting (pairs_of x.ledger.now) x.k x.held.now x.k.state m.match.keys1
-
-returns-2 : tie.Need-returns-2
-returns-2 c =
-    let m = c.before in
-    let x = m.before.before.before.args in
-    c.header-fits.ensures ∙ collecting (pairs_of x.ledger.now) x.k x.held.now x.k.state m.match.keys2
-
-returns-3 : tie.Need-returns-3
-returns-3 c =
-    let t = c.before in
-    let m = t.before in
-    let x = m.before.before.before.args in
-    c.payload-fits.ensures ∙ storing (pairs_of x.ledger.now) x.k x.held.now x.k.state m.match.rest.0.1 m.match.rest.1 t.if1.true
-
-returns-4 : tie.Need-returns-4
-returns-4 c =
-    let m = c.before in
-    let x = m.before.before.before.args in
-    no-state (pairs_of x.ledger.now) x.k x.held.now x.k.state m.match.rest.0.1 c.if1.false
-
-pub channel-fits-spec : {M : Type 1} → statement M
-channel-fits-spec =
-    tie.close
-    (tie.spec
-    empty-fits-requires
-    header-fits-requires
-    payload-fits-requires
-    returns
-    returns-2
-    returns-3
-    returns-4)
+pub returns-in_default : goal.returns-in_default
+returns-in_default c =
+    let x = c.args in
+    no-state (pairs_of x.ledger.now) x.k x.held.now x.k.state c.in_default-1.rest.0.1 c.if-state-lt4.false
