@@ -329,6 +329,13 @@ def convert(path, fn, module, crate):
         rename[name] = new
     imports = set()
     inv_text = []
+    # an invariant that is another one by its name
+    clauses = {name: it for _, _, name, it in invs}
+    for k, (kind, loop, name, it) in enumerate(invs):
+        m = re.match(re.escape(name) + r" = ([\w-]+)$", it[-1].strip() if it[-1].strip() else next((l for l in reversed(it) if l.strip()), ""))
+        if m and m.group(1) in clauses:
+            body = [re.sub(r"^" + re.escape(m.group(1)) + r"(?![\w-])", name, l) for l in clauses[m.group(1)][1:] if not re.match(r"(abbrev |pub )*" + re.escape(m.group(1)) + " :", l)]
+            invs[k] = (kind, loop, name, [next(l for l in it if re.match(r"(abbrev |pub )*" + re.escape(name) + " :", l))] + body)
     for kind, loop, name, it in invs:
         if loop in fn.loops:
             new, live, changed = fn.loops[loop]
@@ -460,7 +467,7 @@ def convert(path, fn, module, crate):
         args = [a for a in bm.group(1).split(" ") if a and a != "κs"]
         argtext = bm.group(1).replace(" κs", "")
         rhs = body[bm.end():]
-        if TRIVIAL.match(rhs.strip()):
+        if TRIVIAL.match(rhs.strip()) and not unf:
             continue
         if new is None:
             print(f"look: {path}: {name}: no goal {old} any more")
