@@ -1,9 +1,7 @@
 -- `frame::first_record`.
 use Prim.Native.Nat.{◌≤◌}
 use mathlib.Core.Path.{sym, ap, ◌∙◌}
-use mathlib.Core.Logic.{⊎_elim}
 use native.Mathlib.Omega.{arith}
-use borrow.Author.Rules.{rules}
 use lib.ListN.{length}
 use Rattle.frames.specs.Frame.{field_length, length_field}
 use Rattle.frames.specs.declared.frame.First.TheVariants.{Whole}

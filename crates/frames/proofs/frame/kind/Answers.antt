@@ -1,6 +1,5 @@
 -- `frame::kind`.
 use mathlib.Core.Path.{◌∙◌}
-use borrow.Author.Rules.{rules}
 use Rattle.frames.proofs.Framed.{kind_of-read}
 use Rattle.frames.proofs.frame.kind.Goals as goal
 

@@ -1,7 +1,6 @@
 -- `frame::length_field`.
 use mathlib.Core.Path.{◌∙◌}
 use native.Mathlib.Omega.{arith}
-use borrow.Author.Rules.{rules}
 use lib.ListN.{length-take}
 use Rattle.frames.proofs.Framed.{length_field-read}
 use Rattle.frames.proofs.frame.length_field.Goals as goal

@@ -1,7 +1,6 @@
 -- `frame::record_length`.
 use mathlib.Core.Path.{sym}
 use native.Mathlib.Omega.{arith}
-use borrow.Author.Rules.{rules}
 use Rattle.octets.proofs.Digits.{below_at}
 use Rattle.frames.proofs.Framed.{length_field-lt}
 use Rattle.frames.proofs.FirstRecord.{record_length-short, record_length-field}
@@ -13,7 +12,7 @@ returns-then-bytes-lt-FIELD_LENGTH c = sym (record_length-short c.args.bytes.now
 pub overflow_add-result : goal.overflow_add-result
 overflow_add-result c =
     let bytes = c.args.bytes.now in
-    omega (arith, c.length_field.ensures, length_field-lt bytes (below_at 256 bytes (λ i. omega (arith.given i))))
+    omega (arith, c.length_field.ensures, length_field-lt bytes (below_at 256 bytes (λ i. omega (arith, c.type_inv.bytes i))))
 
 pub returns : goal.returns
 returns c =
