@@ -4,7 +4,6 @@ use mathlib.Core.Path.{◌≡◌, refl, sym, ◌∙◌}
 use mathlib.Core.Bool.{◌&&◌}
 use native.Mathlib.Omega.{arith}
 use native.Mathlib.Nat.{sub-zero}
-use borrow.Author.Tests.{not-true, not-false}
 use lib.ListN.{length, drop}
 use Rattle.octets.proofs.Rest.{rest_is}
 use Rattle.ledger.specs.Pairs.{obey_from}
@@ -30,11 +29,11 @@ pub loop-k-init : goal.loop-k-init
 loop-k-init c = (omega arith, refl, rw (sub-zero (length c.args.pairs.now / 16)))
 
 pub returns-then-not-may_follow : goal.returns-then-not-may_follow
-returns-then-not-may_follow c = sym (turn (goal.at.returns-then-not-may_follow c).After-may_follow ∙ rw (not-true c.may_follow.result c.if-not-may_follow.true-raw))
+returns-then-not-may_follow c = sym (turn (goal.at.returns-then-not-may_follow c).After-may_follow ∙ rw (c.if-not-may_follow.true))
 
 pub loop-k-preserved : goal.loop-k-preserved
 loop-k-preserved c =
-    let e = not-false c.may_follow.result c.if-not-may_follow.false-raw in
+    let e = c.if-not-may_follow.false in
     (omega arith, refl, sym (turn (goal.at.loop-k-preserved c).After-may_follow ∙ rw e))
 
 pub returns : goal.returns

@@ -2,7 +2,6 @@
 use Prim.Native.Nat.{◌%◌, ◌≤◌}
 use mathlib.Core.Path.{◌≡◌, sym, ◌∙◌}
 use native.Mathlib.Omega.{arith}
-use borrow.Author.Tests.{not-true, not-false}
 use lib.ListN.{length, length-drop}
 use Rattle.frames.specs.Frame.{body_of}
 use Rattle.ledger.specs.Pairs.{obey_from}
@@ -53,9 +52,9 @@ returns-then-pairs-ne0 c =
 pub returns-then-not-in_order : goal.returns-then-not-in_order
 returns-then-not-in_order c =
     let x = c.args in
-    sym (refusal-order x.kind x.bytes.now (frame (goal.at.returns-then-not-in_order c).Else-k-gt0) (head (goal.at.returns-then-not-in_order c).Else-bytes-head_length) (parts (goal.at.returns-then-not-in_order c).Else-pairs-ne0) (sym (order_is (goal.at.returns-then-not-in_order c).After-in_order) ∙ not-true c.in_order.result c.if-not-in_order.true-raw))
+    sym (refusal-order x.kind x.bytes.now (frame (goal.at.returns-then-not-in_order c).Else-k-gt0) (head (goal.at.returns-then-not-in_order c).Else-bytes-head_length) (parts (goal.at.returns-then-not-in_order c).Else-pairs-ne0) (sym (order_is (goal.at.returns-then-not-in_order c).After-in_order) ∙ c.if-not-in_order.true))
 
 pub returns : goal.returns
 returns c =
     let x = c.args in
-    sym (refusal-none x.kind x.bytes.now (frame (goal.at.returns c).Else-k-gt0) (head (goal.at.returns c).Else-bytes-head_length) (parts (goal.at.returns c).Else-pairs-ne0) (sym (order_is (goal.at.returns c).After-in_order) ∙ not-false c.in_order.result c.if-not-in_order.false-raw))
+    sym (refusal-none x.kind x.bytes.now (frame (goal.at.returns c).Else-k-gt0) (head (goal.at.returns c).Else-bytes-head_length) (parts (goal.at.returns c).Else-pairs-ne0) (sym (order_is (goal.at.returns c).After-in_order) ∙ c.if-not-in_order.false))
