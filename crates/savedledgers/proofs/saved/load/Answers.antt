@@ -42,7 +42,7 @@ pub fill-requires : goal.fill-requires
 fill-requires c =
     let x = c.args in
     let s = sound (goal.at.fill-requires c).Else-k-gt0 in
-    let below = below_at 256 x.bytes.now (λ i. omega (arith, c.shared_slice_known-1.given i)) in
+    let below = below_at 256 x.bytes.now (λ i. omega (arith, c.type_inv.bytes i)) in
     let ends = ends-fit-entries x.kind x.bytes.now x.ledger.now below c.requires s in
     (mid-all (2 * (length c.pair_part-pairs.result.now / 16)) x.ledger.now (room (goal.at.fill-requires c).After-pair_part-pairs).1, rw c.pair_part-pairs.ensures (refusal-sound x.kind x.bytes.now s.right).ruled, rw c.pair_part-pairs.ensures ends)
 

@@ -56,10 +56,10 @@ pub returns-then-not-ends_by : goal.returns-then-not-ends_by
 returns-then-not-ends_by c =
     let x = c.args in
     sym (number-65 x.kind x.bytes.now x.ledger.now (lengths (goal.at.returns-then-not-ends_by c).Else-length_wrong) (right (goal.at.returns-then-not-ends_by c).Else-k-gt0) (room (goal.at.returns-then-not-ends_by c).Else-ledger-pairs) (not-false x.kind.sized c.if-not-kind.false)
-    (sym (ends_is (goal.at.returns-then-not-ends_by c).After-ends_by) ∙ not-true c.ends_by.result c.if-not-ends_by.true-raw))
+    (sym (ends_is (goal.at.returns-then-not-ends_by c).After-ends_by) ∙ c.if-not-ends_by.true))
 
 pub returns : goal.returns
 returns c =
     let x = c.args in
     sym (number-sized x.kind x.bytes.now x.ledger.now (lengths (goal.at.returns c).Else-length_wrong) (right (goal.at.returns c).Else-k-gt0) (room (goal.at.returns c).Else-ledger-pairs) (not-false x.kind.sized c.if-not-kind.false)
-    (sym (ends_is (goal.at.returns c).After-ends_by) ∙ not-false c.ends_by.result c.if-not-ends_by.false-raw))
+    (sym (ends_is (goal.at.returns c).After-ends_by) ∙ c.if-not-ends_by.false))
