@@ -4,7 +4,6 @@ use mathlib.Core.Path.{◌≡◌, sym, ap, ◌∙◌}
 use mathlib.Core.Bool.{true}
 use native.Mathlib.Omega.{arith}
 use borrow.Author.Rules.{rules}
-use borrow.Author.Tests.{not-true, not-false}
 use lib.ListN.{length}
 use Rattle.octets.proofs.Digits.{below_at}
 use Rattle.ledger.specs.Pairs.{size, ends_at_most}
@@ -30,14 +29,14 @@ ends_is c =
     c.ends_by.ensures ∙ sym (ends_at_most-last x.len 0 (saved_pairs x.from x.bytes.now) ruled)
 
 ends : (c : Else-not-ends_by) → let x = c.args in ends_at_most x.len (saved_pairs x.from x.bytes.now) ≡ true
-ends c = sym (ends_is (goal.at.Else-not-ends_by c).After-ends_by) ∙ not-false c.ends_by.result c.if-not-ends_by.false-raw
+ends c = sym (ends_is (goal.at.Else-not-ends_by c).After-ends_by) ∙ c.if-not-ends_by.false
 
 -- the pairs' bytes, which are few
 few : (c : After-pair_part-pairs) → let x = c.args in
     (length c.pair_part-pairs.result.now ≡ 16 * size (saved_pairs x.from x.bytes.now)) × (length c.pair_part-pairs.result.now ≤ 4294967285)
 few c =
     let x = c.args in
-    let below = below_at 256 x.bytes.now (λ i. omega (arith, c.shared_slice_known-1.given i)) in
+    let below = below_at 256 x.bytes.now (λ i. omega (arith, c.type_inv.bytes i)) in
     let r = right (goal.at.After-pair_part-pairs c).Else-k-gt0 in
     let n = ap length c.pair_part-pairs.ensures in
     (n ∙ part_length x.from x.bytes.now r, omega (arith, n, part-few x.from x.bytes.now below r))
@@ -52,7 +51,7 @@ returns-then-k-gt0 c =
 pub returns-then-not-ends_by : goal.returns-then-not-ends_by
 returns-then-not-ends_by c =
     let x = c.args in
-    let no_end = sym (ends_is (goal.at.returns-then-not-ends_by c).After-ends_by) ∙ not-true c.ends_by.result c.if-not-ends_by.true-raw in
+    let no_end = sym (ends_is (goal.at.returns-then-not-ends_by c).After-ends_by) ∙ c.if-not-ends_by.true in
     converts-refused x.from x.to x.len x.bytes.now x.out.now 65
     (number-65 x.from x.to x.len x.bytes.now x.out.now (right (goal.at.returns-then-not-ends_by c).Else-k-gt0) no_end) (omega arith)
 
