@@ -93,6 +93,8 @@ class Function:
 
     def turn_fields(self, place, rest):
         f = norm(rest[0])
+        if f == "pre":
+            return ["requires"] + rest[1:]
         for a, b in self.info.get("args", []):
             a, b = a.replace(" ", "").strip("."), b.replace(" ", "").strip(".")
             if "." in a and rest[:2] == a.split("."):
@@ -142,7 +144,7 @@ class Function:
             return rest
         tail = rest[1:]
         if tail:
-            t = {"inv": "invariant", "last": "new", "post": "ensures", "taken": "true", "left": "false"}.get(tail[0], tail[0])
+            t = {"inv": "invariant", "last": "new", "post": "ensures", "taken": "true", "left": "false", "kept": "auto"}.get(tail[0], tail[0])
             t = subs.get(t, t)
             tail = [t] + tail[1:]
             if t in ("new", "auto") and callee in self.info["params"]:
@@ -311,7 +313,23 @@ def turn_body(fn, text, env, helpers):
             continue
         out.append(text[pos])
         pos += 1
-    return "".join(out)
+    return after_calls(fn, "".join(out))
+
+
+def after_calls(fn, text):
+    """v.new.1.1.0 of `let v = c.STEP in` is what the call left of its third parameter."""
+    callee = {e[2]: e[3] for e in fn.places.values() if e[3] in fn.info["params"]}
+    for m in list(re.finditer(r"let (" + IDENT + r") = [^\n=]*?\.([\w'-]+) in", text)):
+        if m.group(2) not in callee:
+            continue
+        names = fn.info["params"][callee[m.group(2)]]
+
+        def one(k):
+            n = k.group(2).count(".1")
+            return f"{m.group(1)}.{k.group(1).replace('last', 'new').replace('kept', 'auto')}.{names[n]}" if n < len(names) else k.group(0)
+
+        text = re.sub(r"(?<![\w'.-])" + re.escape(m.group(1)) + r"\.(new|auto|last|kept)((?:\.1)*)\.0(?![\w'-])", one, text)
+    return text
 
 
 def turn_tie_types(fn, text, imports, users=()):

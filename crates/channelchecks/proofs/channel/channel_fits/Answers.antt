@@ -52,9 +52,10 @@ returns-in-1 c =
 pub returns-in-2 : goal.returns-in-2
 returns-in-2 c =
     let x = c.args in
-    c.payload_fits.ensures ∙ storing (pairs_of x.ledger.now) x.k x.held.now x.k.state c.in_default-1.rest.0.1 c.in_default-1.rest.1 c.if-state-lt4.true
+    let d = c.in-2.in_default-own in
+    c.payload_fits.ensures ∙ storing (pairs_of x.ledger.now) x.k x.held.now x.k.state d.rest.0.1 d.rest.1 c.in-2.if-state-lt4-own.true
 
 pub returns-in_default : goal.returns-in_default
 returns-in_default c =
     let x = c.args in
-    no-state (pairs_of x.ledger.now) x.k x.held.now x.k.state c.in_default-1.rest.0.1 c.if-state-lt4.false
+    no-state (pairs_of x.ledger.now) x.k x.held.now x.k.state c.in_default.in_default-own.rest.0.1 c.in_default.if-state-lt4-own.false

@@ -14,17 +14,17 @@ use Rattle.channelchecks.proofs.report.channels_fit.Goals.{After-all_disjoint, A
 
 -- the numbers that are kept fill no more than the arrays
 room : (c : After-check_channels-found) → let v = c.check_channels-found in
-    (v.result.payloads ≤ length v.new.1.1.0) × (v.result.payloads ≤ length v.new.1.1.1.0)
+    (v.result.payloads ≤ length v.new.next) × (v.result.payloads ≤ length v.new.left)
 room c = let v = c.check_channels-found.ensures in (omega (arith, v.few, v.next_length), omega (arith, v.few, v.left_length))
 
 -- so many of each are lent
 kept : (c : After-check_channels-found) → let v = c.check_channels-found in
     let n = v.result.payloads in
-    (length (take n v.new.1.1.0) ≡ n) × (length (take n v.new.1.1.1.0) ≡ n)
+    (length (take n v.new.next) ≡ n) × (length (take n v.new.left) ≡ n)
 kept c =
     let v = c.check_channels-found in
     let n = v.result.payloads in
-    (length-take-le n v.new.1.1.0 (room c).0, length-take-le n v.new.1.1.1.0 (room c).1)
+    (length-take-le n v.new.next (room c).0, length-take-le n v.new.left (room c).1)
 
 -- each channel fits, so whether two payloads share a byte decides
 each_fits : (c : Else-not-found) → c.check_channels-found.result.fits ≡ true

@@ -8,10 +8,6 @@ use Rattle.channelchecks.proofs.totals.add_channel.Goals as goal
 pub returns-then-k-eq0 : goal.returns-then-k-eq0
 returns-then-k-eq0 c = let e = eq-eqb c.args.k.state 0 c.if-k-eq0.true in (rw e, rw e, rw e)
 
-pub overflow_add-result-2 : goal.overflow_add-result-2
-overflow_add-result-2 c =
-    omega (arith, c.requires.2, c.one_if_ended.ensures, ended-le c.args.k)
-
 pub returns : goal.returns
 returns c =
     let e = ne_eqb c.args.k.state 0 c.if-k-eq0.false in

@@ -26,11 +26,11 @@ loop-c-init c =
     let x = c.args in
     let h : length x.t.channels ≡ channel_count = search (length-mapped, rules) in
     let g : length x.t.heads ≡ 1024 = search rules in
-    (passed_none (pairs_of x.ledger.now) x.t.channels x.t.heads x.next.now x.left.now c.pre.1 c.pre.2, h, g)
+    (passed_none (pairs_of x.ledger.now) x.t.channels x.t.heads x.next.now x.left.now c.requires.1 c.requires.2, h, g)
 
 pub channel_fits_at-requires : goal.channel_fits_at-requires
 channel_fits_at-requires c =
-    (omega arith, c.loop-c.invariant.2, λ e. sym c.zero_from-clean.ensures ∙ e, c.pre.0)
+    (omega arith, c.loop-c.invariant.2, λ e. sym c.zero_from-clean.ensures ∙ e, c.requires.0)
 
 pub returns-then-not-channel_fits_at : goal.returns-then-not-channel_fits_at
 returns-then-not-channel_fits_at c =
