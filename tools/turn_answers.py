@@ -39,6 +39,12 @@ class Function:
             self.new_place[norm(old)] = info["places_by_name"][i]
         for (old, new) in info["asked_at"]:
             self.new_place.setdefault(norm(old), new)
+        for i, a in enumerate(info["arms"]):
+            # the last record of an arm has the arm's name
+            old = norm(info["places"][i][0])
+            m = re.fullmatch(r"(In-.*)-\d+", self.new_place[old])
+            if a and m:
+                self.new_place[old] = m.group(1)
         self.fields = {}
         for old, (parent, of, nf, callee, subs) in self.places.items():
             self.fields.setdefault(of, set()).add(nf)
