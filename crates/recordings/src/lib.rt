@@ -1,5 +1,6 @@
 // Replay of a recording (document 02, Item 4): chunks of it in, printed lines out.
 #![tactic(auto)]
+
 pub mod feed;
 pub mod finish;
 mod first;

@@ -9,8 +9,7 @@ use lib.ListN.{length, replicate, length-replicate, replicate-append-replicate}
 use lib.Seq.{take_at, drop-length}
 use Rattle.copies.specs.Copy.{stored}
 use Rattle.copies.proofs.CopiedBytes.{stored-is-written}
-use Rattle.recordings.proofs.front.clear.Statement.{statement}
-use Rattle.recordings.proofs.front.clear.Tie as tie
+use Rattle.recordings.proofs.front.clear.Goals as goal
 
 -- enough zeros over all of the bytes
 zeros-stored : (m : ℕ) (bytes : List ℕ) → length bytes ≤ m → stored 0 (length bytes) (replicate m 0) bytes ≡ replicate (length bytes) 0
@@ -21,20 +20,6 @@ zeros-stored m bytes h =
     stored-is-written 0 n (replicate m 0) bytes (omega (arith, length-replicate {A = ℕ} m 0)) (omega arith)
     ∙ rw (z, take_at {A = ℕ} (replicate n 0) (replicate (m - n) 0) n (length-replicate n 0), zero-add n, drop-length bytes) (append-nil (replicate n 0))
 
-slice-aggregate-store : tie.Need-slice-aggregate-store
-slice-aggregate-store c = search rules
-
-store-requires : tie.Need-store-requires
-store-requires c κs = search rules
-
-same_length : tie.Need-same-length
-same_length c = search rules
-
-returns : tie.Need-returns
+pub returns : goal.returns
 returns c =
-    let s = c.before.before in
-    let i = s.before.before.before.before in
-    s.store.ensures ∙ zeros-stored 32768 i.args.bytes.now i.requires
-
-pub clear_spec : {M : Type 1} → statement M
-clear_spec = tie.close (tie.spec slice-aggregate-store store-requires same_length returns)
+    c.store.ensures ∙ zeros-stored 32768 c.args.bytes.now c.requires

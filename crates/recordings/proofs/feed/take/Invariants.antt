@@ -1,0 +1,19 @@
+-- `feed::take`.
+use borrow.Author.Rules.{rules}
+use Prim.Native.Nat.{◌+◌, ◌-◌, ◌≤◌, ◌<◌}
+use mathlib.Core.Path.{◌≡◌, refl, sym, ◌∙◌}
+use mathlib.Core.Bool.{false}
+use native.Mathlib.Omega.{arith}
+use borrow.Rule.Slice.PartMut.{put_mid}
+use lib.ListN.{length, drop, length-take, length-drop}
+use Rattle.recordings.specs.Kept.{Kept, kept}
+use Rattle.recordings.proofs.Taking.{Taking, taking-none, step-within, taking_step, taking-length, taken-stopped, taken-all}
+use Rattle.recordings.proofs.feed.take.Given as goal
+
+abbrev pub invariant-loop-at : goal.invariant-loop-at
+invariant-loop-at l =
+    Taking (kept l.initial.s l.initial.held l.initial.file l.initial.claimed l.initial.doubtful) l.chunk l.initial.out (kept l.s l.held l.file l.claimed l.doubtful) l.at l.written l.out × (l.s.stopped ≡ false) × (length l.out ≡ length l.initial.out) × (length l.initial.out < 18446744073709551616)
+
+abbrev pub decreases-loop-at : goal.decreases-loop-at
+decreases-loop-at l =
+    length l.chunk - l.at
