@@ -99,6 +99,8 @@ class Function:
 
     def turn_fields(self, place, rest):
         f = norm(rest[0])
+        if f not in self.fields and f.endswith("-is") and f[:-3] in self.fields:
+            f = f[:-3]
         if f == "pre":
             return ["requires"] + rest[1:]
         for a, b in self.info.get("args", []):
