@@ -49,8 +49,23 @@ class Function:
         self.loops = {norm(a[0][0]): (a[0][1], a[1], c) for a, c in zip(info["loops"], info["changed"])}
         self.unknown = []
 
-    def named(self, place):
-        """The new name of a place, or of the next one below it that has a record of its own."""
+    def above(self, place):
+        out = []
+        while place:
+            out.append(place)
+            place = self.places.get(place, (None,))[0]
+        return out
+
+    def named(self, place, users=()):
+        """The new name of a place, or of the next one below it that has a record of its own and is on the way to all users."""
+        if self.canon is not None and self.new_place.get(place) not in self.canon and users:
+            ways = [self.above(u) for u in users if place in self.above(u)]
+            if ways:
+                for p in reversed(ways[0]):
+                    if p in self.above(place)[1:]:
+                        continue
+                    if all(p in w for w in ways) and self.new_place.get(p) in self.canon:
+                        return self.new_place[p]
         todo = [place]
         while todo:
             p = todo.pop(0)
@@ -78,6 +93,12 @@ class Function:
 
     def turn_fields(self, place, rest):
         f = norm(rest[0])
+        for a, b in self.info.get("args", []):
+            a, b = a.replace(" ", "").strip("."), b.replace(" ", "").strip(".")
+            if "." in a and rest[:2] == a.split("."):
+                return b.split(".") + rest[2:]
+            if "." not in a and rest[0] == a:
+                return [b] + rest[1:]
         entry = self.places.get(place)
         new = None
         subs = {}
@@ -142,7 +163,7 @@ def items(text):
                 comment.append(line)
                 continue
             m = re.match(r"(?:abbrev |unfoldable |pub )*(" + IDENT + r") :", line)
-            if m or line.startswith("use ") or line.startswith("pub use "):
+            if m or re.match(r"(pub )?(use|module|record|data|ruleset) |-- ----", line):
                 if cur:
                     out.append(cur)
                 cur = comment + [line]
@@ -171,15 +192,18 @@ WORD = re.compile(r"(?<![\w'.₀-])" + IDENT + r"(?:\.[\w'-]+)*|\n *--[^\n]*")
 class Root:
     """What a body reads its facts from: the variable, its place, and how the places before it are named."""
 
-    def __init__(self, name, place, at):
-        self.name, self.place, self.at = name, place, at
+    def __init__(self, name, place, at, named=None):
+        self.name, self.place, self.at, self.named = name, place, at, named
 
 
 def alias(fn, value):
     root, place = value
-    if place is None or place not in fn.new_place or fn.named(place) == fn.named(root.place):
+    if place is None or place not in fn.new_place:
         return root.name
-    return f"(goal.at.{root.at} {root.name}).{fn.named(place)}"
+    name = fn.named(place, [root.place])
+    if name == fn.named(root.place):
+        return root.name
+    return f"(goal.at.{root.at} {root.name}).{name}"
 
 
 def up(fn, place, n):
@@ -259,7 +283,9 @@ def turn_body(fn, text, env, helpers):
                     pos = a.end()
                     v = read_alias(fn, a.group(2), env, helpers) if want else None
                     if v:
-                        out.append(a.group(1) + alias(fn, (v[0], want)))
+                        root = v[0]
+                        name = fn.named(want, fn.users.get(t, ()))
+                        out.append(a.group(1) + (root.name if name == (root.named or fn.named(root.place)) else f"(goal.at.{root.at} {root.name}).{name}"))
                     else:
                         out.append(a.group(1) + turn_body(fn, a.group(2), env, helpers))
                 continue
@@ -277,12 +303,12 @@ def turn_body(fn, text, env, helpers):
     return "".join(out)
 
 
-def turn_tie_types(fn, text, imports):
+def turn_tie_types(fn, text, imports, users=()):
     def one(m):
         n = norm(m.group(1))
         if n in fn.new_place:
-            imports.add(fn.named(n))
-            return fn.named(n)
+            imports.add(fn.named(n, users))
+            return fn.named(n, users)
         return m.group(0)
 
     text = re.sub(r"tie\.([\w'-]+)((?: (?:invariant-loop|decreases-loop)[\w-]*)*)", lambda m: one(m), text)
@@ -293,7 +319,7 @@ def convert(path, fn, module, crate):
     text = open(path, encoding="utf-8").read()
     text = text.replace("\n    tie.close", "\n    tie.close")
     its = items(text)
-    uses, invs, helpers_i, answers = [], [], [], []
+    uses, invs, helpers_i, answers, whole = [], [], [], [], []
     comment_top = []
     rename = {}
     helper_place = {}
@@ -305,6 +331,10 @@ def convert(path, fn, module, crate):
                 uses += [l for l in it if not l.startswith("--") and l.strip()]
             continue
         name, typ = name_of(it)
+        if name is None and re.match(r"(pub )?(module|record|data|ruleset) ", first):
+            whole.append("\n".join(it).rstrip("\n") + "\n")
+            helpers_i.append((None, it))
+            continue
         if name is None:
             comment_top += [l for l in it if l.strip()]
             continue
@@ -329,6 +359,13 @@ def convert(path, fn, module, crate):
         rename[name] = new
     imports = set()
     inv_text = []
+    # an invariant that is another one by its name
+    clauses = {name: it for _, _, name, it in invs}
+    for k, (kind, loop, name, it) in enumerate(invs):
+        m = re.match(re.escape(name) + r" = ([\w-]+)$", it[-1].strip() if it[-1].strip() else next((l for l in reversed(it) if l.strip()), ""))
+        if m and m.group(1) in clauses:
+            body = [re.sub(r"^" + re.escape(m.group(1)) + r"(?![\w-])", name, l) for l in clauses[m.group(1)][1:] if not re.match(r"(abbrev |pub )*" + re.escape(m.group(1)) + " :", l)]
+            invs[k] = (kind, loop, name, [next(l for l in it if re.match(r"(abbrev |pub )*" + re.escape(name) + " :", l))] + body)
     for kind, loop, name, it in invs:
         if loop in fn.loops:
             new, live, changed = fn.loops[loop]
@@ -369,6 +406,8 @@ def convert(path, fn, module, crate):
         inv_text += head + [f"abbrev pub {nn} : goal.{nn}"] + ([unf.rstrip("\n")] if unf else []) + [f"{nn} l ={rhs}".rstrip("\n"), ""]
     fn.params = {}
     for name, it in helpers_i:
+        if name is None:
+            continue
         joined = "\n".join(it)
         typ = joined[joined.index(name + " :") + len(name) + 2:]
         cut = typ.find("\n" + name)
@@ -389,6 +428,40 @@ def convert(path, fn, module, crate):
             plain.pop()
         if plain:
             fn.params[name] = plain
+    # what an invariant cites stands beside it
+    inv_words = set(re.findall(r"[\w'-]+", "\n".join(inv_text)))
+    beside, more = [], True
+    while more:
+        more = False
+        for name, it in list(helpers_i):
+            if name and name in inv_words and name not in [b for b, _ in beside] and "tie." not in "\n".join(it):
+                beside.insert(0, (name, it))
+                inv_words |= set(re.findall(r"[\w'-]+", "\n".join(it)))
+                more = True
+    helpers_i = [(n, it) for n, it in helpers_i if n is None or n not in [b for b, _ in beside]]
+    beside_text = []
+    for name, it in beside:
+        t = "\n".join(it).rstrip("\n")
+        t = re.sub(r"(?m)^(abbrev |unfoldable )?(pub )?(?=" + re.escape(name) + r" :)", lambda m: (m.group(1) or "") + "pub ", t)
+        beside_text += [t, ""]
+    inv_text = beside_text + inv_text
+    fn.users = {}
+    cites = {name: set(re.findall(r"[\w'-]+", "\n".join(it))) for name, it in helpers_i if name}
+    for name in cites:
+        todo, seen = [name], set()
+        while todo:
+            n = todo.pop()
+            if n in seen:
+                continue
+            seen.add(n)
+            todo += [m for m, c in cites.items() if n in c and m != n]
+        places = set()
+        for old, goal_name, it in answers:
+            if seen & set(re.findall(r"[\w'-]+", "\n".join(it))):
+                q = fn.at.get(old) or fn.at.get(norm(goal_name))
+                if q:
+                    places.add(q)
+        fn.users[name] = sorted(places)
     ans_text = []
 
     def params_env(name, body, typ):
@@ -400,6 +473,9 @@ def convert(path, fn, module, crate):
 
     need_text = []
     for name, it in helpers_i:
+        if name is None:
+            need_text += ["\n".join(it).rstrip("\n"), ""]
+            continue
         joined = "\n".join(it)
         k = joined.index(name + " :")
         sig_end = joined.find("\n" + name, k)
@@ -433,13 +509,13 @@ def convert(path, fn, module, crate):
         for m in re.finditer(r"\((" + IDENT + r"(?: " + IDENT + r")*) : (tie\.([\w'-]+))?", typ):
             for n in m.group(1).split():
                 named.append(norm(m.group(3)) if m.group(3) else None)
-        roots = {a: (Root(a, p, fn.named(p)), p) for a, p in env.items() if p}
+        roots = {a: (Root(a, p, fn.named(p, fn.users.get(name, ())), fn.named(p, fn.users.get(name, ()))), p) for a, p in env.items() if p}
         if name in helper_place:
             # it only goes back to an earlier place
             continue
         sig2 = turn_body(fn, sig, roots, helper_place)
         body2 = turn_body(fn, body, roots, helper_place)
-        out = turn_tie_types(fn, sig2 + body2, imports)
+        out = turn_tie_types(fn, sig2 + body2, imports, fn.users.get(name, ()))
         need_text += [out.rstrip("\n"), ""]
     for old, name, it in answers:
         new = fn.goal(old, name)
@@ -460,7 +536,7 @@ def convert(path, fn, module, crate):
         args = [a for a in bm.group(1).split(" ") if a and a != "κs"]
         argtext = bm.group(1).replace(" κs", "")
         rhs = body[bm.end():]
-        if TRIVIAL.match(rhs.strip()):
+        if TRIVIAL.match(rhs.strip()) and not unf:
             continue
         if new is None:
             print(f"look: {path}: {name}: no goal {old} any more")
@@ -485,6 +561,8 @@ def convert(path, fn, module, crate):
             f.write(((top + "\n") if top else "") + "\n".join(uses) + f"\nuse {goalmod}.Given as goal\n\n" + "\n".join(inv_text).rstrip("\n") + "\n")
     if ans_text:
         extra = f"\nuse {goalmod}.Goals.{{{', '.join(sorted(imports))}}}" if imports else ""
+        taken = [b for b, _ in beside if re.search(r"(?<![\w'-])" + re.escape(b) + r"(?![\w'-])", body_text)]
+        extra += f"\nuse {goalmod}.Invariants.{{{', '.join(taken)}}}" if taken else ""
         with open(os.path.join(folder, "Answers.antt"), "w", encoding="utf-8") as f:
             f.write(((top + "\n") if top else "") + "\n".join(uses) + f"\nuse {goalmod}.Goals as goal" + extra + "\n\n" + body_text.rstrip("\n") + "\n")
     if not os.listdir(folder):

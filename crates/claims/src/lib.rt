@@ -1,4 +1,5 @@
 // Claiming ranges in a ledger.
 #![tactic(auto)]
+
 pub mod claim;
 mod shift;

@@ -1,3 +1,4 @@
 // Counts over the channels of a transfer.
 #![tactic(auto)]
+
 pub mod count;

@@ -1,4 +1,5 @@
 // The extended block header of MODE E (document 01, "The block").
 #![tactic(auto)]
+
 pub mod descriptor;
 pub mod header;

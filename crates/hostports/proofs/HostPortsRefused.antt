@@ -13,7 +13,7 @@ use Rattle.texts.specs.Text.{is_digit, all, leading_count}
 use Rattle.hostports.specs.declared.host_port.ParsedNumber.{ParsedNumber}
 use Rattle.hostports.specs.declared.host_port.ParsedNumber.TheVariants.{Number, Malformed as NoNumber}
 use Rattle.hostports.specs.declared.host_port.ParsedHostPort.TheVariants.{Malformed}
-use Rattle.hostports.specs.HostPort.{comma, number_at, more_at, refuse_port_zero, host_port_at}
+use Rattle.hostports.specs.HostPort.{number_at, more_at, refuse_port_zero, host_port_at}
 use Rattle.hostports.specs.HostPorts.{comma_after_each}
 use Rattle.hostports.proofs.HostPort.{number-zero, first-is, numbers_from, from-none, from-number, comma-there, still-malformed, port-zero}
 use Rattle.hostports.proofs.HostPortsWritten.{run-all, after, byte-is}

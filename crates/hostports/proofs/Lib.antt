@@ -1,4 +1,3 @@
-mod ReaderLaws
 pub mod HostPort
 pub mod HostPortsWritten
 pub mod HostPortsRead

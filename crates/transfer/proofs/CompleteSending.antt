@@ -193,7 +193,7 @@ sent_channels-bytes (suc d) c (s ∷ ss) a = go (is_non_empty (taken s)) (sent_c
   where
     go : (b : Bool) → sent_on (suc c + d) (lives_from (suc c) ss) ≡ taken (get_or ss d (intact []))
         → sent_on (c + suc d) (cond b (record { number = c; blocks = accepted s } ∷ lives_from (suc c) ss) (lives_from (suc c) ss)) ≡ taken (get_or ss d (intact []))
-    go true i = let e : c + suc d ≡ suc c + d = omega arith in rw (ne_eqb c (c + suc d) (λ z. omega arith), e) i
+    go true i = let e : c + suc d ≡ suc c + d = omega arith in rw (ne_eqb c (c + suc d) (λ z. omega arith)) (ap (λ q. sent_on q (lives_from (suc c) ss)) e ∙ i)
     go false i = let e : c + suc d ≡ suc c + d = omega arith in rw e i
 
 -- ---- a complete tally

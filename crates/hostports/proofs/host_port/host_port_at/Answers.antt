@@ -1,16 +1,14 @@
 -- `host_port::host_port_at`: the numbers read, and those that are to come after them, make the host-port.
-use Prim.Native.Nat.{suc, ◌+◌, ◌-◌, ◌^◌, ◌≤◌, ◌<◌}
+use Prim.Native.Nat.{suc, ◌+◌, ◌-◌}
 use mathlib.Core.Path.{◌≡◌, sym, ap, ◌∙◌}
 use native.Mathlib.Omega.{arith}
-use borrow.Author.Rules.{rules}
 use lib.ListN.{get_or-eq_default}
-use Rattle.hostports.specs.HostPort.{number_at, more_at, refuse_port_zero, host_port_at}
-use Rattle.hostports.specs.declared.host_port.ParsedNumber.TheVariants.{Number}
+use Rattle.hostports.specs.HostPort.{more_at, refuse_port_zero, host_port_at}
 use Rattle.hostports.specs.declared.host_port.ParsedHostPort.TheVariants.{HostPort}
 use Rattle.hostports.proofs.HostPort.{first-malformed, first-number, no_comma, more-malformed, one_more, more-done, still-malformed, port-zero, port-kept, room-left, grows}
 use Rattle.hostports.proofs.HostPortsRead.{number_bound}
 use Rattle.hostports.proofs.host_port.host_port_at.Goals as goal
-use Rattle.hostports.proofs.host_port.host_port_at.Goals.{After-loop-k, In-Number-2, In-Number-number-2, In-loop-k}
+use Rattle.hostports.proofs.host_port.host_port_at.Goals.{After-loop-k, In-loop-k}
 
 -- one of the numbers that are to come is the next
 host-port : (c : In-loop-k) → let x = c.args in
@@ -18,13 +16,6 @@ host-port : (c : In-loop-k) → let x = c.args in
 host-port c =
     let m : suc (5 - (c.loop-k.k + 1)) ≡ 5 - c.loop-k.k = omega arith in
     rw m (sym c.loop-k.invariant.2)
-
-first-is : (c : In-Number-2) → let x = c.args in
-    number_at x.text.now x.at ≡ Number c.in-Number.value c.in-Number.next
-first-is c = sym c.number_at-first.ensures ∙ c.in-Number.is
-
-next-is : (c : In-Number-number-2) → number_at c.args.text.now (c.loop-k.place + 1) ≡ Number c.in-Number-number.value c.in-Number-number.next
-next-is c = sym c.number_at-number.ensures ∙ c.in-Number-number.is
 
 -- after the sixth number nothing more is read
 six : (c : After-loop-k) → let x = c.args in
@@ -36,12 +27,12 @@ six c =
 pub returns-in_default : goal.returns-in_default
 returns-in_default c =
     let x = c.args in
-    sym (first-malformed x.text.now x.at (sym c.number_at-first.ensures ∙ c.in_default.is))
+    sym (first-malformed x.text.now x.at (sym c.in_default.ensures))
 
 pub loop-k-init : goal.loop-k-init
 loop-k-init c =
     let x = c.args in
-    (omega arith, number_bound x.text.now x.at _ _ (first-is (goal.at.loop-k-init c).In-Number-2), sym (first-number x.text.now x.at _ _ (first-is (goal.at.loop-k-init c).In-Number-2)))
+    (omega arith, number_bound x.text.now x.at _ _ (sym c.in-Number.ensures), sym (first-number x.text.now x.at _ _ (sym c.in-Number.ensures)))
 
 pub returns-then-text-place : goal.returns-then-text-place
 returns-then-text-place c =
@@ -56,7 +47,7 @@ returns-then-text-place-ne-COMMA c =
 pub returns-in_default-number : goal.returns-in_default-number
 returns-in_default-number c =
     let s = c.args.text.now in
-    sym (host-port (goal.at.returns-in_default-number c).In-loop-k ∙ still-malformed _ (more-malformed _ s c.loop-k.v c.loop-k.place c.if-text-place-ne-COMMA.false (sym c.number_at-number.ensures ∙ c.in_default-number.is)))
+    sym (host-port (goal.at.returns-in_default-number c).In-loop-k ∙ still-malformed _ (more-malformed _ s c.loop-k.v c.loop-k.place c.if-text-place-ne-COMMA.false (sym c.in_default-number.ensures)))
 
 pub overflow_mul-v : goal.overflow_mul-v
 overflow_mul-v c =
@@ -65,14 +56,14 @@ overflow_mul-v c =
 pub overflow_add-v : goal.overflow_add-v
 overflow_add-v c =
     let s = c.args.text.now in
-    omega (arith, room-left c.loop-k.v c.loop-k.k c.loop-k.invariant.1 (omega arith), number_bound s (c.loop-k.place + 1) _ _ (next-is (goal.at.overflow_add-v c).In-Number-number-2))
+    omega (arith, room-left c.loop-k.v c.loop-k.k c.loop-k.invariant.1 (omega arith), number_bound s (c.loop-k.place + 1) _ _ (sym c.in-Number-number.ensures))
 
 pub loop-k-preserved : goal.loop-k-preserved
 loop-k-preserved c =
     let s = c.args.text.now in (
       omega arith,
-      grows c.loop-k.v c.in-Number-number.value c.loop-k.k c.loop-k.invariant.1 (number_bound s (c.loop-k.place + 1) _ _ (next-is (goal.at.loop-k-preserved c).In-Number-number-2)),
-      sym (host-port (goal.at.loop-k-preserved c).In-loop-k ∙ ap refuse_port_zero (one_more (5 - (c.loop-k.k + 1)) s c.loop-k.v c.loop-k.place _ _ c.if-text-place-ne-COMMA.false (next-is (goal.at.loop-k-preserved c).In-Number-number-2))),
+      grows c.loop-k.v c.in-Number-number.value c.loop-k.k c.loop-k.invariant.1 (number_bound s (c.loop-k.place + 1) _ _ (sym c.in-Number-number.ensures)),
+      sym (host-port (goal.at.loop-k-preserved c).In-loop-k ∙ ap refuse_port_zero (one_more (5 - (c.loop-k.k + 1)) s c.loop-k.v c.loop-k.place _ _ c.if-text-place-ne-COMMA.false (sym c.in-Number-number.ensures))),
     )
 
 pub returns-then-v-eq0 : goal.returns-then-v-eq0

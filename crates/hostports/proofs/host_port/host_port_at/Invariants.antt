@@ -1,14 +1,7 @@
 -- `host_port::host_port_at`: the numbers read, and those that are to come after them, make the host-port.
-use Prim.Native.Nat.{suc, ◌+◌, ◌-◌, ◌^◌, ◌≤◌, ◌<◌}
-use mathlib.Core.Path.{◌≡◌, sym, ap, ◌∙◌}
-use native.Mathlib.Omega.{arith}
-use borrow.Author.Rules.{rules}
-use lib.ListN.{get_or-eq_default}
-use Rattle.hostports.specs.HostPort.{number_at, more_at, refuse_port_zero, host_port_at}
-use Rattle.hostports.specs.declared.host_port.ParsedNumber.TheVariants.{Number}
-use Rattle.hostports.specs.declared.host_port.ParsedHostPort.TheVariants.{HostPort}
-use Rattle.hostports.proofs.HostPort.{first-malformed, first-number, no_comma, more-malformed, one_more, more-done, still-malformed, port-zero, port-kept, room-left, grows}
-use Rattle.hostports.proofs.HostPortsRead.{number_bound}
+use Prim.Native.Nat.{◌+◌, ◌-◌, ◌^◌, ◌≤◌, ◌<◌}
+use mathlib.Core.Path.{◌≡◌}
+use Rattle.hostports.specs.HostPort.{more_at, refuse_port_zero, host_port_at}
 use Rattle.hostports.proofs.host_port.host_port_at.Given as goal
 
 abbrev pub invariant-loop-k : goal.invariant-loop-k

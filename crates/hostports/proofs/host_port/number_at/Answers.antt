@@ -1,9 +1,7 @@
 -- `host_port::number_at`: what reading the digits at the place answers.
 use Prim.Native.Nat.{◌+◌, ◌-◌, ◌≤◌, ◌<◌}
 use mathlib.Core.Path.{◌≡◌, sym, ap, ◌∙◌}
-use mathlib.Core.Logic.{⊎_elim}
 use native.Mathlib.Omega.{arith}
-use borrow.Author.Rules.{rules}
 use lib.ListN.{length, get_or, take, drop, length-drop}
 use lib.Seq.{length-take-le}
 use Rattle.octets.specs.Decimal.{read_of}
@@ -13,7 +11,7 @@ use Rattle.hostports.specs.HostPort.{digit_limit, value_limit, number_at}
 use Rattle.octets.proofs.Rest.{rest_is}
 use Rattle.hostports.proofs.HostPort.{parsed_of, number_past, number-long, number-zero, number_short}
 use Rattle.hostports.proofs.host_port.number_at.Goals as goal
-use Rattle.hostports.proofs.host_port.number_at.Goals.{After-leading-k, After-read-number, Joined-k-gt1}
+use Rattle.hostports.proofs.host_port.number_at.Goals.{After-leading-k, After-read-number, Joined-k-gt1, then-k-gt1+else-rest-eq-DIGIT_ZERO, else-k-gt1}
 
 -- what the code calls k is how many digits there are at the place
 run_is : (c : After-leading-k) → let x = c.args in c.leading-k.result ≡ leading_count is_digit (drop x.at x.text.now)
@@ -28,7 +26,10 @@ few c = omega (arith, run_is (goal.at.Joined-k-gt1 c).After-leading-k, c.if-k-gt
 plain : (c : Joined-k-gt1) → let x = c.args in let s = drop x.at x.text.now in 1 < leading_count is_digit s → get_or s 0 0 ≡ 48 → ⊥
 plain c h e =
     let x = c.args in
-    ⊎_elim (λ w. w.2.left (rw (rest_is x.text.now x.at) e)) (λ w. omega (arith, run_is (goal.at.Joined-k-gt1 c).After-leading-k, w.left)) c.if-k-gt1.branch
+    elim c.if-k-gt1.branch [
+      | then-k-gt1+else-rest-eq-DIGIT_ZERO w ↦ w.if-rest-eq-DIGIT_ZERO.false (rw (rest_is x.text.now x.at) e)
+      | else-k-gt1 w ↦ omega (arith, run_is (goal.at.Joined-k-gt1 c).After-leading-k, w.if-k-gt1.false)
+    ]
 
 read_is : (c : After-read-number) → let x = c.args in let s = drop x.at x.text.now in
     c.read-number.result ≡ read_of (take (leading_count is_digit s) s) value_limit

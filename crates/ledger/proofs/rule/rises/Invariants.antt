@@ -16,7 +16,7 @@ abbrev pub decreases-loop-i : goal.decreases-loop-i
 decreases-loop-i l = length l.entries - l.i
 
 abbrev pub invariant-loop-i-2 : goal.invariant-loop-i-2
-invariant-loop-i-2 l = invariant-loop
+invariant-loop-i-2 l = (l.i ≤ length l.entries) × (rises (drop l.i l.entries) ≡ rises l.entries)
 
 abbrev pub decreases-loop-i-2 : goal.decreases-loop-i-2
-decreases-loop-i-2 l = decreases-loop
+decreases-loop-i-2 l = length l.entries - l.i

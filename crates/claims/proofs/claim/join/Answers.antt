@@ -1,0 +1,55 @@
+-- `claim::join`.
+use Prim.Native.Nat.{◌≤◌, ◌<◌}
+use mathlib.Core.Path.{◌≡◌, refl, sym, ◌∙◌}
+use mathlib.Core.Bool.{true, false≢true}
+use native.Mathlib.Omega.{arith}
+use borrow.Author.Rules.{rules}
+use borrow.Author.Tests.{ltb-true, ltb-false}
+use lib.Dec.{ltb}
+use Rattle.ledger.specs.Pairs.{size, join}
+use Rattle.ledger.specs.Ledger.{obeys, pairs_of, capacity}
+use Rattle.claims.proofs.JoinRoom.{at-is, past_is}
+use Rattle.claims.proofs.JudgedByPlace.{lacks-is}
+use Rattle.claims.proofs.claim.join.Goals as goal
+use Rattle.claims.proofs.claim.join.Goals.{After-full, Else-full, Then-full}
+
+-- in a ledger by the rule: whether there is no pair for the range
+lacks : (c : After-full) → let x = c.args in let l = x.ledger.now in
+    obeys l ≡ true → x.start < x.end → c.full.result ≡ ltb (capacity l) (size (join x.start x.end (pairs_of l)))
+lacks c o h =
+    let x = c.args in
+    c.full.ensures ∙ lacks-is x.ledger.now o x.start x.end h c.locate-slot.result (c.locate-slot.ensures.2 o h)
+
+no_room : (c : Then-full) → let x = c.args in let l = x.ledger.now in
+    obeys l ≡ true → x.start < x.end → capacity l < size (join x.start x.end (pairs_of l))
+no_room c o h =
+    let x = c.args in
+    ltb-true (capacity x.ledger.now) (size (join x.start x.end (pairs_of x.ledger.now))) (sym (lacks (goal.at.Then-full c).After-full o h) ∙ c.if-full.true)
+
+some-room : (c : Else-full) → let x = c.args in let l = x.ledger.now in
+    obeys l ≡ true → x.start < x.end → size (join x.start x.end (pairs_of l)) ≤ capacity l
+some-room c o h =
+    let x = c.args in
+    ltb-false (capacity x.ledger.now) (size (join x.start x.end (pairs_of x.ledger.now))) (sym (lacks (goal.at.Else-full c).After-full o h) ∙ c.if-full.false)
+
+pub returns-then-full : goal.returns-then-full
+returns-then-full c =
+    record {
+      done_where = λ o h. (λ e. absurd (false≢true e), λ g. absurd (omega (arith, no_room c o h)));
+      by_rule = λ o h e. absurd (false≢true e);
+      unchanged = λ e. refl;
+      same_length = refl;
+    }
+
+pub returns : goal.returns
+returns c =
+    let x = c.args in
+    record {
+      done_where = λ o h. (λ e. some-room (goal.at.returns c).Else-full o h, λ (goal.at.returns c).After-slice_known-1. refl);
+      by_rule = λ o h e.
+          let is = c.locate-slot.ensures.2 o h in
+          c.merge.ensures o h (at-is x.start x.end x.ledger.now c.locate-slot.result is) (past_is x.start x.end x.ledger.now c.locate-slot.result is)
+          (some-room (goal.at.returns c).Else-full o h);
+      unchanged = λ e. absurd (false≢true (sym e));
+      same_length = c.merge.auto.ledger;
+    }

@@ -1,0 +1,16 @@
+-- `count::left`: the channels passed, and those after them, are all.
+use Prim.Native.Nat.{ℕ, ◌-◌, ◌≤◌}
+use native.Mathlib.Omega.{arith}
+use borrow.Author.Rules.{rules}
+use Rattle.transfer.specs.Transfer.{left_of}
+use Rattle.counts.proofs.Sum.{length-mapped, Summed, summed-none, summed-more, summed-all}
+use Rattle.counts.proofs.count.left.Given as goal
+
+abbrev pub largest : ℕ
+largest = 18446744073709551615
+
+abbrev pub invariant-loop-c : goal.invariant-loop-c
+invariant-loop-c l = (l.n ≤ largest) × (Summed largest (λ k. k.left) l.t.channels l.n l.c)
+
+abbrev pub decreases-loop-c : goal.decreases-loop-c
+decreases-loop-c l = 64 - l.c

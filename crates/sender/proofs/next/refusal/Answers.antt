@@ -1,0 +1,60 @@
+-- `next::refusal`.
+-- where the first test says no, the call is one on this sender, whatever file of that length is lent
+use Prim.Native.Nat.{ℕ, ◌+◌, ◌<◌}
+use mathlib.Core.Path.{◌≡◌, sym, ◌∙◌}
+use mathlib.Core.Bool.{Bool, false}
+use mathlib.Core.List.{List, []}
+use native.Mathlib.Omega.{arith}
+use lib.ListN.{length, replicate, length-replicate}
+use borrow.Author.Rules.{rules}
+use Rattle.sender.specs.declared.state.Sender.{Sender}
+use Rattle.sender.specs.Blocks.{block_count, blocks_on}
+use Rattle.sender.specs.Sender.{most_on, next_call, is_mismatched}
+use Rattle.sender.specs.SenderRows.{InRange, Matches}
+use Rattle.sender.proofs.AtMost.{most-below}
+use Rattle.sender.proofs.Judged.{matching, refused-71, refused-73, refused-74, not-refused}
+use Rattle.sender.proofs.next.refusal.Goals as goal
+
+-- the most that the channel is given, by the length of the file that is lent
+most-for : (len count size channel m : ℕ) (file : List ℕ) → channel < count → m ≡ most_on len count size channel → length file ≡ len → m ≡ blocks_on (block_count (length file) size) count channel + 1
+most-for len count size channel m file h e l = rw l (e ∙ most-below len count size channel h)
+
+pub returns-then-is_mismatched : goal.returns-then-is_mismatched
+returns-then-is_mismatched c =
+    let x = c.args in
+    λ file out e. sym (refused-71 x.t1 (next_call x.channel x.count x.size file out) (sym (c.is_mismatched.ensures x.channel file out e) ∙ c.if-is_mismatched.true))
+
+pub returns-then-count-channel : goal.returns-then-count-channel
+returns-then-count-channel c =
+    let x = c.args in
+    let o = matches x.t1 x.channel x.count x.size x.len c.is_mismatched.result c.is_mismatched.ensures c.if-is_mismatched.false in
+    λ file out e. sym (refused-73 x.t1 _ (o file out e) c.if-count-channel.true)
+
+pub most_on-requires : goal.most_on-requires
+most_on-requires c =
+    let x = c.args in
+    let r = ranges x.t1 x.channel x.count x.size x.len c.is_mismatched.result c.is_mismatched.ensures c.if-is_mismatched.false in
+    omega (arith, r)
+
+pub bounds-s-channel : goal.bounds-s-channel
+bounds-s-channel c =
+    let x = c.args in
+    let r = ranges x.t1 x.channel x.count x.size x.len c.is_mismatched.result c.is_mismatched.ensures c.if-is_mismatched.false in
+    omega (arith, r)
+
+pub offset_bounds-s-channel : goal.offset_bounds-s-channel
+offset_bounds-s-channel c = omega (arith, bounds-s-channel c)
+
+pub returns-then-most_on-s : goal.returns-then-most_on-s
+returns-then-most_on-s c =
+    let x = c.args in
+    let h = c.if-count-channel.false in
+    let o = matches x.t1 x.channel x.count x.size x.len c.is_mismatched.result c.is_mismatched.ensures c.if-is_mismatched.false in
+    λ file out e. sym (refused-74 x.t1 _ (o file out e) h (omega (arith, c.if-most_on-s.true, most-for x.len x.count x.size x.channel c.most_on.result file h c.most_on.ensures e)))
+
+pub returns : goal.returns
+returns c =
+    let x = c.args in
+    let h = c.if-count-channel.false in
+    let o = matches x.t1 x.channel x.count x.size x.len c.is_mismatched.result c.is_mismatched.ensures c.if-is_mismatched.false in
+    λ file out e. sym (not-refused x.t1 _ (o file out e) h (omega (arith, c.if-most_on-s.false, most-for x.len x.count x.size x.channel c.most_on.result file h c.most_on.ensures e)))
