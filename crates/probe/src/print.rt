@@ -1,4 +1,4 @@
-// The words of a line, on standard output. A write that fails is not told: its bytes are lost, and the next word is tried as ever.
+// The words of a line, on standard output. A write that fails is passed over, and the next one tried.
 use crate::part;
 
 pub fn word(rt: &impl Print, text: &[u8]) {
