@@ -39,6 +39,12 @@ class Function:
             self.new_place[norm(old)] = info["places_by_name"][i]
         for (old, new) in info["asked_at"]:
             self.new_place.setdefault(norm(old), new)
+        for i, a in enumerate(info["arms"]):
+            # the last record of an arm has the arm's name
+            old = norm(info["places"][i][0])
+            m = re.fullmatch(r"(In-.*)-\d+", self.new_place[old])
+            if a and m:
+                self.new_place[old] = m.group(1)
         self.fields = {}
         for old, (parent, of, nf, callee, subs) in self.places.items():
             self.fields.setdefault(of, set()).add(nf)
@@ -93,12 +99,19 @@ class Function:
 
     def turn_fields(self, place, rest):
         f = norm(rest[0])
+        if f == "pre":
+            return ["requires"] + rest[1:]
         for a, b in self.info.get("args", []):
             a, b = a.replace(" ", "").strip("."), b.replace(" ", "").strip(".")
             if "." in a and rest[:2] == a.split("."):
                 return b.split(".") + rest[2:]
             if "." not in a and rest[0] == a:
                 return [b] + rest[1:]
+        if len(rest) > 1 and rest[1] == "given":
+            for typed in self.info.get("typed", []):
+                for var, step in typed:
+                    if norm(step) == f:
+                        return ["type_inv", var] + rest[2:]
         entry = self.places.get(place)
         new = None
         subs = {}
@@ -137,7 +150,7 @@ class Function:
             return rest
         tail = rest[1:]
         if tail:
-            t = {"inv": "invariant", "last": "new", "post": "ensures", "taken": "true", "left": "false"}.get(tail[0], tail[0])
+            t = {"inv": "invariant", "last": "new", "post": "ensures", "taken": "true", "left": "false", "kept": "auto"}.get(tail[0], tail[0])
             t = subs.get(t, t)
             tail = [t] + tail[1:]
             if t in ("new", "auto") and callee in self.info["params"]:
@@ -254,6 +267,12 @@ def turn_body(fn, text, env, helpers):
     let = re.compile(r"let (" + IDENT + r") = ([^\n=]*?) in(\s+)")
     call = re.compile(r"\((" + IDENT + r") (" + IDENT + r"(?:\.before)*|\([^()]*\))\)((?:\.[\w'-]+)*)")
     while pos < len(text):
+        m = re.compile(r"λ [^.]*\.").match(text, pos)
+        if m:
+            # names that a function binds
+            out.append(m.group(0))
+            pos = m.end()
+            continue
         m = let.match(text, pos)
         if m and (pos == 0 or not re.match(r"[\w'-]", text[pos - 1])):
             v = read_alias(fn, m.group(2), env, helpers)
@@ -300,7 +319,23 @@ def turn_body(fn, text, env, helpers):
             continue
         out.append(text[pos])
         pos += 1
-    return "".join(out)
+    return after_calls(fn, "".join(out))
+
+
+def after_calls(fn, text):
+    """v.new.1.1.0 of `let v = c.STEP in` is what the call left of its third parameter."""
+    callee = {e[2]: e[3] for e in fn.places.values() if e[3] in fn.info["params"]}
+    for m in list(re.finditer(r"let (" + IDENT + r") = [^\n=]*?\.([\w'-]+) in", text)):
+        if m.group(2) not in callee:
+            continue
+        names = fn.info["params"][callee[m.group(2)]]
+
+        def one(k):
+            n = k.group(2).count(".1")
+            return f"{m.group(1)}.{k.group(1).replace('last', 'new').replace('kept', 'auto')}.{names[n]}" if n < len(names) else k.group(0)
+
+        text = re.sub(r"(?<![\w'.-])" + re.escape(m.group(1)) + r"\.(new|auto|last|kept)((?:\.1)*)\.0(?![\w'-])", one, text)
+    return text
 
 
 def turn_tie_types(fn, text, imports, users=()):
@@ -317,7 +352,9 @@ def turn_tie_types(fn, text, imports, users=()):
 
 def convert(path, fn, module, crate):
     text = open(path, encoding="utf-8").read()
-    text = text.replace("\n    tie.close", "\n    tie.close")
+    for a, b in fn.info.get("args", []):
+        if a.startswith(".args .") and re.fullmatch(r"\.args \.[a-z]\d+", a):
+            text = re.sub(r"\." + a[7:] + r"(?![\w'-])", "." + b[7:], text)
     its = items(text)
     uses, invs, helpers_i, answers, whole = [], [], [], [], []
     comment_top = []

@@ -1,5 +1,6 @@
 // The channels of a transfer: each tested, and all counted, in one pass.
 #![tactic(auto)]
+
 mod channel;
 mod held;
 pub mod limits;

@@ -121,13 +121,16 @@ counts-added g file count size h m =
     sum-counts g (sent_blocks (sending file count size)) ∙ omega (
       arith,
       sum-sent counted file count size h,
-      sum_below-zero (λ k. counted (data_block file size k)) (block_count (length file) size) (λ k l. unfold data_block header_bytes has in refl),
+      sum_below-zero (λ k. counted (data_block file size k)) (block_count (length file) size) (λ k l. plain k),
       sum_below-same (λ c. counted (ending count c)) (λ c. cond (eqb c 0) (g count) 0) count (λ c l. at (eqb c 0)),
       sum_below-at (g count) 0 count h,
     )
   where
     counted : Block → ℕ
     counted x = cond (is_eodc x.head) (g (third_of x.head)) 0
+
+    plain : (k : ℕ) → counted (data_block file size k) ≡ 0
+    plain k = unfold data_block header_bytes has in refl
 
     at : (b : Bool) → counted (block (cond b (header_bytes 72 0 count) (header_bytes 8 0 0)) []) ≡ cond b (g count) 0
     at true = unfold header_bytes has in ap g (third-reads-back 72 0 count (omega arith))

@@ -45,7 +45,7 @@ pub returns : goal.returns
 returns c =
     let x = c.args in
     record {
-      done_where = λ o h. (λ e. some-room (goal.at.returns c).Else-full o h, λ (goal.at.returns c).After-slice_known-1. refl);
+      done_where = λ o h. (λ e. some-room (goal.at.returns c).Else-full o h, λ g. refl);
       by_rule = λ o h e.
           let is = c.locate-slot.ensures.2 o h in
           c.merge.ensures o h (at-is x.start x.end x.ledger.now c.locate-slot.result is) (past_is x.start x.end x.ledger.now c.locate-slot.result is)

@@ -10,22 +10,22 @@ use Rattle.sender.proofs.next.is_mismatched.Goals as goal
 pub returns-then-out_of_range : goal.returns-then-out_of_range
 returns-then-out_of_range c =
     let x = c.args in
-    λ n file out e. sym (wrong-when x.t1 (next_call n x.count x.size file out) (sym c.out_of_range.ensures ∙ c.if-out_of_range.true))
+    λ n file out e. sym (wrong-when x.s (next_call n x.count x.size file out) (sym c.out_of_range.ensures ∙ c.if-out_of_range.true))
 
 pub returns-then-count-s : goal.returns-then-count-s
 returns-then-count-s c =
     let x = c.args in
-    λ n file out e. sym (wrong-count x.t1 (next_call n x.count x.size file out) c.if-count-s.true)
+    λ n file out e. sym (wrong-count x.s (next_call n x.count x.size file out) c.if-count-s.true)
 
 pub returns-then-size-s : goal.returns-then-size-s
 returns-then-size-s c =
     let x = c.args in
-    λ n file out e. sym (wrong_size x.t1 (next_call n x.count x.size file out) c.if-size-s.true)
+    λ n file out e. sym (wrong_size x.s (next_call n x.count x.size file out) c.if-size-s.true)
 
 pub returns-then-len-s : goal.returns-then-len-s
 returns-then-len-s c =
     let x = c.args in
-    λ n file out e. sym (wrong-file x.t1 (next_call n x.count x.size file out) (λ h. c.if-len-s.true (sym e ∙ h)))
+    λ n file out e. sym (wrong-file x.s (next_call n x.count x.size file out) (λ h. c.if-len-s.true (sym e ∙ h)))
 
 pub all_at_most-requires : goal.all_at_most-requires
 all_at_most-requires c =
@@ -37,5 +37,5 @@ pub returns : goal.returns
 returns c =
     let x = c.args in
     λ n file out e.
-    sym (rw e at (by-given x.t1 (next_call n x.count x.size file out) (sym c.out_of_range.ensures ∙ c.if-out_of_range.false) c.if-count-s.false c.if-size-s.false (e ∙ c.if-len-s.false))
+    sym (rw e at (by-given x.s (next_call n x.count x.size file out) (sym c.out_of_range.ensures ∙ c.if-out_of_range.false) c.if-count-s.false c.if-size-s.false (e ∙ c.if-len-s.false))
     ∙ ap not (sym c.all_at_most.ensures))

@@ -1,5 +1,4 @@
 -- `next::next`.
--- what a call that is not refused by 71, 73 or 74 can count on
 use Prim.Native.Nat.{ℕ, zero, suc, ◌+◌, ◌≤◌, ◌<◌}
 use mathlib.Core.Path.{◌≡◌, refl, sym, ap, ◌∙◌}
 use native.Mathlib.Omega.{arith}
@@ -15,6 +14,14 @@ use Rattle.sender.proofs.AtMost.{most-below}
 use Rattle.sender.proofs.Judged.{accepted}
 use Rattle.sender.proofs.Answered.{number-call, number-55, number_0, refuses, writes, length-outlined, outlined}
 use Rattle.sender.proofs.next.next.Goals as goal
+
+-- what a call that is not refused by 71, 73 or 74 can count on
+pub record Accepted (s : Sender) (k : NextCall) : Type 0 where
+  pub channel : k.channel < k.count
+  pub count : k.count ≤ 64
+  pub size : 0 < k.size
+  pub more : given_on s k.channel < most_on (length k.file) k.count k.size k.channel
+  pub few : given_on s k.channel ≤ length k.file
 
 accepts : (s : Sender) (k : NextCall) → call_refusal s k ≡ 0 → Accepted s k
 accepts s k e =
@@ -39,12 +46,12 @@ returns-then-k-gt0 c =
     let x = c.args in
     let k = next_call x.channel x.count x.size x.file.now x.out.now in
     let e = c.refusal-k.ensures x.file.now x.out.now refl in
-    refuses x.t1 k c.refusal-k.result (number-call x.t1 k (omega (arith, e, c.if-k-gt0.true)) ∙ sym e) c.if-k-gt0.true
+    refuses x.sender k c.refusal-k.result (number-call x.sender k (omega (arith, e, c.if-k-gt0.true)) ∙ sym e) c.if-k-gt0.true
 
 pub bounds-sender-c : goal.bounds-sender-c
 bounds-sender-c c =
     let x = c.args in
-    let a = accepts x.t1 (next_call x.channel x.count x.size x.file.now x.out.now) (omega (arith, c.refusal-k.ensures x.file.now x.out.now refl, c.if-k-gt0.false)) in
+    let a = accepts x.sender (next_call x.channel x.count x.size x.file.now x.out.now) (omega (arith, c.refusal-k.ensures x.file.now x.out.now refl, c.if-k-gt0.false)) in
     omega (arith, a.channel, a.count)
 
 pub offset_bounds-sender-c : goal.offset_bounds-sender-c
@@ -53,7 +60,7 @@ offset_bounds-sender-c c = omega (arith, bounds-sender-c c)
 pub next_outline-o-requires : goal.next_outline-o-requires
 next_outline-o-requires c =
     let x = c.args in
-    let a = accepts x.t1 (next_call x.channel x.count x.size x.file.now x.out.now) (omega (arith, c.refusal-k.ensures x.file.now x.out.now refl, c.if-k-gt0.false)) in
+    let a = accepts x.sender (next_call x.channel x.count x.size x.file.now x.out.now) (omega (arith, c.refusal-k.ensures x.file.now x.out.now refl, c.if-k-gt0.false)) in
     (a.channel, a.count, a.size, omega arith, a.more)
 
 pub overflow_add-n : goal.overflow_add-n
@@ -66,14 +73,14 @@ returns-then-out-n c =
     let x = c.args in
     let k = next_call x.channel x.count x.size x.file.now x.out.now in
     let o = c.next_outline-o.result in
-    let z : call_refusal x.t1 k ≡ 0 = omega (arith, c.refusal-k.ensures x.file.now x.out.now refl, c.if-k-gt0.false) in
-    let e = length-outlined x.t1 k o.third o.length (c.next_outline-o.ensures.2 x.file.now refl).1 c.next_outline-o.ensures.1 in
-    refuses x.t1 k 55 (number-55 x.t1 k z (omega (arith, e, c.if-out-n.true))) (omega arith)
+    let z : call_refusal x.sender k ≡ 0 = omega (arith, c.refusal-k.ensures x.file.now x.out.now refl, c.if-k-gt0.false) in
+    let e = length-outlined x.sender k o.third o.length (c.next_outline-o.ensures.2 x.file.now refl).1 c.next_outline-o.ensures.1 in
+    refuses x.sender k 55 (number-55 x.sender k z (omega (arith, e, c.if-out-n.true))) (omega arith)
 
 pub moved_on-requires : goal.moved_on-requires
 moved_on-requires c =
     let x = c.args in
-    let a = accepts x.t1 (next_call x.channel x.count x.size x.file.now x.out.now) (omega (arith, c.refusal-k.ensures x.file.now x.out.now refl, c.if-k-gt0.false)) in
+    let a = accepts x.sender (next_call x.channel x.count x.size x.file.now x.out.now) (omega (arith, c.refusal-k.ensures x.file.now x.out.now refl, c.if-k-gt0.false)) in
     omega (arith, a.channel, a.count, a.few)
 
 pub returns : goal.returns
@@ -81,8 +88,8 @@ returns c =
     let x = c.args in
     let k = next_call x.channel x.count x.size x.file.now x.out.now in
     let o = c.next_outline-o.result in
-    let z : call_refusal x.t1 k ≡ 0 = omega (arith, c.refusal-k.ensures x.file.now x.out.now refl, c.if-k-gt0.false) in
+    let z : call_refusal x.sender k ≡ 0 = omega (arith, c.refusal-k.ensures x.file.now x.out.now refl, c.if-k-gt0.false) in
     let y = c.next_outline-o.ensures.2 x.file.now refl in
-    let e = length-outlined x.t1 k o.third o.length y.1 c.next_outline-o.ensures.1 in
-    let r = writes x.t1 k (number_0 x.t1 k z (omega (arith, e, c.if-out-n.false))) in
-    (ap Bytes e ∙ r.0, c.moved_on.ensures ∙ r.1, c.write.ensures ∙ outlined x.t1 k _ o.third o.length y.0 y.1 e ∙ r.2)
+    let e = length-outlined x.sender k o.third o.length y.1 c.next_outline-o.ensures.1 in
+    let r = writes x.sender k (number_0 x.sender k z (omega (arith, e, c.if-out-n.false))) in
+    (ap Bytes e ∙ r.0, c.moved_on.ensures ∙ r.1, c.write.ensures ∙ outlined x.sender k _ o.third o.length y.0 y.1 e ∙ r.2)
