@@ -28,15 +28,14 @@ use Rattle.headers.proofs.ClaimNumber.{claim_number_is}
 
 -- the answer is not a slot
 abbrev pub NoSlot : ClaimCheck → Type 0
-NoSlot x = OneOf (0 ∷ 1 ∷ []) (tag_of the_type x)
+NoSlot x = (slot : Slot) → x ≡ Free slot → ⊥
 
 -- it is a fault then
 faulty-number : (x : ClaimCheck) → NoSlot x → 0 < claim_number x
 unfolding claim_number
 faulty-number Overlaps k = omega arith
 faulty-number Full k = omega arith
-faulty-number (Free slot) (inl k) = absurd (omega (arith, k))
-faulty-number (Free slot) (inr k) = absurd (omega (arith, k))
+faulty-number (Free slot) k = absurd (k slot refl)
 
 -- ---- the fault by the pairs: ps are claimed, ds are doubtful
 

@@ -1,5 +1,6 @@
 // The receiver of one transfer: what a host calls.
 #![tactic(auto)]
+
 pub mod receive;
 pub mod show;
 pub mod start;

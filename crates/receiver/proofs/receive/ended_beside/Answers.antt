@@ -1,0 +1,6 @@
+-- `receive::ended_beside`.
+use borrow.Author.Rules.{rules}
+use Rattle.receiver.proofs.receive.ended_beside.Goals as goal
+
+pub returns : goal.returns
+returns c = rw c.if-fits.false c.ended.ensures

@@ -1,0 +1,25 @@
+-- `take::take`: the bytes taken by the runs so far, and those after them, are all.
+use Rattle.std.proofs.Common.{◌≡◌, ℕ, ◌+◌, ◌-◌, ◌≤◌, true, List, length, take, drop, sym, refl, ap, ◌∙◌, subst, arith, length-drop, drop_of_length-le, take_all}
+use borrow.Author.Tests.{not-true, not-false}
+use Rattle.transfer.specs.declared.state.Transfer.{Transfer}
+use Rattle.transfer.specs.Transfer.{World, world}
+use Rattle.transfer.specs.Receive.{take_byte}
+use Rattle.transfer.specs.Fit.{fits}
+use Rattle.transfer.proofs.ReceivePieces.{bytes-none}
+use Rattle.channels.specs.ChannelState.{write_back}
+use Rattle.channels.specs.OtherChannels.{CountsOthers}
+use Rattle.runs.specs.Runs.{take_bytes_on, RunOf}
+use Rattle.runs.proofs.CallRuns.{further, stopped, still-fits}
+use Rattle.runs.proofs.take.take.Given as goal
+
+abbrev pub invariant-loop-i : goal.invariant-loop-i
+invariant-loop-i l =
+    (l.i ≤ length l.piece)
+    × (length l.file ≡ length l.initial.file)
+    × (length l.claimed ≡ length l.initial.claimed)
+    × (length l.doubtful ≡ length l.initial.doubtful)
+    × ((t : Transfer) → CountsOthers t l.c l.o → fits (world (write_back t l.c l.initial.y) l.initial.file l.initial.claimed l.initial.doubtful) ≡ true
+    → (fits (world (write_back t l.c l.y) l.file l.claimed l.doubtful) ≡ true) × (take_bytes_on l.c (world (write_back t l.c l.initial.y) l.initial.file l.initial.claimed l.initial.doubtful) l.piece 0 ≡ take_bytes_on l.c (world (write_back t l.c l.y) l.file l.claimed l.doubtful) (drop l.i l.piece) l.i))
+
+abbrev pub decreases-loop-i : goal.decreases-loop-i
+decreases-loop-i l = length l.piece - l.i
