@@ -82,16 +82,14 @@ tail-suspect v doubt e = rw e
 
 -- the word is another one
 abbrev pub NoSuspect : Word → Type 0
-NoSuspect v = OneOf (0 ∷ 1 ∷ 3 ∷ []) (tag_of the_type v)
+NoSuspect v = v ≡ Suspect → ⊥
 
 pub tail-other : (v : Word) (doubt : ℕ) → NoSuspect v → tail_text (to_verdict v) doubt ≡ line_feed
 unfolding tail_text
 tail-other Guess doubt k = refl
 tail-other Result doubt k = refl
 tail-other Broken doubt k = refl
-tail-other Suspect doubt (inl k) = absurd (omega (arith, k))
-tail-other Suspect doubt (inr (inl k)) = absurd (omega (arith, k))
-tail-other Suspect doubt (inr (inr k)) = absurd (omega (arith, k))
+tail-other Suspect doubt k = absurd (k refl)
 
 -- ---- the whole
 

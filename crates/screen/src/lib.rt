@@ -1,3 +1,4 @@
 // The screen line of a transfer.
 #![tactic(auto)]
+
 pub mod line;
