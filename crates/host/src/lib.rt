@@ -2,6 +2,7 @@
 //
 // In every answer `refused` is the number of documents 01 and 02, 0 where nothing is refused, and a field that means nothing in a case is 0.
 #![tactic(auto)]
+
 pub mod calls;
 pub mod consoles;
 pub mod header;

@@ -7,25 +7,26 @@ use verdicts::verdict::Verdict;
 
 // ---- start
 
-fn print_started(refused: u8) {
+fn print_started(rt: &impl Print, refused: u8) {
     if refused == 0 {
-        print::word(b"STARTED ");
+        print::word(rt, b"STARTED ");
         return;
     }
-    print::refused(refused);
-    print::word(b" ");
+    print::refused(rt, refused);
+    print::word(rt, b" ");
 }
 
-fn start_lent(length: u64, claimed: &mut [u64], doubtful: &mut [u64]) -> Receiver {
+fn start_lent(rt: &impl Print, length: u64, claimed: &mut [u64], doubtful: &mut [u64]) -> Receiver {
     entries::read(b"", fill::ENTRY, claimed);
     entries::read(b"", fill::ENTRY, doubtful);
     let started = start::start(length, claimed, doubtful);
     let receiver = started.receiver;
-    print_started(started.refused);
+    print_started(rt, started.refused);
     receiver
 }
 
 fn start_part(
+    rt: &impl Print,
     s: Session,
     length: u64,
     claimed_count: u64,
@@ -37,11 +38,12 @@ fn start_part(
     let bytes = part::of_bytes(length, file);
     let c = part::of_entries(claimed_count, claimed);
     let d = part::of_entries(doubtful_count, doubtful);
-    let receiver = start_lent(length, &mut claimed[..c], &mut doubtful[..d]);
+    let receiver = start_lent(rt, length, &mut claimed[..c], &mut doubtful[..d]);
     session::receiving(s, receiver, bytes, c, d)
 }
 
 pub fn start(
+    rt: &impl Print,
     s: Session,
     length: u64,
     claimed_count: u64,
@@ -58,6 +60,7 @@ pub fn start(
     }
     fill::bytes(file, 0);
     let after = start_part(
+        rt,
         s,
         length,
         claimed_count,
@@ -66,35 +69,36 @@ pub fn start(
         claimed,
         doubtful,
     );
-    screen_line::show_lent(after, claimed, doubtful);
+    screen_line::show_lent(rt, after, claimed, doubtful);
     session::go_on(after)
 }
 
 // ---- receive
 
-fn print_verdict(v: Verdict) {
+fn print_verdict(rt: &impl Print, v: Verdict) {
     match v {
-        Verdict::Guess => print::word(b" GUESS "),
-        Verdict::Result => print::word(b" RESULT "),
-        Verdict::Suspect => print::word(b" SUSPECT "),
-        Verdict::Broken => print::word(b" BROKEN "),
+        Verdict::Guess => print::word(rt, b" GUESS "),
+        Verdict::Result => print::word(rt, b" RESULT "),
+        Verdict::Suspect => print::word(rt, b" SUSPECT "),
+        Verdict::Broken => print::word(rt, b" BROKEN "),
     }
 }
 
-fn print_received(answer: Answer, verdict: Verdict) {
+fn print_received(rt: &impl Print, answer: Answer, verdict: Verdict) {
     match answer {
         Answer::Took(n) => {
-            print::counted(b"TOOK ", n);
-            print_verdict(verdict);
+            print::counted(rt, b"TOOK ", n);
+            print_verdict(rt, verdict);
         }
         Answer::Refused(k) => {
-            print::refused(k);
-            print::word(b" ");
+            print::refused(rt, k);
+            print::word(rt, b" ");
         }
     }
 }
 
 fn receive_lent(
+    rt: &impl Print,
     r: Receiver,
     channel: u8,
     piece: &[u8],
@@ -106,11 +110,12 @@ fn receive_lent(
     let receiver = received.receiver;
     let answer = received.answer;
     let verdict = received.verdict;
-    print_received(answer, verdict);
+    print_received(rt, answer, verdict);
     receiver
 }
 
 fn receive_part(
+    rt: &impl Print,
     s: Session,
     channel: u8,
     piece: &[u8],
@@ -123,6 +128,7 @@ fn receive_part(
     let c = part::of_entries(s.claimed as u64, claimed);
     let d = part::of_entries(s.doubtful as u64, doubtful);
     let after = receive_lent(
+        rt,
         receiver,
         channel,
         piece,
@@ -134,6 +140,7 @@ fn receive_part(
 }
 
 pub fn receive(
+    rt: &impl Print,
     s: Session,
     body: &[u8],
     file: &mut [u8],
@@ -143,7 +150,7 @@ pub fn receive(
     if body.len() == 0 {
         return session::stop(s);
     }
-    let after = receive_part(s, body[0], &body[1..], file, claimed, doubtful);
-    screen_line::show_lent(after, claimed, doubtful);
+    let after = receive_part(rt, s, body[0], &body[1..], file, claimed, doubtful);
+    screen_line::show_lent(rt, after, claimed, doubtful);
     session::go_on(after)
 }

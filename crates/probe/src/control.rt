@@ -7,7 +7,7 @@ use hostlists::list::Hosts;
 use replies::reply;
 use replies::reply::Class;
 
-pub fn command(text: &[u8]) {
+pub fn command(rt: &impl Print, text: &[u8]) {
     let answer = line::read(text);
     match answer {
         Line::Command {
@@ -15,49 +15,49 @@ pub fn command(text: &[u8]) {
             from: _,
             to: _,
         } => {
-            print::word(b"VERB ");
-            print::byte(verb);
-            print::last_bytes(line::argument(text));
+            print::word(rt, b"VERB ");
+            print::byte(rt, verb);
+            print::last_bytes(rt, line::argument(text));
         }
         Line::Refused(k) => {
-            print::refused(k);
-            print::end();
+            print::refused(rt, k);
+            print::end(rt);
         }
     }
 }
 
-fn print_class(digit: u8) {
-    print::word(b"CLASS ");
-    print::byte(digit);
+fn print_class(rt: &impl Print, digit: u8) {
+    print::word(rt, b"CLASS ");
+    print::byte(rt, digit);
 }
 
-pub fn reply(body: &[u8]) -> bool {
+pub fn reply(rt: &impl Print, body: &[u8]) -> bool {
     if body.len() != 2 {
         return false;
     }
     let class = reply::class_of(frame::two(body[0], body[1]));
     match class {
-        Class::Preliminary => print_class(1),
-        Class::Completion => print_class(2),
-        Class::Intermediate => print_class(3),
-        Class::Transient => print_class(4),
-        Class::Permanent => print_class(5),
-        Class::Refused(k) => print::refused(k),
+        Class::Preliminary => print_class(rt, 1),
+        Class::Completion => print_class(rt, 2),
+        Class::Intermediate => print_class(rt, 3),
+        Class::Transient => print_class(rt, 4),
+        Class::Permanent => print_class(rt, 5),
+        Class::Refused(k) => print::refused(rt, k),
     }
-    print::end();
+    print::end(rt);
     true
 }
 
-fn hosts_into(text: &[u8], list: &mut [u64]) {
+fn hosts_into(rt: &impl Print, text: &[u8], list: &mut [u64]) {
     let answer = list::fill(text, list);
     match answer {
-        Hosts::Count(n) => print::counted(b"HOSTS ", n),
-        Hosts::Refused(k) => print::refused(k),
+        Hosts::Count(n) => print::counted(rt, b"HOSTS ", n),
+        Hosts::Refused(k) => print::refused(rt, k),
     }
-    print::last_numbers(list);
+    print::last_numbers(rt, list);
 }
 
-pub fn host_ports(body: &[u8]) -> bool {
+pub fn host_ports(rt: &impl Print, body: &[u8]) -> bool {
     if body.len() < 2 {
         return false;
     }
@@ -67,6 +67,6 @@ pub fn host_ports(body: &[u8]) -> bool {
     if lent < asked as usize {
         return false;
     }
-    hosts_into(&body[2..], &mut space[..lent]);
+    hosts_into(rt, &body[2..], &mut space[..lent]);
     true
 }

@@ -18,26 +18,27 @@ fn convert(target: Target, record: &[u8], out: &mut [u8]) -> Written {
     }
 }
 
-fn convert_into(target: Target, record: &[u8], out: &mut [u8]) {
+fn convert_into(rt: &impl Print, target: Target, record: &[u8], out: &mut [u8]) {
     let answer = convert(target, record, out);
     match answer {
-        Written::Bytes(n) => print::counted(b"CONVERTED ", n),
-        Written::Refused(k) => print::refused(k),
+        Written::Bytes(n) => print::counted(rt, b"CONVERTED ", n),
+        Written::Refused(k) => print::refused(rt, k),
     }
-    print::last_bytes(out);
+    print::last_bytes(rt, out);
 }
 
-fn convert_lent(target: Target, record: &[u8], lent: u16) {
+fn convert_lent(rt: &impl Print, target: Target, record: &[u8], lent: u16) {
     let mut space = fill::byte_space();
     let n = part::of_bytes(lent as u64, &space);
-    convert_into(target, record, &mut space[..n]);
+    convert_into(rt, target, record, &mut space[..n]);
 }
 
-pub fn to_two(body: &[u8]) -> bool {
+pub fn to_two(rt: &impl Print, body: &[u8]) -> bool {
     if body.len() < 10 {
         return false;
     }
     convert_lent(
+        rt,
         Target::Two(little::read(body)),
         &body[10..],
         frame::two(body[8], body[9]),
@@ -45,10 +46,10 @@ pub fn to_two(body: &[u8]) -> bool {
     true
 }
 
-pub fn to_one(body: &[u8]) -> bool {
+pub fn to_one(rt: &impl Print, body: &[u8]) -> bool {
     if body.len() < 2 {
         return false;
     }
-    convert_lent(Target::One, &body[2..], frame::two(body[0], body[1]));
+    convert_lent(rt, Target::One, &body[2..], frame::two(body[0], body[1]));
     true
 }

@@ -6,31 +6,32 @@ use octets::little;
 
 // Kinds 32 to 43, the readers and writers, which keep nothing for the next request: whether there is such a kind, and its body is
 // well formed.
-fn read_or_write(kind: u64, body: &[u8]) -> bool {
+fn read_or_write(rt: &impl Print, kind: u64, body: &[u8]) -> bool {
     match kind {
         32 => {
-            headers::read(body);
+            headers::read(rt, body);
             true
         }
-        33 => headers::write(body),
+        33 => headers::write(rt, body),
         34 => {
-            control::command(body);
+            control::command(rt, body);
             true
         }
-        35 => control::reply(body),
-        36 => control::host_ports(body),
-        37 => ledgers::read(Source::Ranges, body),
-        38 => ledgers::write(Form::Ranges, body),
-        39 => ledgers::write(Form::Saved, body),
-        40 => ledgers::read(Source::Saved, body),
-        41 => ledgers::read(Source::Sized, body),
-        42 => conversions::to_two(body),
-        43 => conversions::to_one(body),
+        35 => control::reply(rt, body),
+        36 => control::host_ports(rt, body),
+        37 => ledgers::read(rt, Source::Ranges, body),
+        38 => ledgers::write(rt, Form::Ranges, body),
+        39 => ledgers::write(rt, Form::Saved, body),
+        40 => ledgers::read(rt, Source::Saved, body),
+        41 => ledgers::read(rt, Source::Sized, body),
+        42 => conversions::to_two(rt, body),
+        43 => conversions::to_one(rt, body),
         _ => false,
     }
 }
 
 fn by_numbers(
+    rt: &impl Print,
     s: Session,
     kind: u64,
     a: u64,
@@ -40,16 +41,17 @@ fn by_numbers(
     doubtful: &mut [u64],
 ) -> Turn {
     match kind {
-        16 => calls::start(s, a, b, b, file, claimed, doubtful),
-        19 => lent::poke(s, a, b, claimed, doubtful),
-        20 => lent::lend(s, a, b, file, claimed, doubtful),
-        24 => lent::poke_doubtful(s, a, b, claimed, doubtful),
-        _ => lent::show_file(s, a, b, file),
+        16 => calls::start(rt, s, a, b, b, file, claimed, doubtful),
+        19 => lent::poke(rt, s, a, b, claimed, doubtful),
+        20 => lent::lend(rt, s, a, b, file, claimed, doubtful),
+        24 => lent::poke_doubtful(rt, s, a, b, claimed, doubtful),
+        _ => lent::show_file(rt, s, a, b, file),
     }
 }
 
 // Kinds whose body is two numbers.
 fn two_numbers(
+    rt: &impl Print,
     s: Session,
     kind: u64,
     body: &[u8],
@@ -62,11 +64,12 @@ fn two_numbers(
     }
     let a = little::read(body);
     let b = little::read(&body[8..]);
-    by_numbers(s, kind, a, b, file, claimed, doubtful)
+    by_numbers(rt, s, kind, a, b, file, claimed, doubtful)
 }
 
 // Kind 23, whose body is three numbers.
 fn start_apart(
+    rt: &impl Print,
     s: Session,
     body: &[u8],
     file: &mut [u8],
@@ -79,10 +82,11 @@ fn start_apart(
     let length = little::read(body);
     let c = little::read(&body[8..]);
     let d = little::read(&body[16..]);
-    calls::start(s, length, c, d, file, claimed, doubtful)
+    calls::start(rt, s, length, c, d, file, claimed, doubtful)
 }
 
 pub fn serve(
+    rt: &impl Print,
     s: Session,
     kind: u64,
     body: &[u8],
@@ -92,23 +96,23 @@ pub fn serve(
     source: &mut [u8],
 ) -> Turn {
     match kind {
-        16 | 19 | 20 | 21 | 24 => two_numbers(s, kind, body, file, claimed, doubtful),
-        17 => calls::receive(s, body, file, claimed, doubtful),
-        18 => lent::fill_file(s, body, file),
-        22 => lent::show_claimed(s, body, claimed),
-        23 => start_apart(s, body, file, claimed, doubtful),
-        25 => lent::lend_doubtful(s, body, claimed, doubtful),
-        26 => lent::show_doubtful(s, body, doubtful),
-        48 => sending::begin(s, body, source),
-        49 => sending::next(s, body, source),
-        50 => sending::lend(s, body, source),
-        51 => sending::harm(s, body),
-        56 => consoles::begin(s, body),
-        57 => consoles::line(s, body),
-        58 => consoles::end(s, body),
+        16 | 19 | 20 | 21 | 24 => two_numbers(rt, s, kind, body, file, claimed, doubtful),
+        17 => calls::receive(rt, s, body, file, claimed, doubtful),
+        18 => lent::fill_file(rt, s, body, file),
+        22 => lent::show_claimed(rt, s, body, claimed),
+        23 => start_apart(rt, s, body, file, claimed, doubtful),
+        25 => lent::lend_doubtful(rt, s, body, claimed, doubtful),
+        26 => lent::show_doubtful(rt, s, body, doubtful),
+        48 => sending::begin(rt, s, body, source),
+        49 => sending::next(rt, s, body, source),
+        50 => sending::lend(rt, s, body, source),
+        51 => sending::harm(rt, s, body),
+        56 => consoles::begin(rt, s, body),
+        57 => consoles::line(rt, s, body),
+        58 => consoles::end(rt, s, body),
         _ => Turn {
             session: s,
-            goes_on: read_or_write(kind, body),
+            goes_on: read_or_write(rt, kind, body),
         },
     }
 }

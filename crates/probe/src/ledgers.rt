@@ -32,39 +32,39 @@ fn entry_space() -> [u64; 8200]
 
 // ---- reading
 
-fn print_loaded(text: &[u8], answer: Loaded) {
+fn print_loaded(rt: &impl Print, text: &[u8], answer: Loaded) {
     match answer {
-        Loaded::Done => print::word(text),
-        Loaded::Refused(k) => print::refused(k),
+        Loaded::Done => print::word(rt, text),
+        Loaded::Refused(k) => print::refused(rt, k),
     }
 }
 
-fn print_length(f: u64) {
-    print::word(b"LOADED2");
-    print::next(f);
+fn print_length(rt: &impl Print, f: u64) {
+    print::word(rt, b"LOADED2");
+    print::next(rt, f);
 }
 
-fn print_loaded_for(answer: LoadedFor) {
+fn print_loaded_for(rt: &impl Print, answer: LoadedFor) {
     match answer {
-        LoadedFor::FileLength(f) => print_length(f),
-        LoadedFor::Refused(k) => print::refused(k),
+        LoadedFor::FileLength(f) => print_length(rt, f),
+        LoadedFor::Refused(k) => print::refused(rt, k),
     }
 }
 
-fn load(source: Source, bytes: &[u8], ledger: &mut [u64]) {
+fn load(rt: &impl Print, source: Source, bytes: &[u8], ledger: &mut [u64]) {
     match source {
-        Source::Ranges => print_loaded(b"RANGES", ranges::read(bytes, ledger)),
-        Source::Saved => print_loaded(b"LOADED", saved::read(bytes, ledger)),
-        Source::Sized => print_loaded_for(saved::read_sized(bytes, ledger)),
+        Source::Ranges => print_loaded(rt, b"RANGES", ranges::read(bytes, ledger)),
+        Source::Saved => print_loaded(rt, b"LOADED", saved::read(bytes, ledger)),
+        Source::Sized => print_loaded_for(rt, saved::read_sized(bytes, ledger)),
     }
 }
 
-fn read_into(source: Source, bytes: &[u8], ledger: &mut [u64]) {
-    load(source, bytes, ledger);
-    print::last_used(ledger);
+fn read_into(rt: &impl Print, source: Source, bytes: &[u8], ledger: &mut [u64]) {
+    load(rt, source, bytes, ledger);
+    print::last_used(rt, ledger);
 }
 
-pub fn read(source: Source, body: &[u8]) -> bool {
+pub fn read(rt: &impl Print, source: Source, body: &[u8]) -> bool {
     if body.len() < 2 {
         return false;
     }
@@ -74,7 +74,7 @@ pub fn read(source: Source, body: &[u8]) -> bool {
     if lent < asked as usize {
         return false;
     }
-    read_into(source, &body[2..], &mut space[..lent]);
+    read_into(rt, source, &body[2..], &mut space[..lent]);
     true
 }
 
@@ -87,34 +87,34 @@ fn store(form: Form, ledger: &[u64], out: &mut [u8]) -> Written {
     }
 }
 
-fn print_written(form: Form, n: usize) {
+fn print_written(rt: &impl Print, form: Form, n: usize) {
     match form {
-        Form::Ranges => print::counted(b"TEXT ", n),
-        Form::Saved => print::counted(b"SAVED ", n),
+        Form::Ranges => print::counted(rt, b"TEXT ", n),
+        Form::Saved => print::counted(rt, b"SAVED ", n),
     }
 }
 
-fn write_into(form: Form, ledger: &[u64], out: &mut [u8]) {
+fn write_into(rt: &impl Print, form: Form, ledger: &[u64], out: &mut [u8]) {
     let answer = store(form, ledger, out);
     match answer {
-        Written::Bytes(n) => print_written(form, n),
-        Written::Refused(k) => print::refused(k),
+        Written::Bytes(n) => print_written(rt, form, n),
+        Written::Refused(k) => print::refused(rt, k),
     }
-    print::last_bytes(out);
+    print::last_bytes(rt, out);
 }
 
-fn write_lent(form: Form, ledger: &[u64], lent: u16) {
+fn write_lent(rt: &impl Print, form: Form, ledger: &[u64], lent: u16) {
     let mut space = fill::byte_space();
     let n = part::of_bytes(lent as u64, &space);
-    write_into(form, ledger, &mut space[..n]);
+    write_into(rt, form, ledger, &mut space[..n]);
 }
 
-fn write_decoded(form: Form, bytes: &[u8], ledger: &mut [u64], lent: u16) {
+fn write_decoded(rt: &impl Print, form: Form, bytes: &[u8], ledger: &mut [u64], lent: u16) {
     entries::read(bytes, 0, ledger);
-    write_lent(form, ledger, lent);
+    write_lent(rt, form, ledger, lent);
 }
 
-fn write_entries(form: Form, bytes: &[u8], lent: u16) -> bool {
+fn write_entries(rt: &impl Print, form: Form, bytes: &[u8], lent: u16) -> bool {
     let count = bytes.len() / 8;
     if bytes.len() % 8 != 0 {
         return false;
@@ -124,13 +124,13 @@ fn write_entries(form: Form, bytes: &[u8], lent: u16) -> bool {
     if n < count {
         return false;
     }
-    write_decoded(form, bytes, &mut space[..n], lent);
+    write_decoded(rt, form, bytes, &mut space[..n], lent);
     true
 }
 
-pub fn write(form: Form, body: &[u8]) -> bool {
+pub fn write(rt: &impl Print, form: Form, body: &[u8]) -> bool {
     if body.len() < 2 {
         return false;
     }
-    write_entries(form, &body[2..], frame::two(body[0], body[1]))
+    write_entries(rt, form, &body[2..], frame::two(body[0], body[1]))
 }

@@ -1,5 +1,5 @@
 // The lesser of a length and of what there is, so that a part of that length needs no precondition.
-ghost use Rattle.io.specs.Counts.{IsPrefixLen};
+ghost use Rattle.std.specs.Counts.{IsPrefixLen};
 
 pub fn of_bytes(n: u64, bytes: &[u8]) -> usize
     ensures { IsPrefixLen result bytes.now }

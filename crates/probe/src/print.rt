@@ -1,98 +1,97 @@
-// The words of a line, on standard output.
+// The words of a line, on standard output. A write that fails is passed over, and the next one tried.
 use crate::part;
-use libc::STDOUT_FILENO;
 
-pub fn word(text: &[u8]) {
-    io::write_all(STDOUT_FILENO, text);
+pub fn word(rt: &impl Print, text: &[u8]) {
+    let _ = rt.write_all(text);
 }
 
-pub fn number(n: u64) {
-    io::print_decimal(STDOUT_FILENO, n);
+pub fn number(rt: &impl Print, n: u64) {
+    let _ = print!(rt; "{n}");
 }
 
-pub fn byte(b: u8) {
-    number(b as u64);
+pub fn byte(rt: &impl Print, b: u8) {
+    number(rt, b as u64);
 }
 
 // A word and the count that belongs to it.
-pub fn counted(text: &[u8], n: usize) {
-    word(text);
-    number(n as u64);
+pub fn counted(rt: &impl Print, text: &[u8], n: usize) {
+    word(rt, text);
+    number(rt, n as u64);
 }
 
 // One number more.
-pub fn next(n: u64) {
-    word(b" ");
-    number(n);
+pub fn next(rt: &impl Print, n: u64) {
+    word(rt, b" ");
+    number(rt, n);
 }
 
-pub fn refused(k: u8) {
-    word(b"REFUSED ");
-    byte(k);
+pub fn refused(rt: &impl Print, k: u8) {
+    word(rt, b"REFUSED ");
+    byte(rt, k);
 }
 
-pub fn end() {
-    word(b"\n");
+pub fn end(rt: &impl Print) {
+    word(rt, b"\n");
 }
 
 // The line of a request that is malformed.
-pub fn record(k: u64) {
-    word(b"RECORD ");
-    number(k);
-    end();
+pub fn record(rt: &impl Print, k: u64) {
+    word(rt, b"RECORD ");
+    number(rt, k);
+    end(rt);
 }
 
 // ---- a run of bytes or of numbers, as the last word of a line
 
-fn hex(b: u8) {
-    io::print_hex(STDOUT_FILENO, b as u64, 2);
+fn hex(rt: &impl Print, b: u8) {
+    let _ = print!(rt; "{b:02x}");
 }
 
-fn listed(n: u64, i: usize) {
+fn listed(rt: &impl Print, n: u64, i: usize) {
     if 0 < i {
-        word(b",");
+        word(rt, b",");
     }
-    number(n);
+    number(rt, n);
 }
 
-fn element(bytes: &[u8], numbers: &[u64], i: usize) {
+fn element(rt: &impl Print, bytes: &[u8], numbers: &[u64], i: usize) {
     if i < bytes.len() {
-        hex(bytes[i]);
+        hex(rt, bytes[i]);
         return;
     }
     if i < numbers.len() {
-        listed(numbers[i], i);
+        listed(rt, numbers[i], i);
     }
 }
 
-fn elements(bytes: &[u8], numbers: &[u64], count: usize) {
+fn elements(rt: &impl Print, bytes: &[u8], numbers: &[u64], count: usize) {
     let mut i = 0;
     while i < count {
-        element(bytes, numbers, i);
+        element(rt, bytes, numbers, i);
         i += 1;
     }
 }
 
 // One of the two is empty, and the other has that count.
-fn last(bytes: &[u8], numbers: &[u64], count: usize) {
-    word(b" ");
+fn last(rt: &impl Print, bytes: &[u8], numbers: &[u64], count: usize) {
+    word(rt, b" ");
     if count == 0 {
-        word(b"-");
+        word(rt, b"-");
     }
-    elements(bytes, numbers, count);
-    end();
+    elements(rt, bytes, numbers, count);
+    end(rt);
 }
 
-pub fn last_bytes(run: &[u8]) {
-    last(run, &[0; 0], run.len());
+pub fn last_bytes(rt: &impl Print, run: &[u8]) {
+    last(rt, run, &[0; 0], run.len());
 }
 
-pub fn last_numbers(run: &[u64]) {
-    last(b"", run, run.len());
+pub fn last_numbers(rt: &impl Print, run: &[u64]) {
+    last(rt, b"", run, run.len());
 }
 
 // Up to the last entry that is not 0.
-pub fn last_used(entries: &[u64]) {
+pub fn last_used(rt: &impl Print, entries: &[u64]) {
     let n = part::used(entries);
-    last_numbers(&entries[..n]);
+    last_numbers(rt, &entries[..n]);
 }

@@ -5,25 +5,25 @@ use answers::written::Written;
 use receiver::receive::Receiver;
 use screen::line;
 
-fn show(receiver: Receiver, claimed: &[u64], doubtful: &[u64]) {
+fn show(rt: &impl Print, receiver: Receiver, claimed: &[u64], doubtful: &[u64]) {
     let mut out = [fill::BYTE; 128];
     let answer = line::write(receiver, claimed, doubtful, &mut out);
     match answer {
         Written::Bytes(n) => {
             let k = part::of_bytes(n as u64, &out);
-            print::word(&out[..k]);
+            print::word(rt, &out[..k]);
         }
         Written::Refused(k) => {
-            print::refused(k);
-            print::end();
+            print::refused(rt, k);
+            print::end(rt);
         }
     }
 }
 
 // By as much of the ledgers as is lent at present.
-pub fn show_lent(s: Session, claimed: &[u64], doubtful: &[u64]) {
+pub fn show_lent(rt: &impl Print, s: Session, claimed: &[u64], doubtful: &[u64]) {
     let receiver = s.receiver;
     let c = part::of_entries(s.claimed as u64, claimed);
     let d = part::of_entries(s.doubtful as u64, doubtful);
-    show(receiver, &claimed[..c], &doubtful[..d]);
+    show(rt, receiver, &claimed[..c], &doubtful[..d]);
 }

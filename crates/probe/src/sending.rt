@@ -18,16 +18,16 @@ fn keep(bytes: &[u8], source: &mut [u8]) -> usize {
 
 // ---- begin
 
-fn print_begun(refused: u8) {
+fn print_begun(rt: &impl Print, refused: u8) {
     if refused == 0 {
-        print::word(b"BEGUN\n");
+        print::word(rt, b"BEGUN\n");
         return;
     }
-    print::refused(refused);
-    print::end();
+    print::refused(rt, refused);
+    print::end(rt);
 }
 
-pub fn begin(s: Session, body: &[u8], source: &mut [u8]) -> Turn {
+pub fn begin(rt: &impl Print, s: Session, body: &[u8], source: &mut [u8]) -> Turn {
     if body.len() < 16 {
         return session::stop(s);
     }
@@ -36,7 +36,7 @@ pub fn begin(s: Session, body: &[u8], source: &mut [u8]) -> Turn {
     let n = keep(&body[16..], source);
     let begun = begin::begin(n as u64, count, size);
     let sender = begun.sender;
-    print_begun(begun.refused);
+    print_begun(rt, begun.refused);
     session::go_on(session::sending(s, sender, n))
 }
 
@@ -50,6 +50,7 @@ fn byte_space() -> [u8; 70000]
 }
 
 fn next_into(
+    rt: &impl Print,
     sender: Sender,
     channel: u64,
     count: u64,
@@ -61,14 +62,22 @@ fn next_into(
     let after = sent.sender;
     let answer = sent.answer;
     match answer {
-        Written::Bytes(n) => print::counted(b"BLOCK ", n),
-        Written::Refused(k) => print::refused(k),
+        Written::Bytes(n) => print::counted(rt, b"BLOCK ", n),
+        Written::Refused(k) => print::refused(rt, k),
     }
-    print::last_bytes(out);
+    print::last_bytes(rt, out);
     after
 }
 
-fn next_lent(s: Session, channel: u8, count: u64, size: u64, asked: u64, source: &[u8]) -> Turn {
+fn next_lent(
+    rt: &impl Print,
+    s: Session,
+    channel: u8,
+    count: u64,
+    size: u64,
+    asked: u64,
+    source: &[u8],
+) -> Turn {
     let mut space = byte_space();
     let lent = part::of_bytes(asked, &space);
     if (lent as u64) < asked {
@@ -77,6 +86,7 @@ fn next_lent(s: Session, channel: u8, count: u64, size: u64, asked: u64, source:
     let sender = s.sender;
     let n = part::of_bytes(s.source as u64, source);
     let after = next_into(
+        rt,
         sender,
         channel as u64,
         count,
@@ -87,39 +97,39 @@ fn next_lent(s: Session, channel: u8, count: u64, size: u64, asked: u64, source:
     session::go_on(session::sending(s, after, n))
 }
 
-pub fn next(s: Session, body: &[u8], source: &[u8]) -> Turn {
+pub fn next(rt: &impl Print, s: Session, body: &[u8], source: &[u8]) -> Turn {
     if body.len() != 21 {
         return session::stop(s);
     }
     let count = little::read(&body[1..]);
     let size = little::read(&body[9..]);
     let asked = little::read(&body[17..]);
-    next_lent(s, body[0], count, size, asked, source)
+    next_lent(rt, s, body[0], count, size, asked, source)
 }
 
 // ---- what a call is lent, and the sender, changed
 
-pub fn lend(s: Session, body: &[u8], source: &mut [u8]) -> Turn {
+pub fn lend(rt: &impl Print, s: Session, body: &[u8], source: &mut [u8]) -> Turn {
     let sender = s.sender;
     let n = keep(body, source);
-    print::counted(b"LENT ", n);
-    print::end();
+    print::counted(rt, b"LENT ", n);
+    print::end(rt);
     session::go_on(session::sending(s, sender, n))
 }
 
-fn harm_given(s: Session, channel: u8, number: u64) -> Turn {
+fn harm_given(rt: &impl Print, s: Session, channel: u8, number: u64) -> Turn {
     if CHANNELS <= channel as usize {
         return session::stop(s);
     }
     let mut sender = s.sender;
     sender.given[channel as usize] = number;
-    print::word(b"HARMED\n");
+    print::word(rt, b"HARMED\n");
     session::go_on(session::sending(s, sender, s.source))
 }
 
-pub fn harm(s: Session, body: &[u8]) -> Turn {
+pub fn harm(rt: &impl Print, s: Session, body: &[u8]) -> Turn {
     if body.len() != 9 {
         return session::stop(s);
     }
-    harm_given(s, body[0], little::read(&body[1..]))
+    harm_given(rt, s, body[0], little::read(&body[1..]))
 }

@@ -1,11 +1,13 @@
 // Replays a recording (document 02, Item 4): chunks of it from standard input, the printed lines to standard output.
 #![tactic(auto)]
+
+ghost use Rattle.std.specs.Counts.{IsPrefixLen};
 ghost use Rattle.std.specs.Prelude.{◌≡◌, length};
 
 use answers::written::Written;
-use libc::{STDIN_FILENO, STDOUT_FILENO};
 use recordings::session::Session;
 use recordings::{feed, finish, session};
+use std::io::Read;
 
 // More reads than any night has; a proved loop has to end.
 const READS: u64 = 18446744073709551615;
@@ -19,19 +21,31 @@ struct Turn {
 }
 
 // Whether all of it could be written.
-fn print(answer: Written, out: &[u8]) -> bool {
+fn print(rt: &impl Print, answer: Written, out: &[u8]) -> bool {
     match answer {
         Written::Bytes(n) => {
             if out.len() < n {
                 return false;
             }
-            io::write_all(STDOUT_FILENO, &out[..n])
+            rt.write_all(&out[..n]).is_ok()
         }
         Written::Refused(_) => false,
     }
 }
 
+// What one read puts at the front of the chunk: nothing at the end of the input, and nothing where the read fails.
+fn read_some(input: &mut impl Read, chunk: &mut [u8]) -> usize
+    ensures { IsPrefixLen result chunk.new }
+{
+    match input.read(chunk) {
+        Ok(n) => n,
+        Err(_) => 0,
+    }
+}
+
 fn one_chunk(
+    rt: &impl Print,
+    input: &mut impl Read,
     s: Session,
     chunk: &mut [u8],
     held: &mut [u8; 16391],
@@ -40,8 +54,7 @@ fn one_chunk(
     doubtful: &mut [u64; 512],
     out: &mut [u8],
 ) -> Turn {
-    let got = libc::read(STDIN_FILENO, chunk);
-    let n = io::count(got, chunk);
+    let n = read_some(input, chunk);
     if n == 0 {
         return Turn {
             session: s,
@@ -52,7 +65,7 @@ fn one_chunk(
     let fed = feed::feed(s, &chunk[..n], held, file, claimed, doubtful, out);
     let next = fed.session;
     let answer = fed.answer;
-    let printed = print(answer, out);
+    let printed = print(rt, answer, out);
     Turn {
         session: next,
         goes_on: printed && !next.stopped,
@@ -61,6 +74,8 @@ fn one_chunk(
 }
 
 fn run(
+    rt: &impl Print,
+    input: &mut impl Read,
     chunk: &mut [u8],
     held: &mut [u8; 16391],
     file: &mut [u8; 32768],
@@ -71,7 +86,7 @@ fn run(
     let mut s = session::begin();
     let mut reads: u64 = 0;
     while reads < READS {
-        let turn = one_chunk(s, chunk, held, file, claimed, doubtful, out);
+        let turn = one_chunk(rt, input, s, chunk, held, file, claimed, doubtful, out);
         if !turn.goes_on {
             return turn;
         }
@@ -99,7 +114,8 @@ fn line_space() -> [u8; 1048768]
     [0; 1048768]
 }
 
-fn main() {
+fn main(rt: HostRuntime) {
+    let mut input = rt.stdin();
     let mut chunk = chunk_space();
     let mut held = [0u8; 16391];
     let mut file = [0u8; 32768];
@@ -107,6 +123,8 @@ fn main() {
     let mut doubtful = [0u64; 512];
     let mut out = line_space();
     let last = run(
+        &rt,
+        &mut input,
         &mut chunk,
         &mut held,
         &mut file,
@@ -116,6 +134,6 @@ fn main() {
     );
     if last.printed {
         let s = last.session;
-        print(finish::finish(s, &mut out), &out);
+        print(&rt, finish::finish(s, &mut out), &out);
     }
 }
