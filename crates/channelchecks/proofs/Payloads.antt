@@ -1,12 +1,12 @@
 -- The payloads as two lists of numbers: gathered one by one, and what comparing them says of the channels.
-use Prim.Native.Nat.{ℕ, suc, ◌+◌, ◌≤◌, ◌<◌}
+use Prim.Native.Nat.{ℕ, suc, ◌+◌, ◌<◌}
 use mathlib.Core.Path.{◌≡◌, refl}
 use mathlib.Core.Bool.{Bool, true, false, cond, ◌&&◌, ◌||◌}
 use mathlib.Core.List.{List, [], ◌∷◌, ◌++◌}
 use native.Mathlib.Omega.{arith}
 use native.Mathlib.Numerals.{add-one}
 use lib.Dec.{eqb}
-use lib.ListN.{length, get_or, set, take, drop, drop_of_length-le}
+use lib.ListN.{length, get_or, set, take, drop}
 use lib.Seq.{drop-cons, take-set-le, take-suc-set, append_snoc}
 use Rattle.rangechecks.specs.Ranges.{disjoint, disjoint_from, all_disjoint}
 use Rattle.transfer.specs.declared.state.Channel.{Channel}

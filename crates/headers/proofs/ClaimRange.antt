@@ -2,12 +2,9 @@
 use Prim.Native.Nat.{ℕ, ◌*◌, ◌<◌}
 use mathlib.Core.Path.{◌≡◌, refl, sym, ◌∙◌}
 use mathlib.Core.Bool.{Bool, true, false, cond, ◌&&◌, ◌||◌, or-false, and-eq-true_iff}
-use mathlib.Core.Logic.{inl, inr}
-use mathlib.Core.List.{List, [], ◌∷◌}
+use mathlib.Core.List.{List}
 use native.Mathlib.Omega.{arith}
 use borrow.Author.Tests.{le-ltb, eqb-true}
-use denote.Enum.Declared.{tag_of}
-use types.Run.{OneOf}
 use lib.Dec.{eqb}
 use lib.ListN.{length}
 use Rattle.ledger.specs.Pairs.{Pairs, size, join, overlaps, all_inside}
@@ -17,7 +14,6 @@ use Rattle.claims.specs.declared.claim.ClaimCheck.{ClaimCheck}
 use Rattle.claims.specs.declared.claim.ClaimCheck.TheVariants.{Overlaps, Full, Free}
 use Rattle.claims.specs.declared.claim.Slot.{Slot}
 use Rattle.claims.specs.Claim.{judged, claim_number, JudgeResult, PutResult}
-use Rattle.claims.specs.contracts.claim.ClaimCheck.{the_type}
 use Rattle.claims.proofs.ClaimLaws.{claim-laws}
 use Rattle.transfer.specs.Header.{lacks_pairs, claim_fault}
 use Rattle.transfer.specs.Fit.{doubtful_fits}

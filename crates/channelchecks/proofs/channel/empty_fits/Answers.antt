@@ -1,6 +1,5 @@
 -- `channel::empty_fits`: a header of no bytes.
 use mathlib.Core.Path.{◌∙◌}
-use borrow.Author.Rules.{rules}
 use borrow.Author.Tests.{ne_eqb}
 use Rattle.transfer.specs.Fit.{empty_fits, header_fits}
 use Rattle.channelchecks.proofs.channel.empty_fits.Goals as goal

@@ -1,10 +1,6 @@
 -- `held::zero_from`: what is gathered, and the bytes that are left, decide.
-use Prim.Native.Nat.{◌-◌}
-use mathlib.Core.Path.{◌≡◌, refl}
-use mathlib.Core.Bool.{◌&&◌}
 use native.Mathlib.Omega.{arith}
-use lib.Dec.{eqb}
-use lib.ListN.{length, drop}
+use lib.ListN.{drop}
 use Rattle.ledger.specs.Ledger.{all_zero}
 use Rattle.ledger.proofs.Zeros.{gathers, gathered}
 use Rattle.channelchecks.proofs.held.zero_from.Goals as goal

@@ -1,12 +1,10 @@
 -- `held::zero_from`: what is gathered, and the bytes that are left, decide.
 use Prim.Native.Nat.{◌-◌}
-use mathlib.Core.Path.{◌≡◌, refl}
+use mathlib.Core.Path.{◌≡◌}
 use mathlib.Core.Bool.{◌&&◌}
-use native.Mathlib.Omega.{arith}
 use lib.Dec.{eqb}
 use lib.ListN.{length, drop}
 use Rattle.ledger.specs.Ledger.{all_zero}
-use Rattle.ledger.proofs.Zeros.{gathers, gathered}
 use Rattle.channelchecks.proofs.held.zero_from.Given as goal
 
 abbrev pub invariant-loop-i : goal.invariant-loop-i

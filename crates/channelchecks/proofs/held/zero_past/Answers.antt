@@ -1,6 +1,5 @@
 -- `held::zero_past`.
 use mathlib.Core.Path.{sym}
-use borrow.Author.Rules.{rules}
 use Rattle.ledger.proofs.Zeros.{zeros-drop}
 use Rattle.channelchecks.proofs.held.zero_past.Goals as goal
 

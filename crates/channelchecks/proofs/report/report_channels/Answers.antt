@@ -1,7 +1,6 @@
 -- `survey::report_channels`: the ledger's rule comes first.
 use mathlib.Core.Path.{◌≡◌, sym, ◌∙◌}
 use mathlib.Core.Bool.{true}
-use borrow.Author.Rules.{rules}
 use borrow.Author.Tests.{not-true, not-false}
 use Rattle.ledger.specs.Pairs.{ends_at_most}
 use Rattle.ledger.specs.Ledger.{obeys, pairs_of}

@@ -1,8 +1,5 @@
 -- `totals::add_channel`: a test of the channel's state.
-use native.Mathlib.Omega.{arith}
-use borrow.Author.Rules.{rules}
 use borrow.Author.Tests.{eq-eqb, ne_eqb}
-use Rattle.counts.proofs.Sum.{ended-le}
 use Rattle.channelchecks.proofs.totals.add_channel.Goals as goal
 
 pub returns-then-k-eq0 : goal.returns-then-k-eq0

@@ -1,6 +1,5 @@
 -- `totals::check_channels`: the channels passed, and those that are left, are all.
-use Prim.Native.Nat.{◌-◌, ◌<◌}
-use mathlib.Core.Path.{◌≡◌, refl, sym, ◌∙◌}
+use mathlib.Core.Path.{◌≡◌, sym, ◌∙◌}
 use mathlib.Core.Bool.{Bool, true, false}
 use native.Mathlib.Omega.{arith}
 use borrow.Author.Rules.{rules}
@@ -11,7 +10,7 @@ use Rattle.transfer.specs.Channel.{channel_count, blank}
 use Rattle.transfer.specs.Fit.{channel_fits}
 use Rattle.transfer.proofs.FitChannels.{bytes_at}
 use Rattle.counts.proofs.Sum.{length-mapped}
-use Rattle.channelchecks.proofs.ChannelTotals.{Passed, passed_none, fails, passes, passed-all, passed-unfit}
+use Rattle.channelchecks.proofs.ChannelTotals.{passed_none, fails, passes, passed-all, passed-unfit}
 use Rattle.channelchecks.proofs.totals.check_channels.Goals as goal
 use Rattle.channelchecks.proofs.totals.check_channels.Goals.{After-channel_fits_at}
 

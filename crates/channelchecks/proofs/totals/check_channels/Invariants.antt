@@ -1,17 +1,10 @@
 -- `totals::check_channels`: the channels passed, and those that are left, are all.
-use Prim.Native.Nat.{◌-◌, ◌<◌}
-use mathlib.Core.Path.{◌≡◌, refl, sym, ◌∙◌}
-use mathlib.Core.Bool.{Bool, true, false}
-use native.Mathlib.Omega.{arith}
-use borrow.Author.Rules.{rules}
-use borrow.Author.Tests.{not-true, not-false}
-use lib.ListN.{length, get_or}
+use Prim.Native.Nat.{◌-◌}
+use mathlib.Core.Path.{◌≡◌}
+use lib.ListN.{length}
 use Rattle.ledger.specs.Ledger.{pairs_of}
-use Rattle.transfer.specs.Channel.{channel_count, blank}
-use Rattle.transfer.specs.Fit.{channel_fits}
-use Rattle.transfer.proofs.FitChannels.{bytes_at}
-use Rattle.counts.proofs.Sum.{length-mapped}
-use Rattle.channelchecks.proofs.ChannelTotals.{Passed, passed_none, fails, passes, passed-all, passed-unfit}
+use Rattle.transfer.specs.Channel.{channel_count}
+use Rattle.channelchecks.proofs.ChannelTotals.{Passed}
 use Rattle.channelchecks.proofs.totals.check_channels.Given as goal
 
 abbrev pub invariant-loop-c : goal.invariant-loop-c

@@ -2,7 +2,6 @@
 use Prim.Native.Nat.{ℕ}
 use mathlib.Core.Path.{◌≡◌, refl}
 use mathlib.Core.Bool.{Bool, true, false, not, cond}
-use borrow.Author.Rules.{rules}
 use lib.Dec.{eqb}
 use Rattle.channels.specs.OtherChannels.{others_of}
 use Rattle.channels.proofs.other_channels.counts_without.Goals as goal

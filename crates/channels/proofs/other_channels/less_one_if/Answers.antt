@@ -1,6 +1,4 @@
 -- `other_channels::less_one_if`.
-use native.Mathlib.Omega.{arith}
-use borrow.Author.Rules.{rules}
 use borrow.Author.Tests.{not-true, not-false}
 use Rattle.channels.proofs.other_channels.less_one_if.Goals as goal
 

@@ -1,7 +1,6 @@
 -- `fit::report`: the claimed ledger decides first, then the doubtful one.
 use mathlib.Core.Path.{◌≡◌, sym, ap, ◌∙◌}
 use mathlib.Core.Bool.{true}
-use borrow.Author.Rules.{rules}
 use borrow.Author.Tests.{not-true, not-false}
 use Rattle.transfer.specs.Fit.{claimed_fits, doubtful_fits, fits_without_file}
 use Rattle.channelchecks.specs.declared.report.FitReport.{FitReport}

@@ -1,6 +1,5 @@
 -- `fit::report_with_file`.
 use mathlib.Core.Path.{◌∙◌}
-use borrow.Author.Rules.{rules}
 use borrow.Author.Tests.{eq-eqb, ne_eqb}
 use Rattle.checks.specs.ReportOf.{report_with_file}
 use Rattle.checks.proofs.fit.report_with_file.Goals as goal

@@ -1,5 +1,4 @@
 -- `numbers::pairs_fit`.
-use borrow.Author.Rules.{rules}
 use borrow.Author.Tests.{le-leb, lt-leb}
 use Rattle.transfer.specs.Fit.{pair_limit}
 use Rattle.checks.proofs.numbers.pairs_fit.Goals as goal

@@ -1,6 +1,5 @@
 -- `claim::first_pair_after`.
 use native.Mathlib.Omega.{arith}
-use borrow.Author.Rules.{rules}
 use Rattle.claims.proofs.claim.first_pair_after.Goals as goal
 
 pub returns-then-past-at : goal.returns-then-past-at

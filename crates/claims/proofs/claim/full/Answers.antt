@@ -5,7 +5,6 @@ use native.Mathlib.Omega.{arith}
 use borrow.Author.Tests.{eq-eqb, ne_eqb}
 use Rattle.ledger.specs.Ledger.{capacity}
 use Rattle.claims.specs.Neighbours.{lacks_pair}
-use borrow.Author.Rules.{rules}
 use Rattle.claims.proofs.claim.full.Goals as goal
 
 pub returns-then-slot : goal.returns-then-slot

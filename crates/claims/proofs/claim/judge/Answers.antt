@@ -4,7 +4,6 @@ use mathlib.Core.Path.{sym, ◌∙◌}
 use Rattle.ledger.specs.Ledger.{capacity}
 use Rattle.claims.specs.Neighbours.{pair_at}
 use Rattle.claims.proofs.JudgedByPlace.{judged_is, slot_inside, free-slot}
-use borrow.Author.Rules.{rules}
 use Rattle.claims.proofs.claim.judge.Goals as goal
 
 pub returns : goal.returns

@@ -2,7 +2,6 @@
 use Prim.Native.Nat.{◌+◌, ◌-◌}
 use mathlib.Core.Path.{◌≡◌, sym, ap, ◌∙◌}
 use mathlib.Core.Bool.{cond}
-use borrow.Author.Rules.{rules}
 use Rattle.ledger.specs.Ledger.{capacity}
 use Rattle.claims.specs.Neighbours.{pair_at, judged_by}
 use Rattle.claims.specs.declared.claim.ClaimCheck.TheVariants.{Full, Free}

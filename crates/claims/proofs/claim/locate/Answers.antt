@@ -2,7 +2,6 @@
 use native.Mathlib.Omega.{arith}
 use Rattle.claims.specs.Claim.{slot_of}
 use Rattle.claims.proofs.JoinRoom.{at-past}
-use borrow.Author.Rules.{rules}
 use Rattle.claims.proofs.claim.locate.Goals as goal
 
 pub returns : goal.returns

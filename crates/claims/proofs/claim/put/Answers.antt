@@ -1,6 +1,5 @@
 -- `claim::put`.
 use native.Mathlib.Omega.{arith}
-use borrow.Author.Rules.{rules}
 use Rattle.claims.proofs.JoinRoom.{at-is, past_is}
 use Rattle.claims.proofs.Judged.{slot_is, slot-room, puts-outside}
 use Rattle.claims.proofs.claim.put.Goals as goal

@@ -1,6 +1,5 @@
 -- `claim::put_own`.
 use native.Mathlib.Omega.{arith}
-use borrow.Author.Rules.{rules}
 use Rattle.claims.proofs.claim.put_own.Goals as goal
 
 pub returns-then-used-ledger : goal.returns-then-used-ledger

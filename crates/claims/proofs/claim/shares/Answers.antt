@@ -4,7 +4,6 @@ use native.Mathlib.Omega.{arith}
 use borrow.Author.Tests.{lt-ltb, le-ltb}
 use lib.ListN.{get_or, get_or-eq_default}
 use Rattle.claims.specs.Neighbours.{shared_by}
-use borrow.Author.Rules.{rules}
 use Rattle.claims.proofs.claim.shares.Goals as goal
 
 pub returns-then-ledger-i : goal.returns-then-ledger-i

@@ -3,7 +3,6 @@ use mathlib.Core.Path.{◌≡◌, sym, ◌∙◌}
 use mathlib.Core.Bool.{true}
 use borrow.Author.Tests.{not-true, not-false}
 use Rattle.claims.specs.Neighbours.{starts_by, slot_by}
-use borrow.Author.Rules.{rules}
 use Rattle.claims.proofs.claim.slot_at.Goals as goal
 use Rattle.claims.proofs.claim.slot_at.Goals.{Else-not-pair_starts_by}
 

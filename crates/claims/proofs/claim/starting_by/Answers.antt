@@ -1,7 +1,6 @@
 -- `claim::starting_by`.
 use mathlib.Core.Path.{sym, ◌∙◌}
 use native.Mathlib.Omega.{arith}
-use borrow.Author.Rules.{rules}
 use Rattle.claims.specs.Neighbours.{starts_by}
 use Rattle.claims.proofs.JudgedByPlace.{starts-inside, starting-is}
 use Rattle.claims.proofs.claim.starting_by.Goals as goal

@@ -1,7 +1,6 @@
 -- `claim::widen`.
 use mathlib.Core.Path.{◌∙◌}
 use native.Mathlib.Omega.{arith}
-use borrow.Author.Rules.{rules}
 use lib.ListN.{length-set}
 use Rattle.claims.proofs.claim.widen.Goals as goal
 

@@ -1,8 +1,8 @@
 -- `shift::insert`: the entries from k to the end have moved up by two.
-use Prim.Native.Nat.{◌+◌, ◌-◌, ◌≤◌}
+use Prim.Native.Nat.{◌+◌, ◌-◌}
 use mathlib.Core.Path.{◌≡◌, refl, ap}
 use native.Mathlib.Omega.{arith}
-use lib.ListN.{length, length-set}
+use lib.ListN.{length-set}
 use Rattle.claims.proofs.ShiftLoops.{moved_up, up_none, up_at, up_more, up-filled}
 use Rattle.claims.proofs.shift.insert.Goals as goal
 

@@ -1,9 +1,9 @@
 -- `shift::move_down`: the entries from `from` up to k have been copied.
-use Prim.Native.Nat.{◌+◌, ◌-◌, ◌≤◌}
+use Prim.Native.Nat.{◌-◌}
 use mathlib.Core.Path.{◌≡◌, refl}
 use native.Mathlib.Omega.{arith}
-use lib.ListN.{length, drop, length-set}
-use lib.Seq.{paste, paste-zero}
+use lib.ListN.{drop, length-set}
+use lib.Seq.{paste-zero}
 use Rattle.claims.specs.Shift.{moved_down}
 use Rattle.claims.proofs.ShiftLoops.{down-more}
 use Rattle.claims.proofs.shift.move_down.Goals as goal

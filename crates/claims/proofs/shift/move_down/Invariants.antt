@@ -1,11 +1,8 @@
 -- `shift::move_down`: the entries from `from` up to k have been copied.
 use Prim.Native.Nat.{◌+◌, ◌-◌, ◌≤◌}
-use mathlib.Core.Path.{◌≡◌, refl}
-use native.Mathlib.Omega.{arith}
-use lib.ListN.{length, drop, length-set}
-use lib.Seq.{paste, paste-zero}
-use Rattle.claims.specs.Shift.{moved_down}
-use Rattle.claims.proofs.ShiftLoops.{down-more}
+use mathlib.Core.Path.{◌≡◌}
+use lib.ListN.{length, drop}
+use lib.Seq.{paste}
 use Rattle.claims.proofs.shift.move_down.Given as goal
 
 abbrev pub invariant-loop-k : goal.invariant-loop-k

@@ -1,6 +1,6 @@
 -- `line::argument`.
-use Rattle.std.proofs.Common.{◌≡◌, ◌≤◌, length, sym, arith}
-use Rattle.commands.specs.Line.{read_of, argument_of}
+use Rattle.std.proofs.Common.{◌≤◌, length, sym, arith}
+use Rattle.commands.specs.Line.{argument_of}
 use Rattle.commands.proofs.Lines.{reads-within}
 use Rattle.commands.proofs.line.argument.Goals as goal
 use Rattle.commands.proofs.line.argument.Goals.{In-Command}

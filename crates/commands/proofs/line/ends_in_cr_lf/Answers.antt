@@ -1,7 +1,6 @@
 -- `line::ends_in_cr_lf`.
 use Prim.Native.Nat.{◌-◌}
 use native.Mathlib.Omega.{arith}
-use borrow.Author.Rules.{rules}
 use borrow.Author.Tests.{lt-leb, le-leb, eq-eqb, ne_eqb}
 use lib.ListN.{length, get_or}
 use Rattle.commands.specs.Line.{ends_in_cr_lf}

@@ -1,11 +1,9 @@
 -- `line::is_verb`: the word is the verb where the rest is its rest.
-use Prim.Native.Nat.{◌-◌, ◌≤◌}
 use mathlib.Core.Path.{◌≡◌, refl, sym, ◌∙◌}
 use mathlib.Core.List.{[], map}
 use native.Mathlib.Omega.{arith}
-use borrow.Author.Rules.{rules}
-use lib.ListN.{length, get_or, drop, length-map, get_or-map}
-use Rattle.commands.specs.Line.{upper, verbs, equal_texts}
+use lib.ListN.{length, get_or, length-map, get_or-map}
+use Rattle.commands.specs.Line.{upper, verbs}
 use Rattle.commands.proofs.VerbTable.{equal-goes, equal-stops, equal-ends, equal-lengths, four-letters}
 use Rattle.commands.proofs.line.is_verb.Goals as goal
 use Rattle.commands.proofs.line.is_verb.Goals.{At-loop-k}

@@ -1,12 +1,9 @@
 -- `line::is_verb`: the word is the verb where the rest is its rest.
 use Prim.Native.Nat.{◌-◌, ◌≤◌}
-use mathlib.Core.Path.{◌≡◌, refl, sym, ◌∙◌}
+use mathlib.Core.Path.{◌≡◌}
 use mathlib.Core.List.{[], map}
-use native.Mathlib.Omega.{arith}
-use borrow.Author.Rules.{rules}
-use lib.ListN.{length, get_or, drop, length-map, get_or-map}
+use lib.ListN.{get_or, drop}
 use Rattle.commands.specs.Line.{upper, verbs, equal_texts}
-use Rattle.commands.proofs.VerbTable.{equal-goes, equal-stops, equal-ends, equal-lengths, four-letters}
 use Rattle.commands.proofs.line.is_verb.Given as goal
 
 abbrev pub invariant-loop-k : goal.invariant-loop-k

@@ -1,6 +1,5 @@
 -- `line::upper`.
 use native.Mathlib.Omega.{arith}
-use borrow.Author.Rules.{rules}
 use borrow.Author.Tests.{lt-leb, le-leb}
 use Rattle.commands.proofs.line.upper.Goals as goal
 

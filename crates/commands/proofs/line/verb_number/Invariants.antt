@@ -1,12 +1,9 @@
 -- `line::verb_number`: the search from v on finds what the whole search finds.
 use Prim.Native.Nat.{◌+◌, ◌-◌, ◌≤◌}
-use mathlib.Core.Path.{◌≡◌, refl, sym, ◌∙◌}
+use mathlib.Core.Path.{◌≡◌}
 use mathlib.Core.List.{map}
-use native.Mathlib.Omega.{arith}
-use borrow.Author.Rules.{rules}
 use lib.ListN.{drop}
 use Rattle.commands.specs.Line.{upper, verbs, verb_number_from, verb_number}
-use Rattle.commands.proofs.VerbTable.{number-from-found, number-from-next}
 use Rattle.commands.proofs.line.verb_number.Given as goal
 
 abbrev pub invariant-loop-v : goal.invariant-loop-v

@@ -1,9 +1,8 @@
 -- `copy::copy_chunks`: the bytes passed are in the part, and what is after them is as it was.
-use Prim.Native.Nat.{◌+◌, ◌-◌, ◌≤◌}
+use Prim.Native.Nat.{◌+◌, ◌-◌}
 use mathlib.Core.Path.{◌≡◌, refl, ap, ◌∙◌}
-use mathlib.Core.List.{◌++◌}
 use native.Mathlib.Omega.{arith}
-use lib.ListN.{length, take, drop, length-take, length-drop}
+use lib.ListN.{length, length-take, length-drop}
 use lib.Seq.{take-length}
 use Rattle.copies.proofs.CopiedBytes.{covers, more}
 use Rattle.copies.proofs.copy.copy_chunks.Goals as goal

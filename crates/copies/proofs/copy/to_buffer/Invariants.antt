@@ -1,11 +1,7 @@
 -- `copy::to_buffer`: the bytes passed are at the front of the array.
-use Prim.Native.Nat.{ℕ, ◌+◌, ◌-◌, ◌≤◌, ◌<◌}
-use mathlib.Core.Path.{◌≡◌, refl}
-use mathlib.Core.List.{List}
-use native.Mathlib.Omega.{arith}
-use native.Mathlib.Numerals.{add-one}
-use lib.ListN.{length, get_or, set, take, length-set, length-replicate}
-use lib.Seq.{take-suc, take-suc-set, take-length}
+use Prim.Native.Nat.{◌-◌, ◌≤◌}
+use mathlib.Core.Path.{◌≡◌}
+use lib.ListN.{length, take}
 use Rattle.copies.proofs.copy.to_buffer.Given as goal
 
 abbrev pub invariant-loop-i : goal.invariant-loop-i

@@ -1,12 +1,8 @@
 -- `count::ended`: the channels passed, and those after them, are all.
 use Prim.Native.Nat.{◌-◌, ◌≤◌}
-use mathlib.Core.Path.{◌≡◌}
-use native.Mathlib.Omega.{arith}
-use borrow.Author.Rules.{rules}
-use lib.ListN.{length, get_or}
-use Rattle.transfer.specs.Channel.{channel_count, blank}
-use Rattle.transfer.specs.Transfer.{one_if_ended, ended_of}
-use Rattle.counts.proofs.Sum.{length-mapped, ended-le, Summed, summed-none, summed-more, summed-all, all-ended}
+use Rattle.transfer.specs.Channel.{channel_count}
+use Rattle.transfer.specs.Transfer.{one_if_ended}
+use Rattle.counts.proofs.Sum.{Summed}
 use Rattle.counts.proofs.count.ended.Given as goal
 
 abbrev pub invariant-loop-c : goal.invariant-loop-c

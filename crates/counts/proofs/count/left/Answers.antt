@@ -1,9 +1,8 @@
 -- `count::left`: the channels passed, and those after them, are all.
-use Prim.Native.Nat.{ℕ, ◌-◌, ◌≤◌}
 use native.Mathlib.Omega.{arith}
 use borrow.Author.Rules.{rules}
 use Rattle.transfer.specs.Transfer.{left_of}
-use Rattle.counts.proofs.Sum.{length-mapped, Summed, summed-none, summed-more, summed-all}
+use Rattle.counts.proofs.Sum.{length-mapped, summed-none, summed-more, summed-all}
 use Rattle.counts.proofs.count.left.Goals as goal
 use Rattle.counts.proofs.count.left.Invariants.{largest}
 

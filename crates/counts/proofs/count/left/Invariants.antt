@@ -1,9 +1,6 @@
 -- `count::left`: the channels passed, and those after them, are all.
 use Prim.Native.Nat.{ℕ, ◌-◌, ◌≤◌}
-use native.Mathlib.Omega.{arith}
-use borrow.Author.Rules.{rules}
-use Rattle.transfer.specs.Transfer.{left_of}
-use Rattle.counts.proofs.Sum.{length-mapped, Summed, summed-none, summed-more, summed-all}
+use Rattle.counts.proofs.Sum.{Summed}
 use Rattle.counts.proofs.count.left.Given as goal
 
 abbrev pub largest : ℕ

@@ -1,7 +1,6 @@
 -- `descriptor::closes_early`.
 use mathlib.Core.Path.{sym, ap, ◌∙◌}
 use mathlib.Core.Bool.{not}
-use borrow.Author.Rules.{rules}
 use Rattle.eblock.proofs.descriptor.closes_early.Goals as goal
 
 pub returns-then-has : goal.returns-then-has

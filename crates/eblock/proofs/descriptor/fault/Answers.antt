@@ -1,7 +1,6 @@
 -- `descriptor::fault`: each test on the way is one of the rule's.
 use mathlib.Core.Path.{◌≡◌, sym, ◌∙◌}
 use mathlib.Core.Bool.{false, cond}
-use borrow.Author.Rules.{rules}
 use Rattle.eblock.specs.Descriptor.{has, end_of_record, restart_marker, closes_early, fault_of}
 use Rattle.eblock.proofs.descriptor.fault.Goals as goal
 use Rattle.eblock.proofs.descriptor.fault.Goals.{After-suspects_count, Else-closes_early, Else-has, Else-has-2, Else-has-3, Else-has-4}

@@ -1,6 +1,5 @@
 -- `descriptor::suspects_count`.
 use mathlib.Core.Path.{sym, ◌∙◌}
-use borrow.Author.Rules.{rules}
 use Rattle.eblock.proofs.descriptor.suspects_count.Goals as goal
 
 pub returns-then-has : goal.returns-then-has

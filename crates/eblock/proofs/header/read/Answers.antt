@@ -3,7 +3,6 @@ use mathlib.Core.Path.{◌≡◌, sym, ap, ◌∙◌}
 use native.Mathlib.Omega.{arith}
 use lib.ListN.{drop}
 use lib.Seq.{take-take}
-use borrow.Author.Rules.{rules}
 use Rattle.octets.specs.Digits.{from_big_endian}
 use Rattle.eblock.specs.Header.{descriptor_of, second_of, third_of, refusal_of}
 use Rattle.eblock.specs.declared.header.Header.TheVariants.{Eodc}

@@ -3,7 +3,6 @@ use mathlib.Core.Path.{◌≡◌, sym, ◌∙◌}
 use mathlib.Core.Logic.{inl, inr}
 use mathlib.Core.Bool.{true}
 use native.Mathlib.Omega.{arith}
-use borrow.Author.Rules.{rules}
 use borrow.Author.Tests.{not-true, not-false}
 use Rattle.eblock.specs.Descriptor.{has, eodc, fault_of}
 use Rattle.eblock.proofs.HeaderAnswers.{refusal-fault, refusal-data, refusal-15, refusal-count}

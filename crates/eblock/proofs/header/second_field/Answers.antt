@@ -1,6 +1,5 @@
 -- `header::second_field`.
 use mathlib.Core.Path.{sym, ◌∙◌}
-use borrow.Author.Rules.{rules}
 use Rattle.eblock.specs.Header.{second_field}
 use Rattle.eblock.proofs.header.second_field.Goals as goal
 

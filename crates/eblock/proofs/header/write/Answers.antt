@@ -2,11 +2,10 @@
 use mathlib.Core.Path.{◌≡◌, sym, ◌∙◌}
 use native.Mathlib.Omega.{arith}
 use lib.ListN.{length, set, take, drop, length-set, length-take, length-drop}
-use borrow.Author.Rules.{rules}
 use borrow.Rule.Slice.PartMut.{put_mid}
 use Rattle.octets.specs.Digits.{to_big_endian}
 use Rattle.answers.proofs.WrittenBy.{refused, written}
-use Rattle.eblock.specs.Header.{header_length, header_bytes, second_field, write_refusal, write_of, write_after}
+use Rattle.eblock.specs.Header.{header_length, header_bytes, second_field, write_of, write_after}
 use Rattle.eblock.proofs.HeaderAnswers.{number-refused, number-55, number_0}
 use Rattle.eblock.proofs.HeaderFields.{length-bytes_of}
 use Rattle.eblock.proofs.HeaderStores.{placed}

@@ -1,14 +1,11 @@
 -- `apply::claim_or_fault`.
-use Prim.Native.Nat.{ℕ, ◌*◌}
+use Prim.Native.Nat.{ℕ}
 use mathlib.Core.Path.{◌≡◌, ap, ◌∙◌}
-use mathlib.Core.Bool.{Bool, true}
+use mathlib.Core.Bool.{Bool}
 use mathlib.Core.List.{List}
 use native.Mathlib.Omega.{arith}
 use borrow.Author.Rules.{rules}
-use lib.ListN.{length}
-use Rattle.ledger.specs.Ledger.{obeys}
 use Rattle.transfer.specs.declared.state.Transfer.{Transfer}
-use Rattle.transfer.specs.Fit.{doubtful_fits}
 use Rattle.channels.specs.ChannelState.{write_back}
 use Rattle.channels.proofs.WriteBack.{write-back-pairs, write-back-fault}
 use Rattle.channels.proofs.NextState.{leaves-fault}

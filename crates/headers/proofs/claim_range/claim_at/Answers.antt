@@ -1,7 +1,6 @@
 -- `claim_range::claim_at`.
 use mathlib.Core.Path.{◌≡◌}
 use mathlib.Core.Bool.{true, false}
-use borrow.Author.Rules.{rules}
 use Rattle.headers.proofs.ClaimRange.{claimed-alone}
 use Rattle.headers.proofs.claim_range.claim_at.Goals as goal
 

@@ -1,5 +1,4 @@
 -- `claim_range::claim_in_both`.
-use borrow.Author.Rules.{rules}
 use Rattle.headers.proofs.ClaimRange.{doubtful-refuses, claimed-in-both}
 use Rattle.headers.proofs.claim_range.claim_in_both.Goals as goal
 

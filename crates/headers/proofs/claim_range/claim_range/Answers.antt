@@ -1,6 +1,5 @@
 -- `claim_range::claim_range`.
 use mathlib.Core.Path.{◌∙◌}
-use borrow.Author.Rules.{rules}
 use Rattle.headers.proofs.ClaimRange.{answer_is, claimed-refuses}
 use Rattle.headers.proofs.claim_range.claim_range.Goals as goal
 

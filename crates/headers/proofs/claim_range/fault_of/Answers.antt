@@ -1,5 +1,4 @@
 -- `claim_range::fault_of`.
-use borrow.Author.Rules.{rules}
 use Rattle.claims.specs.Claim.{claim_number}
 use Rattle.headers.proofs.claim_range.fault_of.Goals as goal
 

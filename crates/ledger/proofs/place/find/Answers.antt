@@ -2,7 +2,7 @@
 use mathlib.Core.Path.{ap}
 use native.Mathlib.Omega.{arith}
 use Rattle.ledger.specs.Place.{still_open, none_open}
-use Rattle.ledger.proofs.PlaceSearch.{Sought, sought-first, sought-on, halves}
+use Rattle.ledger.proofs.PlaceSearch.{sought-first, sought-on, halves}
 use Rattle.ledger.proofs.place.find.Goals as goal
 
 pub loop-state-init : goal.loop-state-init

@@ -1,8 +1,6 @@
 -- `place::find`: the place lies from low up to high, and the looks made and those that do for the open pairs are within the bound.
-use mathlib.Core.Path.{ap}
-use native.Mathlib.Omega.{arith}
-use Rattle.ledger.specs.Place.{still_open, none_open}
-use Rattle.ledger.proofs.PlaceSearch.{Sought, sought-first, sought-on, halves}
+use Rattle.ledger.specs.Place.{still_open}
+use Rattle.ledger.proofs.PlaceSearch.{Sought}
 use Rattle.ledger.proofs.place.find.Given as goal
 
 abbrev pub invariant-loop-state : goal.invariant-loop-state

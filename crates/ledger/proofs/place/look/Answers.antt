@@ -1,6 +1,5 @@
 -- `place::look`.
 use mathlib.Core.Path.{sym, ◌∙◌}
-use borrow.Author.Rules.{rules}
 use Rattle.ledger.specs.Place.{looked}
 use Rattle.ledger.proofs.place.look.Goals as goal
 

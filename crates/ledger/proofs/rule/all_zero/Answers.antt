@@ -1,11 +1,6 @@
 -- `rule::all_zero`: what is gathered, and the entries that are left, decide.
-use Prim.Native.Nat.{◌-◌, ◌≤◌}
-use mathlib.Core.Path.{◌≡◌, refl}
-use mathlib.Core.Bool.{◌&&◌}
+use mathlib.Core.Path.{refl}
 use native.Mathlib.Omega.{arith}
-use borrow.Author.Rules.{rules}
-use lib.Dec.{eqb}
-use lib.ListN.{length, drop}
 use Rattle.ledger.specs.Ledger.{all_zero}
 use Rattle.ledger.proofs.Zeros.{gathers, gathers-run, gathered}
 use Rattle.ledger.proofs.rule.all_zero.Goals as goal

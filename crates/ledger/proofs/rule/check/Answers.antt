@@ -1,7 +1,6 @@
 -- `rule::check`.
 use mathlib.Core.Path.{sym, ◌∙◌}
 use mathlib.Core.Bool.{and-eq-true_iff}
-use borrow.Author.Rules.{rules}
 use Rattle.ledger.specs.Pairs.{ends_at_most}
 use Rattle.ledger.specs.Ledger.{obeys, pairs_of}
 use Rattle.ledger.proofs.rule.check.Goals as goal

@@ -1,9 +1,7 @@
 -- `rule::joined`: what is gathered, and the entries that are left, decide.
-use Prim.Native.Nat.{◌+◌, ◌-◌, ◌≤◌}
+use Prim.Native.Nat.{◌+◌}
 use mathlib.Core.Path.{◌≡◌, refl}
-use mathlib.Core.Bool.{◌&&◌}
 use native.Mathlib.Omega.{arith}
-use lib.Dec.{eqb}
 use lib.ListN.{drop}
 use Rattle.ledger.specs.Ledger.{all_zero}
 use Rattle.ledger.proofs.Zeros.{gathers}

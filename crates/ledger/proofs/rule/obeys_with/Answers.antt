@@ -3,13 +3,12 @@ use Prim.Native.Nat.{◌*◌, ◌-◌, ◌%◌, ◌≤◌}
 use mathlib.Core.Path.{◌≡◌, sym, ap, ◌∙◌}
 use mathlib.Core.Bool.{Bool, ◌&&◌, and-false}
 use native.Mathlib.Omega.{arith}
-use borrow.Author.Rules.{rules}
 use borrow.Author.Tests.{not-true, not-false}
 use lib.Dec.{leb, eqb}
 use lib.ListN.{length, get_or, take, drop, length-drop}
 use lib.Seq.{length-take-le, take_all}
 use Rattle.ledger.specs.Pairs.{ends_at_most}
-use Rattle.ledger.specs.Ledger.{all_zero, rises, obeys, pairs_of}
+use Rattle.ledger.specs.Ledger.{all_zero, obeys, pairs_of}
 use Rattle.ledger.proofs.RuleByUsed.{front_and_zeros, limit-by-last}
 use Rattle.ledger.proofs.rule.obeys_with.Goals as goal
 use Rattle.ledger.proofs.rule.obeys_with.Goals.{After-shared_slice_known-1}

@@ -1,11 +1,7 @@
 -- `rule::rises`: the entries passed rise, so that those that are left decide, run by run and then one by one.
-use Prim.Native.Nat.{◌-◌, ◌≤◌}
-use mathlib.Core.Path.{◌≡◌, refl, sym, ◌∙◌}
+use mathlib.Core.Path.{refl, sym, ◌∙◌}
 use native.Mathlib.Omega.{arith}
-use borrow.Author.Rules.{rules}
 use borrow.Author.Tests.{not-true, not-false}
-use lib.ListN.{length, drop}
-use Rattle.ledger.specs.Ledger.{rises}
 use Rattle.ledger.proofs.Rising.{rises-end, rises-on, rises-not}
 use Rattle.ledger.proofs.rule.rises.Goals as goal
 

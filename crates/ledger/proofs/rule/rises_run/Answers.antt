@@ -1,9 +1,7 @@
 -- `rule::rises_run`: the entries passed rise, so that those that are left decide.
-use Prim.Native.Nat.{◌+◌, ◌-◌, ◌≤◌}
+use Prim.Native.Nat.{◌+◌}
 use mathlib.Core.Path.{◌≡◌, refl, sym, ◌∙◌}
 use native.Mathlib.Omega.{arith}
-use lib.ListN.{drop}
-use Rattle.ledger.specs.Ledger.{rises}
 use Rattle.ledger.proofs.Rising.{rises-on, rises-not}
 use Rattle.ledger.proofs.rule.rises_run.Goals as goal
 

@@ -1,10 +1,8 @@
 -- `rule::rises_run`: the entries passed rise, so that those that are left decide.
 use Prim.Native.Nat.{◌+◌, ◌-◌, ◌≤◌}
-use mathlib.Core.Path.{◌≡◌, refl, sym, ◌∙◌}
-use native.Mathlib.Omega.{arith}
+use mathlib.Core.Path.{◌≡◌}
 use lib.ListN.{drop}
 use Rattle.ledger.specs.Ledger.{rises}
-use Rattle.ledger.proofs.Rising.{rises-on, rises-not}
 use Rattle.ledger.proofs.rule.rises_run.Given as goal
 
 abbrev pub invariant-loop-i : goal.invariant-loop-i

@@ -1,9 +1,8 @@
 -- `rule::total`: what is counted and what the pairs that are left hold is all, up to the largest number.
-use Prim.Native.Nat.{ℕ, ◌+◌, ◌-◌, ◌≤◌, min}
+use Prim.Native.Nat.{ℕ, ◌+◌, ◌-◌, min}
 use mathlib.Core.Path.{◌≡◌, ◌∙◌}
 use native.Mathlib.Omega.{arith}
-use borrow.Author.Rules.{rules}
-use lib.ListN.{length, get_or, drop}
+use lib.ListN.{get_or, drop}
 use Rattle.ledger.specs.Pairs.{total}
 use Rattle.ledger.specs.Ledger.{pairs_of}
 use Rattle.ledger.proofs.LedgerPairAt.{pairs-unused, pairs-used, pairs-over}

@@ -1,12 +1,9 @@
 -- `rule::total`: what is counted and what the pairs that are left hold is all, up to the largest number.
-use Prim.Native.Nat.{ℕ, ◌+◌, ◌-◌, ◌≤◌, min}
-use mathlib.Core.Path.{◌≡◌, ◌∙◌}
-use native.Mathlib.Omega.{arith}
-use borrow.Author.Rules.{rules}
-use lib.ListN.{length, get_or, drop}
+use Prim.Native.Nat.{◌+◌, ◌-◌, ◌≤◌, min}
+use mathlib.Core.Path.{◌≡◌}
+use lib.ListN.{length, drop}
 use Rattle.ledger.specs.Pairs.{total}
 use Rattle.ledger.specs.Ledger.{pairs_of}
-use Rattle.ledger.proofs.LedgerPairAt.{pairs-unused, pairs-used, pairs-over}
 use Rattle.ledger.proofs.rule.total.Given as goal
 
 abbrev pub invariant-loop-i : goal.invariant-loop-i

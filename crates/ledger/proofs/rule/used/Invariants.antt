@@ -1,15 +1,9 @@
 -- `rule::used`: the number lies from low up to high, in a ledger that obeys the rule.
-use Prim.Native.Nat.{◌+◌, ◌-◌, ◌/◌, ◌≤◌}
-use mathlib.Core.Path.{◌≡◌, sym, ◌∙◌}
+use Prim.Native.Nat.{◌-◌, ◌≤◌}
+use mathlib.Core.Path.{◌≡◌}
 use mathlib.Core.Bool.{true}
-use native.Mathlib.Omega.{arith}
-use borrow.Author.Rules.{rules}
-use borrow.Author.Tests.{ltb-false, not-true}
-use lib.ListN.{get_or}
 use Rattle.ledger.specs.Pairs.{size}
-use Rattle.ledger.specs.Ledger.{capacity, obeys, pairs_of, has_pair}
-use Rattle.ledger.proofs.LedgerLayout.{size-pairs_of}
-use Rattle.ledger.proofs.RuleByUsed.{end-zero, end-some}
+use Rattle.ledger.specs.Ledger.{capacity, obeys, pairs_of}
 use Rattle.ledger.proofs.rule.used.Given as goal
 
 abbrev pub invariant-loop-low : goal.invariant-loop-low

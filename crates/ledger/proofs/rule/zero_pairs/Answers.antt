@@ -1,6 +1,5 @@
 -- `rule::zero_pairs`: both tests, the zeros first.
 use mathlib.Core.Path.{sym, ◌∙◌}
-use borrow.Author.Rules.{rules}
 use borrow.Author.Tests.{not-true, not-false}
 use Rattle.ledger.proofs.rule.zero_pairs.Goals as goal
 

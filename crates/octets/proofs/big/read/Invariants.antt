@@ -1,11 +1,8 @@
 -- `big::read`: after i bytes n is the number of the first i.
 use Prim.Native.Nat.{◌-◌, ◌≤◌, ◌<◌, ◌^◌}
-use mathlib.Core.Path.{◌≡◌, refl, ap, ◌∙◌}
-use native.Mathlib.Omega.{arith}
-use borrow.Author.Rules.{rules}
-use lib.ListN.{get_or, take}
-use Rattle.octets.specs.Digits.{from_big_endian, from_little_endian}
-use Rattle.octets.proofs.LoopStep.{room, grows, big_more, take-eight}
+use mathlib.Core.Path.{◌≡◌}
+use lib.ListN.{take}
+use Rattle.octets.specs.Digits.{from_big_endian}
 use Rattle.octets.proofs.big.read.Given as goal
 
 abbrev pub invariant-loop-i : goal.invariant-loop-i

@@ -1,13 +1,9 @@
 -- `big::write`: what is still to be written, in front of what is written, is the whole.
 use Prim.Native.Nat.{◌≤◌}
-use mathlib.Core.Path.{◌≡◌, refl, ◌∙◌}
-use mathlib.Core.List.{◌++◌, append-nil}
-use native.Mathlib.Omega.{arith}
-use lib.ListN.{length, drop, length-set}
-use lib.Seq.{drop-length}
-use Rattle.octets.specs.Digits.{to_big_endian, to_little_endian}
-use Rattle.octets.proofs.Digits.{to_big-suc}
-use Rattle.octets.proofs.LoopStep.{backwards}
+use mathlib.Core.Path.{◌≡◌}
+use mathlib.Core.List.{◌++◌}
+use lib.ListN.{length, drop}
+use Rattle.octets.specs.Digits.{to_big_endian}
 use Rattle.octets.proofs.big.write.Given as goal
 
 abbrev pub invariant-loop-i : goal.invariant-loop-i

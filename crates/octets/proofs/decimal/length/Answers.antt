@@ -1,8 +1,5 @@
 -- `decimal::length`: the digits counted and those of what is left are all of them, and one.
-use Prim.Native.Nat.{◌+◌, ◌≤◌}
-use mathlib.Core.Path.{◌≡◌}
 use native.Mathlib.Omega.{arith}
-use Rattle.octets.specs.Decimal.{digit_count}
 use Rattle.octets.proofs.Decimals.{width_small, width-step}
 use Rattle.octets.proofs.decimal.length.Goals as goal
 

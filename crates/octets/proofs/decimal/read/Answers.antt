@@ -1,9 +1,8 @@
 -- `decimal::read`: the bytes passed are digits and n, which is at most the limit, is what they say.
-use Prim.Native.Nat.{◌+◌, ◌*◌, ◌-◌, ◌≤◌}
+use Prim.Native.Nat.{◌+◌, ◌*◌, ◌≤◌}
 use mathlib.Core.Path.{◌≡◌, refl, sym, ◌∙◌}
 use mathlib.Core.Bool.{true}
 use native.Mathlib.Omega.{arith}
-use borrow.Author.Rules.{rules}
 use borrow.Author.Tests.{le-ltb, not-true, not-false}
 use lib.ListN.{length, get_or, take}
 use lib.Seq.{take_all}

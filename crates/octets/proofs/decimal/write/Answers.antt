@@ -1,9 +1,8 @@
 -- `decimal::write`: what is still to be written, in front of what is written, is the whole.
-use Prim.Native.Nat.{◌≤◌}
 use mathlib.Core.Path.{◌≡◌, refl, ◌∙◌}
-use mathlib.Core.List.{◌++◌, append-nil}
+use mathlib.Core.List.{append-nil}
 use native.Mathlib.Omega.{arith}
-use lib.ListN.{length, drop, length-set}
+use lib.ListN.{length, length-set}
 use lib.Seq.{drop-length}
 use Rattle.octets.specs.Digits.{to_big_endian, to_little_endian}
 use Rattle.octets.specs.Decimal.{in_digits, digit_byte}

@@ -1,12 +1,8 @@
 -- `little::read`: n is the number of the bytes from i on, of the first eight.
-use Prim.Native.Nat.{suc, ◌+◌, ◌-◌, ◌≤◌, ◌<◌, ◌^◌, min}
+use Prim.Native.Nat.{◌-◌, ◌≤◌, ◌<◌, ◌^◌, min}
 use mathlib.Core.Path.{◌≡◌}
-use native.Mathlib.Omega.{arith}
-use native.Mathlib.Nat.{one-le-pow}
-use borrow.Author.Rules.{rules}
-use lib.ListN.{length, get_or, take, drop, length-take, drop_of_length-le}
+use lib.ListN.{length, take, drop}
 use Rattle.octets.specs.Digits.{from_little_endian}
-use Rattle.octets.proofs.LoopStep.{room, grows, little_more}
 use Rattle.octets.proofs.little.read.Given as goal
 
 abbrev pub invariant-loop-i : goal.invariant-loop-i

@@ -1,14 +1,9 @@
 -- `little::write`: what is written, with what is still to be written after it, is the whole.
-use Prim.Native.Nat.{ℕ, suc, ◌+◌, ◌-◌, ◌/◌, ◌%◌, ◌≤◌, ◌<◌}
-use mathlib.Core.Path.{◌≡◌, refl, sym, ◌∙◌}
-use mathlib.Core.List.{List, ◌++◌, append-nil}
-use native.Mathlib.Omega.{arith}
-use native.Mathlib.Nat.{sub-zero}
-use native.Mathlib.Numerals.{add-one}
-use lib.ListN.{length, set, take, length-set}
-use lib.Seq.{take-length}
+use Prim.Native.Nat.{◌-◌, ◌≤◌}
+use mathlib.Core.Path.{◌≡◌}
+use mathlib.Core.List.{◌++◌}
+use lib.ListN.{length, take}
 use Rattle.octets.specs.Digits.{to_little_endian}
-use Rattle.octets.proofs.LoopStep.{stored-after}
 use Rattle.octets.proofs.little.write.Given as goal
 
 abbrev pub invariant-loop-i : goal.invariant-loop-i

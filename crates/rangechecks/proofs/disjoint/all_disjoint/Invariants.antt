@@ -1,13 +1,10 @@
 -- `disjoint::all_disjoint`: the ranges that are left decide.
-use Prim.Native.Nat.{ℕ, ◌+◌, ◌-◌}
-use mathlib.Core.Path.{◌≡◌, sym, ◌∙◌}
-use mathlib.Core.Bool.{Bool, ◌&&◌}
-use native.Mathlib.Omega.{arith}
-use borrow.Author.Tests.{eq-eqb, ne_eqb, not-true, not-false}
+use Prim.Native.Nat.{◌-◌}
+use mathlib.Core.Path.{◌≡◌}
+use mathlib.Core.Bool.{◌&&◌}
 use lib.Dec.{eqb}
 use lib.ListN.{length, drop}
 use Rattle.rangechecks.specs.Ranges.{all_disjoint}
-use Rattle.rangechecks.proofs.Ranges.{all_more, all-over, stops, goes_on}
 use Rattle.rangechecks.proofs.disjoint.all_disjoint.Given as goal
 
 abbrev pub invariant-loop-i : goal.invariant-loop-i

@@ -1,11 +1,10 @@
 -- `disjoint::disjoint_from`: the ranges that are left decide.
-use Prim.Native.Nat.{ℕ, ◌+◌, ◌-◌}
-use mathlib.Core.Path.{◌≡◌, refl, sym, ◌∙◌}
+use Prim.Native.Nat.{ℕ, ◌+◌}
+use mathlib.Core.Path.{◌≡◌, sym, ◌∙◌}
 use mathlib.Core.Bool.{Bool, ◌&&◌}
 use native.Mathlib.Omega.{arith}
-use borrow.Author.Rules.{rules}
 use borrow.Author.Tests.{not-true, not-false}
-use lib.ListN.{length, drop}
+use lib.ListN.{drop}
 use Rattle.rangechecks.specs.Ranges.{disjoint_from}
 use Rattle.rangechecks.proofs.Ranges.{from_more, from-over, stops, goes_on}
 use Rattle.rangechecks.proofs.disjoint.disjoint_from.Goals as goal

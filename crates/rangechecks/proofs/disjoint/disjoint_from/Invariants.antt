@@ -1,13 +1,8 @@
 -- `disjoint::disjoint_from`: the ranges that are left decide.
-use Prim.Native.Nat.{ℕ, ◌+◌, ◌-◌}
-use mathlib.Core.Path.{◌≡◌, refl, sym, ◌∙◌}
-use mathlib.Core.Bool.{Bool, ◌&&◌}
-use native.Mathlib.Omega.{arith}
-use borrow.Author.Rules.{rules}
-use borrow.Author.Tests.{not-true, not-false}
+use Prim.Native.Nat.{◌-◌}
+use mathlib.Core.Path.{◌≡◌}
 use lib.ListN.{length, drop}
 use Rattle.rangechecks.specs.Ranges.{disjoint_from}
-use Rattle.rangechecks.proofs.Ranges.{from_more, from-over, stops, goes_on}
 use Rattle.rangechecks.proofs.disjoint.disjoint_from.Given as goal
 
 abbrev pub invariant-loop-i : goal.invariant-loop-i

@@ -1,6 +1,5 @@
 -- `disjoint::two_disjoint`.
 use mathlib.Core.Path.{sym, ◌∙◌}
-use borrow.Author.Rules.{rules}
 use Rattle.rangechecks.proofs.disjoint.two_disjoint.Goals as goal
 
 pub returns-then-sum_at_most : goal.returns-then-sum_at_most

@@ -1,15 +1,11 @@
 -- `nested::all_inside`: the pairs that are left of both ledgers decide.
-use Prim.Native.Nat.{◌-◌}
-use mathlib.Core.Path.{◌≡◌, refl}
-use mathlib.Core.Bool.{true}
+use mathlib.Core.Path.{refl}
 use native.Mathlib.Omega.{arith}
-use borrow.Author.Rules.{rules}
 use borrow.Author.Tests.{not-true, not-false}
 use Rattle.ledger.specs.Pairs.{all_inside}
-use Rattle.ledger.specs.Ledger.{obeys, pairs_of, capacity}
+use Rattle.ledger.specs.Ledger.{obeys, pairs_of}
 use Rattle.ledger.proofs.LedgerLayout.{rule-ruled}
-use Rattle.rangechecks.proofs.NestedWalk.{Left, walk-unused, walk-over, walk-stops, walk-goes-on}
-use Rattle.rangechecks.proofs.PairNumbered.{pairs_from}
+use Rattle.rangechecks.proofs.NestedWalk.{walk-unused, walk-over, walk-stops, walk-goes-on}
 use Rattle.rangechecks.proofs.nested.all_inside.Goals as goal
 
 pub loop-i-init : goal.loop-i-init

@@ -1,11 +1,9 @@
 -- `nested::first_reaching`: the pairs passed end below the place.
-use Prim.Native.Nat.{◌-◌, ◌<◌}
-use mathlib.Core.Path.{◌≡◌, refl, sym, ◌∙◌}
+use Prim.Native.Nat.{◌<◌}
+use mathlib.Core.Path.{sym, ◌∙◌}
 use native.Mathlib.Omega.{arith}
-use borrow.Author.Rules.{rules}
 use Rattle.ledger.specs.Ledger.{capacity}
-use Rattle.rangechecks.specs.Nested.{reaching}
-use Rattle.rangechecks.proofs.PairNumbered.{pairs_from, below-room, below-passes, other-stays}
+use Rattle.rangechecks.proofs.PairNumbered.{below-room, below-passes, other-stays}
 use Rattle.rangechecks.proofs.nested.first_reaching.Goals as goal
 use Rattle.rangechecks.proofs.nested.first_reaching.Goals.{In-loop-i}
 

@@ -1,11 +1,9 @@
 -- `nested::first_reaching`: the pairs passed end below the place.
-use Prim.Native.Nat.{◌-◌, ◌<◌}
-use mathlib.Core.Path.{◌≡◌, refl, sym, ◌∙◌}
-use native.Mathlib.Omega.{arith}
-use borrow.Author.Rules.{rules}
+use Prim.Native.Nat.{◌-◌}
+use mathlib.Core.Path.{◌≡◌}
 use Rattle.ledger.specs.Ledger.{capacity}
 use Rattle.rangechecks.specs.Nested.{reaching}
-use Rattle.rangechecks.proofs.PairNumbered.{pairs_from, below-room, below-passes, other-stays}
+use Rattle.rangechecks.proofs.PairNumbered.{pairs_from}
 use Rattle.rangechecks.proofs.nested.first_reaching.Given as goal
 
 abbrev pub invariant-loop-i : goal.invariant-loop-i

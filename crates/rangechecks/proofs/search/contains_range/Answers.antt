@@ -2,7 +2,6 @@
 use Prim.Native.Nat.{◌+◌}
 use mathlib.Core.Path.{sym}
 use native.Mathlib.Omega.{arith}
-use borrow.Author.Rules.{rules}
 use Rattle.ledger.specs.Ledger.{largest, pairs_of}
 use Rattle.ledger.proofs.LedgerSizes.{ends-fit}
 use Rattle.rangechecks.proofs.RangeInside.{past_all}

@@ -1,5 +1,4 @@
 -- `search::first_holds`.
-use borrow.Author.Rules.{rules}
 use borrow.Author.Tests.{le-leb, lt-leb}
 use lib.ListN.{length}
 use Rattle.rangechecks.proofs.search.first_holds.Goals as goal

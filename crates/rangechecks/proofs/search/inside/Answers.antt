@@ -1,6 +1,5 @@
 -- `search::inside`: the first pair decides where it holds the range, else the pair at the place for the end.
 use mathlib.Core.Path.{sym, ◌∙◌}
-use borrow.Author.Rules.{rules}
 use Rattle.rangechecks.proofs.RangeInside.{by_place, by_first}
 use Rattle.rangechecks.proofs.search.inside.Goals as goal
 

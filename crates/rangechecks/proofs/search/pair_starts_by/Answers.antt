@@ -1,7 +1,6 @@
 -- `search::pair_starts_by`.
 use Prim.Native.Nat.{◌+◌, ◌*◌}
 use native.Mathlib.Omega.{arith}
-use borrow.Author.Rules.{rules}
 use borrow.Author.Tests.{lt-ltb, le-ltb}
 use lib.ListN.{get_or, get_or-eq_default}
 use Rattle.rangechecks.proofs.search.pair_starts_by.Goals as goal

@@ -1,6 +1,5 @@
 -- `ranges::after_comma`.
 use native.Mathlib.Omega.{arith}
-use borrow.Author.Rules.{rules}
 use lib.ListN.{length}
 use mathlib.Core.Path.{ap}
 use Rattle.rangelists.proofs.RangeText.{comma-none, comma-one}

@@ -1,6 +1,5 @@
 -- `ranges::join_text`.
 use mathlib.Core.Path.{◌≡◌, sym, ◌∙◌}
-use borrow.Author.Rules.{rules}
 use Rattle.rangelists.specs.RangeText.{range_of}
 use Rattle.rangelists.specs.declared.ranges.Range.TheVariants.{Places}
 use Rattle.rangelists.proofs.RangeMerging.{represents-51, represents-52, represents-joined}

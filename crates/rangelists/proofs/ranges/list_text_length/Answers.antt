@@ -1,13 +1,11 @@
 -- `ranges::list_text_length`: the bytes counted and those of the ranges that are left are all.
-use Prim.Native.Nat.{◌+◌, ◌*◌, ◌-◌, ◌≤◌}
-use mathlib.Core.Path.{◌≡◌, ap, ◌∙◌}
+use Prim.Native.Nat.{◌+◌}
+use mathlib.Core.Path.{ap, ◌∙◌}
 use native.Mathlib.Omega.{arith}
-use borrow.Author.Rules.{rules}
 use lib.ListN.{length, get_or, drop}
 use Rattle.ledger.specs.Ledger.{pairs_of}
 use Rattle.ledger.proofs.LedgerPairAt.{pairs-unused, pairs-used, pairs-over}
-use Rattle.rangelists.specs.RangeText.{ranges_text}
-use Rattle.rangelists.proofs.RangeText.{list_from, list_from-none, list_from-all, list-grows, comma-le}
+use Rattle.rangelists.proofs.RangeText.{list_from-none, list_from-all, list-grows, comma-le}
 use Rattle.rangelists.proofs.ranges.list_text_length.Goals as goal
 
 pub loop-i-init : goal.loop-i-init

@@ -1,7 +1,6 @@
 -- `ranges::put_comma`.
 use mathlib.Core.Path.{ap}
 use native.Mathlib.Omega.{arith}
-use borrow.Author.Rules.{rules}
 use lib.ListN.{length, length-set}
 use Rattle.rangelists.proofs.RangeText.{comma-none, comma-one}
 use Rattle.rangelists.proofs.ranges.put_comma.Goals as goal

@@ -1,8 +1,8 @@
 -- `ranges::put_list`: the first n bytes of the text are written, and the rest of it is the ranges that are left.
-use Prim.Native.Nat.{ℕ, ◌+◌, ◌-◌, ◌≤◌}
+use Prim.Native.Nat.{ℕ, ◌+◌}
 use mathlib.Core.Path.{◌≡◌, refl, sym, ap, ◌∙◌}
 use native.Mathlib.Omega.{arith}
-use lib.ListN.{length, get_or, take, drop}
+use lib.ListN.{length, get_or, drop}
 use lib.Seq.{sets}
 use Rattle.ledger.specs.Pairs.{none, pair}
 use Rattle.ledger.specs.Ledger.{pairs_of}

@@ -1,14 +1,11 @@
 -- `ranges::put_list`: the first n bytes of the text are written, and the rest of it is the ranges that are left.
-use Prim.Native.Nat.{ℕ, ◌+◌, ◌-◌, ◌≤◌}
-use mathlib.Core.Path.{◌≡◌, refl, sym, ap, ◌∙◌}
-use native.Mathlib.Omega.{arith}
-use lib.ListN.{length, get_or, take, drop}
+use Prim.Native.Nat.{◌-◌, ◌≤◌}
+use mathlib.Core.Path.{◌≡◌}
+use lib.ListN.{length, take, drop}
 use lib.Seq.{sets}
-use Rattle.ledger.specs.Pairs.{none, pair}
 use Rattle.ledger.specs.Ledger.{pairs_of}
-use Rattle.ledger.proofs.LedgerPairAt.{pairs-unused, pairs-used, pairs-over}
-use Rattle.rangelists.specs.RangeText.{separator_after, range_text, ranges_text}
-use Rattle.rangelists.proofs.RangeText.{list_from, list_from-none, list_from-all, comma-fits, range-fits, list_left, list_put, next-all}
+use Rattle.rangelists.specs.RangeText.{ranges_text}
+use Rattle.rangelists.proofs.RangeText.{list_from}
 use Rattle.rangelists.proofs.ranges.put_list.Given as goal
 
 abbrev pub invariant-loop-i : goal.invariant-loop-i

@@ -1,7 +1,6 @@
 -- `ranges::range_text_length`.
 use Prim.Native.Nat.{◌-◌}
 use native.Mathlib.Omega.{arith}
-use borrow.Author.Rules.{rules}
 use Rattle.octets.proofs.Decimals.{width-20}
 use Rattle.rangelists.proofs.RangeText.{length-range_text}
 use Rattle.rangelists.proofs.ranges.range_text_length.Goals as goal

@@ -1,6 +1,5 @@
 -- `ranges::read_position`.
 use mathlib.Core.Path.{sym, ◌∙◌}
-use borrow.Author.Rules.{rules}
 use Rattle.rangelists.proofs.RangeParsing.{position-long, position-read}
 use Rattle.rangelists.proofs.ranges.read_position.Goals as goal
 

@@ -1,7 +1,6 @@
 -- `ranges::write`.
 use mathlib.Core.Path.{sym, ap, ◌∙◌}
 use native.Mathlib.Omega.{arith}
-use borrow.Author.Rules.{rules}
 use Rattle.ledger.specs.Ledger.{pairs_of}
 use Rattle.ledger.proofs.LedgerSizes.{length-fits}
 use Rattle.answers.specs.declared.written.Written.TheVariants.{Bytes}

@@ -3,7 +3,6 @@ use mathlib.Core.Path.{◌≡◌, sym, ◌∙◌}
 use mathlib.Core.Bool.{true, false}
 use Rattle.sender.specs.Blocks.{out_of_range}
 use Rattle.sender.specs.Sender.{begin_refusal, begin_of}
-use borrow.Author.Rules.{rules}
 use Rattle.sender.proofs.begin.begin.Goals as goal
 
 pub returns-then-out_of_range : goal.returns-then-out_of_range

@@ -4,7 +4,6 @@ use mathlib.Core.Bool.{not}
 use native.Mathlib.Omega.{arith}
 use Rattle.sender.specs.Sender.{next_call}
 use Rattle.sender.proofs.Judged.{wrong-when, wrong-count, wrong_size, wrong-file, by-given, range-of}
-use borrow.Author.Rules.{rules}
 use Rattle.sender.proofs.next.is_mismatched.Goals as goal
 
 pub returns-then-out_of_range : goal.returns-then-out_of_range

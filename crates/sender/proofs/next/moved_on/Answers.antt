@@ -1,7 +1,6 @@
 -- `next::moved_on`.
 use mathlib.Core.Path.{refl}
 use Rattle.sender.specs.Sender.{moved_on}
-use borrow.Author.Rules.{rules}
 use Rattle.sender.proofs.next.moved_on.Goals as goal
 
 pub returns : goal.returns

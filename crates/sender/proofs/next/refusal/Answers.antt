@@ -5,7 +5,6 @@ use mathlib.Core.Bool.{Bool, false}
 use mathlib.Core.List.{List, []}
 use native.Mathlib.Omega.{arith}
 use lib.ListN.{length, replicate, length-replicate}
-use borrow.Author.Rules.{rules}
 use Rattle.sender.specs.declared.state.Sender.{Sender}
 use Rattle.sender.specs.Blocks.{block_count, blocks_on}
 use Rattle.sender.specs.Sender.{most_on, next_call, is_mismatched}

@@ -5,7 +5,6 @@ use native.Mathlib.Omega.{arith}
 use lib.ListN.{length, take, drop, length-drop}
 use lib.Seq.{take_all}
 use Rattle.sender.proofs.BlockStores.{header-stored, block-stored}
-use borrow.Author.Rules.{rules}
 use Rattle.sender.proofs.next.write.Goals as goal
 
 pub returns-then-o-eq0 : goal.returns-then-o-eq0

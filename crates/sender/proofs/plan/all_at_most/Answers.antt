@@ -1,12 +1,9 @@
 -- `plan::all_at_most`.
-use Prim.Native.Nat.{◌-◌, ◌≤◌}
-use mathlib.Core.Path.{◌≡◌, refl, sym, ◌∙◌}
+use mathlib.Core.Path.{refl, sym, ◌∙◌}
 use native.Mathlib.Omega.{arith}
 use native.Mathlib.Nat.{div-le_self}
 use native.Mathlib.Numerals.{add-one}
-use borrow.Author.Rules.{rules}
-use lib.ListN.{length, drop}
-use Rattle.sender.specs.Sender.{most_on, all_at_most}
+use Rattle.sender.specs.Sender.{most_on}
 use Rattle.sender.proofs.BlockNumbers.{count_most}
 use Rattle.sender.proofs.AtMost.{most-is, within-next, within-not, within_end}
 use Rattle.sender.proofs.plan.all_at_most.Goals as goal

@@ -1,14 +1,8 @@
 -- `plan::all_at_most`.
 use Prim.Native.Nat.{◌-◌, ◌≤◌}
-use mathlib.Core.Path.{◌≡◌, refl, sym, ◌∙◌}
-use native.Mathlib.Omega.{arith}
-use native.Mathlib.Nat.{div-le_self}
-use native.Mathlib.Numerals.{add-one}
-use borrow.Author.Rules.{rules}
+use mathlib.Core.Path.{◌≡◌}
 use lib.ListN.{length, drop}
 use Rattle.sender.specs.Sender.{most_on, all_at_most}
-use Rattle.sender.proofs.BlockNumbers.{count_most}
-use Rattle.sender.proofs.AtMost.{most-is, within-next, within-not, within_end}
 use Rattle.sender.proofs.plan.all_at_most.Given as goal
 
 abbrev pub invariant-loop-c : goal.invariant-loop-c

@@ -3,7 +3,6 @@ use mathlib.Core.Path.{sym}
 use native.Mathlib.Omega.{arith}
 use native.Mathlib.Nat.{div-le_self}
 use Rattle.sender.proofs.BlockNumbers.{count-even, count-odd}
-use borrow.Author.Rules.{rules}
 use Rattle.sender.proofs.plan.block_count.Goals as goal
 
 pub returns-then-len-size-eq0 : goal.returns-then-len-size-eq0

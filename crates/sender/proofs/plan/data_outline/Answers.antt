@@ -1,7 +1,6 @@
 -- `plan::data_outline`.
 use native.Mathlib.Omega.{arith}
 use Rattle.sender.proofs.BlockNumbers.{starts-inside}
-use borrow.Author.Rules.{rules}
 use Rattle.sender.proofs.plan.data_outline.Goals as goal
 
 pub overflow_sub-rest : goal.overflow_sub-rest

@@ -1,7 +1,6 @@
 -- `plan::most`.
 use borrow.Author.Tests.{lt-ltb, le-ltb}
 use native.Mathlib.Omega.{arith}
-use borrow.Author.Rules.{rules}
 use Rattle.sender.proofs.plan.most.Goals as goal
 
 pub returns-then-count-c : goal.returns-then-count-c

@@ -3,7 +3,6 @@ use native.Mathlib.Omega.{arith}
 use native.Mathlib.Nat.{div-le_self}
 use Rattle.sender.proofs.BlockNumbers.{count_most}
 use Rattle.sender.proofs.AtMost.{most-is}
-use borrow.Author.Rules.{rules}
 use Rattle.sender.proofs.plan.most_on.Goals as goal
 
 pub most-requires : goal.most-requires

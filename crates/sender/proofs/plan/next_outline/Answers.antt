@@ -8,7 +8,6 @@ use Rattle.sender.proofs.BlockNumbers.{count_most}
 use Rattle.sender.proofs.ChannelShares.{share-below}
 use Rattle.sender.proofs.AtMost.{most-below}
 use Rattle.sender.proofs.Outlines.{data_is, data-accepted, first-ending, other-ending, count-accepted, eight-accepted}
-use borrow.Author.Rules.{rules}
 use Rattle.sender.proofs.plan.next_outline.Goals as goal
 
 -- the block has its number in the file where the channel has not been given all

@@ -1,6 +1,5 @@
 -- `text::is_letter`.
 use mathlib.Core.Path.{sym, ◌∙◌}
-use borrow.Author.Rules.{rules}
 use Rattle.texts.proofs.text.is_letter.Goals as goal
 
 pub returns-then-between : goal.returns-then-between

@@ -2,7 +2,6 @@
 use mathlib.Core.Path.{◌≡◌, refl, sym, ap, ◌∙◌}
 use mathlib.Core.Bool.{Bool}
 use Prim.Native.Nat.{ℕ}
-use borrow.Author.Rules.{rules}
 use Rattle.texts.specs.Text.{is_of_kind}
 use Rattle.texts.specs.declared.text.ByteKind.{ByteKind}
 use Rattle.texts.proofs.text.is_of_kind.Goals as goal

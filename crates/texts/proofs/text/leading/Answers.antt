@@ -1,11 +1,8 @@
 -- `text::leading_count`: the bytes passed and those of the kind that the rest begins with are all of them.
-use Prim.Native.Nat.{◌+◌, ◌-◌, ◌≤◌}
-use mathlib.Core.Path.{◌≡◌, sym, ◌∙◌}
+use mathlib.Core.Path.{sym, ◌∙◌}
 use native.Mathlib.Omega.{arith}
-use borrow.Author.Rules.{rules}
 use borrow.Author.Tests.{not-true, not-false}
-use lib.ListN.{length, drop}
-use Rattle.texts.specs.Text.{is_of_kind, leading_count}
+use Rattle.texts.specs.Text.{is_of_kind}
 use Rattle.texts.proofs.Texts.{leading-stops, leading-goes, leading-ends}
 use Rattle.texts.proofs.text.leading.Goals as goal
 

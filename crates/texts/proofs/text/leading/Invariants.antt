@@ -1,12 +1,8 @@
 -- `text::leading_count`: the bytes passed and those of the kind that the rest begins with are all of them.
 use Prim.Native.Nat.{◌+◌, ◌-◌, ◌≤◌}
-use mathlib.Core.Path.{◌≡◌, sym, ◌∙◌}
-use native.Mathlib.Omega.{arith}
-use borrow.Author.Rules.{rules}
-use borrow.Author.Tests.{not-true, not-false}
+use mathlib.Core.Path.{◌≡◌}
 use lib.ListN.{length, drop}
 use Rattle.texts.specs.Text.{is_of_kind, leading_count}
-use Rattle.texts.proofs.Texts.{leading-stops, leading-goes, leading-ends}
 use Rattle.texts.proofs.text.leading.Given as goal
 
 abbrev pub invariant-loop-i : goal.invariant-loop-i

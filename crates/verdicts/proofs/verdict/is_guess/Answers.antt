@@ -1,7 +1,6 @@
 -- `verdict::is_guess`.
 use mathlib.Core.Path.{ap}
 use mathlib.Core.Bool.{not}
-use borrow.Author.Rules.{rules}
 use borrow.Author.Tests.{lt-ltb, le-ltb}
 use Rattle.verdicts.proofs.verdict.is_guess.Goals as goal
 

@@ -2,7 +2,6 @@
 use Prim.Native.Nat.{◌+◌}
 use mathlib.Core.Path.{◌≡◌}
 use native.Mathlib.Omega.{arith}
-use borrow.Author.Rules.{rules}
 use Rattle.transfer.specs.Transfer.{ended_of, all_ended, is_doubted, verdict_of}
 use Rattle.verdicts.proofs.verdict.of_transfer.Goals as goal
 

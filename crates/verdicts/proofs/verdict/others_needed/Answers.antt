@@ -1,6 +1,5 @@
 -- `verdict::others_needed`.
 use native.Mathlib.Omega.{arith}
-use borrow.Author.Rules.{rules}
 use borrow.Author.Tests.{ne_eqb}
 use Rattle.verdicts.proofs.verdict.others_needed.Goals as goal
 
