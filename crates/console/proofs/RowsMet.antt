@@ -5,7 +5,7 @@ use mathlib.Core.List.{[]}
 use native.Mathlib.Omega.{arith}
 use Rattle.verdicts.specs.declared.verdict.Verdict.TheVariants.{Guess}
 use Rattle.console.specs.declared.state.Console.{Console}
-use Rattle.console.specs.Console.{Event, beginning}
+use Rattle.console.specs.Console.{Event}
 use Rattle.console.specs.Rows.{MODE, PASV, PORT, REST, RETR, STOR, SPAS, SPOR, SBUF, Row, mode_e, mode_other, too_early, pasv, spas, port, port_refused, spor, spor_refused, stor, stor_refused, retr, retr_refused, rest, rest_refused, sbuf_opts, line_refused, argument_refused, while_running, end_result, end_suspect, end_broken, end_guess, end_of_none, row_of}
 use Rattle.console.specs.Sessions.{Reached, Met}
 use Rattle.console.proofs.Table.{sentences}

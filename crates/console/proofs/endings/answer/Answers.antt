@@ -5,7 +5,6 @@ use Rattle.verdicts.specs.declared.verdict.Verdict.TheVariants.{Guess, Result, S
 use Rattle.console.specs.Console.{gets, gets_with_suspect}
 use Rattle.console.specs.Rows.{end_of_none, end_row, outcome, row_of, answer_to}
 use Rattle.console.proofs.Rows.{by_first, by-second, by-ending}
-use borrow.Author.Rules.{rules}
 use Rattle.console.proofs.endings.answer.Goals as goal
 
 pub returns-then-not-console : goal.returns-then-not-console

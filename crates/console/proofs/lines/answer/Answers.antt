@@ -4,7 +4,6 @@ use native.Mathlib.Omega.{arith}
 use Rattle.commands.specs.Line.{read_of, verb}
 use Rattle.console.specs.Rows.{outcome, refused_row, command_row, row_of, answer_to}
 use Rattle.console.proofs.LineRows.{refused-reads, command-reads, argument-short, row-refused, row-running, row-command}
-use borrow.Author.Rules.{rules}
 use Rattle.console.proofs.lines.answer.Goals as goal
 
 pub returns-then-console : goal.returns-then-console

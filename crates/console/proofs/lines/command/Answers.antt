@@ -4,7 +4,6 @@ use mathlib.Core.Bool.{cond, ◌&&◌}
 use Rattle.console.specs.Console.{gets}
 use Rattle.console.specs.Rows.{stor, stor_refused, is_connecting, outcome}
 use Rattle.console.proofs.Rows.{by_mode, by-pasv, by-spas, by-port, by-spor, by-stor, by-retr, by-rest, by-others, stor-as-retr}
-use borrow.Author.Rules.{rules}
 use Rattle.console.proofs.lines.command.Goals as goal
 
 pub returns-in-1 : goal.returns-in-1

@@ -2,7 +2,6 @@
 use mathlib.Core.Path.{refl, sym, ◌∙◌}
 use native.Mathlib.Omega.{arith}
 use Rattle.console.proofs.RestRanges.{done_none, refused-some}
-use borrow.Author.Rules.{rules}
 use Rattle.console.proofs.lines.has_malformed.Goals as goal
 
 pub returns-in-Done : goal.returns-in-Done

@@ -2,7 +2,6 @@
 use mathlib.Core.Path.{sym, ◌∙◌}
 use native.Mathlib.Omega.{arith}
 use Rattle.hostlists.proofs.HostCounts.{host-counts}
-use borrow.Author.Rules.{rules}
 use Rattle.console.proofs.lines.host_count.Goals as goal
 
 pub returns-in-Count : goal.returns-in-Count

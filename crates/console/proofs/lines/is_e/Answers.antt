@@ -2,7 +2,6 @@
 use mathlib.Core.Path.{sym}
 use borrow.Author.Tests.{eq-eqb, ne_eqb}
 use Rattle.console.proofs.Rows.{one_byte, not-one-byte}
-use borrow.Author.Rules.{rules}
 use Rattle.console.proofs.lines.is_e.Goals as goal
 
 pub returns-then-text-ne1 : goal.returns-then-text-ne1

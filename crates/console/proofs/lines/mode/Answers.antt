@@ -4,7 +4,6 @@ use Rattle.console.specs.Console.{gets}
 use Rattle.console.specs.Rows.{mode_e, mode_other, outcome}
 use Rattle.console.proofs.Rows.{by_first, by-second}
 use Rattle.console.specs.Rows.{outcome}
-use borrow.Author.Rules.{rules}
 use Rattle.console.proofs.lines.mode.Goals as goal
 
 pub returns-then-is_e : goal.returns-then-is_e

@@ -4,7 +4,6 @@ use borrow.Author.Tests.{eq-eqb, ne_eqb}
 use Rattle.console.specs.Console.{gets}
 use Rattle.console.specs.Rows.{port, port_refused, outcome}
 use Rattle.console.proofs.Rows.{by_first, by-second}
-use borrow.Author.Rules.{rules}
 use Rattle.console.proofs.lines.port.Goals as goal
 
 pub returns-then-host_count-eq1 : goal.returns-then-host_count-eq1

@@ -1,7 +1,6 @@
 -- `lines::refused`.
 use borrow.Author.Tests.{eq-eqb, ne_eqb}
 use Rattle.console.specs.Rows.{outcome}
-use borrow.Author.Rules.{rules}
 use Rattle.console.proofs.lines.refused.Goals as goal
 
 pub returns-then-number-eq35 : goal.returns-then-number-eq35

@@ -2,7 +2,6 @@
 use mathlib.Core.Path.{sym, ◌∙◌}
 use Rattle.console.specs.Rows.{rest, rest_refused, outcome}
 use Rattle.console.proofs.Rows.{by_first, by-second}
-use borrow.Author.Rules.{rules}
 use Rattle.console.proofs.lines.rest.Goals as goal
 
 pub returns-then-has_malformed : goal.returns-then-has_malformed

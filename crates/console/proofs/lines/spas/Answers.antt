@@ -4,7 +4,6 @@ use Rattle.console.specs.Console.{gets}
 use Rattle.console.specs.Rows.{spas, too_early, outcome}
 use Rattle.console.proofs.Rows.{by_first, by-second}
 use Rattle.console.specs.Rows.{outcome}
-use borrow.Author.Rules.{rules}
 use Rattle.console.proofs.lines.spas.Goals as goal
 
 pub returns-then-console : goal.returns-then-console

@@ -7,7 +7,6 @@ use Rattle.hostlists.specs.HostList.{host_count}
 use Rattle.console.specs.Console.{gets}
 use Rattle.console.specs.Rows.{too_early, spor, spor_refused, outcome}
 use Rattle.console.proofs.Rows.{by_first, by-second}
-use borrow.Author.Rules.{rules}
 use Rattle.console.proofs.lines.spor.Goals as goal
 
 pub returns-then-not-console : goal.returns-then-not-console

@@ -5,7 +5,6 @@ use borrow.Author.Tests.{not-true, not-false}
 use Rattle.console.specs.Console.{gets}
 use Rattle.console.specs.Rows.{stor, stor_refused, outcome}
 use Rattle.console.proofs.Rows.{by_first, by-second, and-true, and_left, and_right}
-use borrow.Author.Rules.{rules}
 use Rattle.console.proofs.lines.start.Goals as goal
 
 pub returns-then-not-console : goal.returns-then-not-console
