@@ -1,7 +1,9 @@
 // Which call each kind of request makes.
 use crate::ledgers::{Form, Source};
 use crate::session::{Session, Turn};
-use crate::{calls, consoles, control, conversions, headers, ledgers, lent, sending, session};
+use crate::{
+    block_headers, calls, consoles, control, conversions, ledgers, lent, sending, session,
+};
 use octets::little;
 
 // Kinds 32 to 43, the readers and writers, which keep nothing for the next request: whether there is such a kind, and its body is
@@ -9,10 +11,10 @@ use octets::little;
 fn read_or_write(rt: &impl Print, kind: u64, body: &[u8]) -> bool {
     match kind {
         32 => {
-            headers::read(rt, body);
+            block_headers::read(rt, body);
             true
         }
-        33 => headers::write(rt, body),
+        33 => block_headers::write(rt, body),
         34 => {
             control::command(rt, body);
             true

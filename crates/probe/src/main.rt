@@ -1,6 +1,7 @@
 // Makes the call that each request on standard input names, and prints a line for each, until the input ends or a request is malformed.
 #![tactic(auto)]
 
+mod block_headers;
 mod calls;
 mod consoles;
 mod control;
@@ -8,7 +9,6 @@ mod conversions;
 mod entries;
 mod fill;
 mod frame;
-mod headers;
 mod kinds;
 mod ledgers;
 mod lent;
