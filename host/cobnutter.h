@@ -1,6 +1,6 @@
 /*
  * Both sides of GridFTP's extended block mode (MODE E), receiving and sending, over functions that are proved to answer
- * as defined. Link libhost.a, which `rt staticlib host` writes; it needs nothing but the C library.
+ * as defined. Link libhost.a, which `host/build` writes; it needs nothing but the C library.
  *
  * Memory. The host owns everything. A run of bytes or numbers is a pointer and how many there are. A pointer is never
  * null, not even with the length 0, and numbers are aligned as uint64_t is. What is lent to one call may not overlap,

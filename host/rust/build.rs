@@ -22,7 +22,7 @@ fn main() {
     println!("cargo:rerun-if-changed={}", lib.display());
     if !lib.is_file() {
         eprintln!(
-            "cobnutter: there is no {}.\nRun `rt staticlib host` in the repository, \
+            "cobnutter: there is no {}.\nRun `host/build` in the repository, \
              or set COBNUTTER_LIB to the folder that has {LIB}.",
             lib.display()
         );

@@ -25,7 +25,7 @@ impl Program {
     pub fn start() -> Program {
         assert!(
             Path::new(PROGRAM).is_file(),
-            "there is no {PROGRAM}: run `rt check replay` in the repository"
+            "there is no {PROGRAM}: run `host/build` in the repository"
         );
         let mut command = Command::new(PROGRAM);
         command.stdin(Stdio::piped()).stdout(Stdio::piped());
