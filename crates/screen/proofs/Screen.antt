@@ -1,13 +1,10 @@
 -- The screen line: its parts, how long it can be, and its number by FIT.
 use Prim.Native.Nat.{ℕ, zero, suc, ◌+◌, ◌*◌, ◌^◌, ◌≤◌, ◌<◌}
 use mathlib.Core.Path.{◌≡◌, refl, sym, ap, ◌∙◌, subst}
-use mathlib.Core.Logic.{inl, inr}
 use mathlib.Core.List.{List, [], ◌∷◌, ◌++◌}
 use mathlib.Core.Bool.{Bool, true, false, cond}
 use native.Mathlib.Omega.{arith}
 use native.Mathlib.Numerals.{add-one}
-use denote.Enum.Declared.{tag_of}
-use types.Run.{OneOf}
 use lib.ListN.{length, get_or, set, take, length-append}
 use lib.Seq.{sets, take-suc, length-take-le}
 use Rattle.octets.specs.Decimal.{decimal}
@@ -20,7 +17,6 @@ use Rattle.transfer.specs.Fit.{fits_without_file}
 use Rattle.verdicts.specs.declared.verdict.Verdict.{Verdict as Word}
 use Rattle.verdicts.specs.declared.verdict.Verdict.TheVariants.{Guess, Result, Suspect, Broken}
 use Rattle.verdicts.specs.Verdict.{to_verdict, from_verdict}
-use Rattle.verdicts.specs.contracts.verdict.Verdict.{the_type}
 use Rattle.receiver.specs.declared.show.Shown.{Shown}
 use Rattle.receiver.specs.declared.show.Screen.{Screen}
 use Rattle.receiver.specs.declared.show.Screen.TheVariants.{Shows, Refused}

@@ -1,5 +1,4 @@
 -- `receive::ended_beside`.
-use borrow.Author.Rules.{rules}
 use Rattle.receiver.proofs.receive.ended_beside.Goals as goal
 
 pub returns : goal.returns

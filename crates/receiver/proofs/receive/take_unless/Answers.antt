@@ -1,7 +1,6 @@
 -- `receive::take_unless`.
 use mathlib.Core.Path.{refl}
 use native.Mathlib.Omega.{arith}
-use borrow.Author.Rules.{rules}
 use Rattle.receiver.proofs.receive.take_unless.Goals as goal
 
 pub returns-then-refused-gt0 : goal.returns-then-refused-gt0

@@ -1,6 +1,5 @@
 -- `show::stored`.
 use native.Mathlib.Omega.{arith}
-use borrow.Author.Rules.{rules}
 use Rattle.receiver.proofs.Shown.{stored-whole}
 use Rattle.receiver.proofs.show.stored.Goals as goal
 

@@ -1,6 +1,5 @@
 -- `start::lengths_wrong`.
 use mathlib.Core.Path.{sym, ◌∙◌}
-use borrow.Author.Rules.{rules}
 use Rattle.transfer.specs.Transfer.{lengths_wrong}
 use Rattle.receiver.proofs.start.lengths_wrong.Goals as goal
 

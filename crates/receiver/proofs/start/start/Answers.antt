@@ -1,8 +1,7 @@
 -- `start::start`.
 use mathlib.Core.Path.{◌≡◌, sym, ◌∙◌}
 use mathlib.Core.Bool.{true, false}
-use borrow.Author.Rules.{rules}
-use Rattle.transfer.specs.Transfer.{fresh, lengths_wrong, start_refusal, start_of, start_after}
+use Rattle.transfer.specs.Transfer.{lengths_wrong, start_refusal, start_of, start_after}
 use Rattle.receiver.proofs.start.start.Goals as goal
 
 pub returns-then-lengths_wrong : goal.returns-then-lengths_wrong

@@ -1,5 +1,4 @@
 -- `transfer_channel::of`.
-use borrow.Author.Rules.{rules}
 use Rattle.channels.specs.ChannelState.{channel_state_of}
 use Rattle.receiver.proofs.transfer_channel.of.Goals as goal
 

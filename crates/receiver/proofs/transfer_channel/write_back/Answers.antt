@@ -1,5 +1,4 @@
 -- `transfer_channel::write_back`.
-use borrow.Author.Rules.{rules}
 use Rattle.channels.proofs.CountsOthers.{write-back-fields}
 use Rattle.receiver.proofs.transfer_channel.write_back.Goals as goal
 

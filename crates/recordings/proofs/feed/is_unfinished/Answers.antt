@@ -1,5 +1,4 @@
 -- `feed::is_unfinished`.
-use borrow.Author.Rules.{rules}
 use mathlib.Core.Logic.{inl, inr}
 use Rattle.recordings.proofs.Steps.{not-whole, is_whole}
 use mathlib.Core.Path.{sym, ◌∙◌}

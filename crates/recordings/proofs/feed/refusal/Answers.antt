@@ -1,5 +1,4 @@
 -- `feed::refusal`.
-use borrow.Author.Rules.{rules}
 use borrow.Author.Tests.{not-true, not-false}
 use lib.ListN.{length-take}
 use Rattle.recordings.proofs.Refusal.{refused-1, refused-55, refused_none}

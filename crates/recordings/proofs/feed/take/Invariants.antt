@@ -1,13 +1,10 @@
 -- `feed::take`.
-use borrow.Author.Rules.{rules}
-use Prim.Native.Nat.{◌+◌, ◌-◌, ◌≤◌, ◌<◌}
-use mathlib.Core.Path.{◌≡◌, refl, sym, ◌∙◌}
+use Prim.Native.Nat.{◌-◌, ◌<◌}
+use mathlib.Core.Path.{◌≡◌}
 use mathlib.Core.Bool.{false}
-use native.Mathlib.Omega.{arith}
-use borrow.Rule.Slice.PartMut.{put_mid}
-use lib.ListN.{length, drop, length-take, length-drop}
-use Rattle.recordings.specs.Kept.{Kept, kept}
-use Rattle.recordings.proofs.Taking.{Taking, taking-none, step-within, taking_step, taking-length, taken-stopped, taken-all}
+use lib.ListN.{length}
+use Rattle.recordings.specs.Kept.{kept}
+use Rattle.recordings.proofs.Taking.{Taking}
 use Rattle.recordings.proofs.feed.take.Given as goal
 
 abbrev pub invariant-loop-at : goal.invariant-loop-at

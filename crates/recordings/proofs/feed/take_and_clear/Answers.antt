@@ -1,5 +1,4 @@
 -- `feed::take_and_clear`.
-use borrow.Author.Rules.{rules}
 use Rattle.recordings.specs.Kept.{kept}
 use lib.ListN.{length}
 use borrow.Rule.Slice.PartMut.{put_mid}

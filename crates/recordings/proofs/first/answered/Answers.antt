@@ -1,5 +1,4 @@
 -- `first::answered`.
-use borrow.Author.Rules.{rules}
 use Rattle.recordings.specs.Kept.{ReplayState, replay_state}
 use Rattle.nights.specs.Request.{record_limit}
 use Rattle.frames.proofs.FirstRecord.{first-prefix-whole}

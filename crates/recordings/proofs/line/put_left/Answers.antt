@@ -1,7 +1,6 @@
 -- `line::put_left`.
 use mathlib.Core.Path.{refl, ap}
 use native.Mathlib.Omega.{arith}
-use borrow.Author.Rules.{rules}
 use lib.ListN.{length}
 use Rattle.nights.specs.Lines.{left_word}
 use Rattle.nights.proofs.Lines.{left-none, left-some}

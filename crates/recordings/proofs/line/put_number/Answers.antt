@@ -1,7 +1,6 @@
 -- `line::put_number`.
 use Prim.Native.Nat.{◌+◌, ◌≤◌}
 use native.Mathlib.Omega.{arith}
-use borrow.Author.Rules.{rules}
 use lib.ListN.{length, length-set}
 use Rattle.octets.proofs.Decimals.{length-decimal}
 use Rattle.recordings.proofs.Lines.{word-stored, number-written, line_written}

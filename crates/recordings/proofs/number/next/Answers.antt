@@ -1,6 +1,5 @@
 -- `number::next`.
 use native.Mathlib.Numerals.{add-one}
-use borrow.Author.Rules.{rules}
 use borrow.Author.Tests.{lt-ltb, le-ltb}
 use Rattle.ledger.specs.Ledger.{largest}
 use Rattle.recordings.specs.Kept.{next_number}

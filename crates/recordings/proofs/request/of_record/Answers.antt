@@ -1,6 +1,5 @@
 -- `request::of_record`.
 use mathlib.Core.Path.{sym, ◌∙◌}
-use borrow.Author.Rules.{rules}
 use Rattle.recordings.specs.Asked.{asks_body, asks}
 use Rattle.nights.proofs.Requests.{body-part, request-short, request-start, request-piece, request-other}
 use Rattle.recordings.proofs.request.of_record.Goals as goal

@@ -1,7 +1,6 @@
 -- `request::piece_in`.
 use mathlib.Core.Path.{sym}
 use native.Mathlib.Omega.{arith}
-use borrow.Author.Rules.{rules}
 use Rattle.recordings.specs.Asked.{asks_body}
 use Rattle.nights.proofs.Requests.{piece_in-none, piece_in-long, piece_in-right}
 use Rattle.recordings.proofs.request.piece_in.Goals as goal

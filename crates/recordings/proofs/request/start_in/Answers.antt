@@ -1,7 +1,6 @@
 -- `request::start_in`.
 use mathlib.Core.Path.{◌≡◌, sym, ◌∙◌}
 use native.Mathlib.Omega.{arith}
-use borrow.Author.Rules.{rules}
 use Rattle.nights.specs.Request.{file_length_in, pairs_in}
 use Rattle.recordings.specs.Asked.{asks_body}
 use Rattle.nights.proofs.Requests.{file_length-read, pairs-read, start_in-length, start_in-file, start_in-pairs, start_in-right}

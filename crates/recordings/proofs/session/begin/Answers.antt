@@ -1,5 +1,4 @@
 -- `session::begin`.
-use borrow.Author.Rules.{rules}
 use Rattle.transfer.proofs.Start.{start as accepted}
 use mathlib.Core.List.{[]}
 use native.Mathlib.Omega.{arith}

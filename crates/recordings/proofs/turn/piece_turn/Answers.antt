@@ -78,10 +78,10 @@ writes c =
     let x = c.args in
     let r = c.receive-received in
     elim c.match-answer.branch [
-      in-Refused w ↦
+      | in-Refused w ↦
           let e = w.put_number-written.ensures in
           text-refused r.result.answer (left (goal.at.Joined-answer c).After-receive-received) w.in-Refused.k (length x.piece.now) c.match-answer.written x.out.now c.match-answer.out w.in-Refused.is (search rules) (w.written-is ∙ e.0, w.out-is ∙ e.1)
-    | in-Took w ↦
+      | in-Took w ↦
           let e = w.put_taken-written.ensures in
           text-taken r.result.answer (left (goal.at.Joined-answer c).After-receive-received) w.in-Took.n (length x.piece.now) c.match-answer.written x.out.now c.match-answer.out w.in-Took.is
           (subst (λ (l : List ℕ). WritesText (left_line (length x.piece.now - w.in-Took.n) ++ l) x.out.now c.match-answer.written c.match-answer.out) (fronts (line_for r.result.receiver.transfer) (goal.at.Joined-answer c).After-receive-received)

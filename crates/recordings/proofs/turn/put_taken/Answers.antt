@@ -1,7 +1,6 @@
 -- `turn::put_taken`.
 use Prim.Native.Nat.{◌≤◌}
 use native.Mathlib.Omega.{arith}
-use borrow.Author.Rules.{rules}
 use lib.ListN.{length, length-append, length-take, length-drop}
 use Rattle.screen.specs.Screen.{line_for}
 use Rattle.nights.specs.Lines.{left_line}

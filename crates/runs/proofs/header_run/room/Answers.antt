@@ -1,5 +1,5 @@
 -- `header_run::room`.
-use Rattle.std.proofs.Common.{arith, rules}
+use Rattle.std.proofs.Common.{arith}
 use Rattle.runs.proofs.header_run.room.Goals as goal
 
 pub returns-then-held-gt-HELD_LIMIT : goal.returns-then-held-gt-HELD_LIMIT

@@ -1,5 +1,5 @@
 -- `payload_run::payload_run`: one store and the channel's next state, as the law of a payload's bytes says.
-use Rattle.std.proofs.Common.{◌≡◌, ◌+◌, ◌-◌, ◌<◌, ◌≤◌, eqb, length, ap, ◌∙◌, arith, rules}
+use Rattle.std.proofs.Common.{◌≡◌, ◌+◌, ◌-◌, ◌<◌, ◌≤◌, eqb, length, ap, ◌∙◌, arith}
 use Rattle.transfer.specs.Transfer.{world}
 use Rattle.transfer.specs.Receive.{expect_payload}
 use Rattle.copies.proofs.CopiedBytes.{stored-is-written}

@@ -1,5 +1,5 @@
 -- `run::gives_19`.
-use Rattle.std.proofs.Common.{rules, ne_eqb}
+use Rattle.std.proofs.Common.{ne_eqb}
 use Rattle.runs.proofs.run.gives_19.Goals as goal
 
 pub returns-then-x-ne0 : goal.returns-then-x-ne0

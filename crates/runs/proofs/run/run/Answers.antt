@@ -1,5 +1,5 @@
 -- `run::run`: one of four runs, by the channel's state.
-use Rattle.std.proofs.Common.{true, false, eqb, sym, ap, ◌∙◌, true≢false, arith, rules, eqb-true}
+use Rattle.std.proofs.Common.{eqb, sym, ap, ◌∙◌, true≢false, arith, eqb-true}
 use mathlib.Core.Bool.{and-eq-true_iff}
 use Rattle.transfer.specs.Channel.{put_fault}
 use Rattle.verdicts.specs.Verdict.{count_reached}

@@ -1,15 +1,11 @@
 -- `take::take`: the bytes taken by the runs so far, and those after them, are all.
-use Rattle.std.proofs.Common.{◌≡◌, ℕ, ◌+◌, ◌-◌, ◌≤◌, true, List, length, take, drop, sym, refl, ap, ◌∙◌, subst, arith, length-drop, drop_of_length-le, take_all}
-use borrow.Author.Tests.{not-true, not-false}
+use Rattle.std.proofs.Common.{◌≡◌, ◌-◌, ◌≤◌, true, length, drop}
 use Rattle.transfer.specs.declared.state.Transfer.{Transfer}
-use Rattle.transfer.specs.Transfer.{World, world}
-use Rattle.transfer.specs.Receive.{take_byte}
+use Rattle.transfer.specs.Transfer.{world}
 use Rattle.transfer.specs.Fit.{fits}
-use Rattle.transfer.proofs.ReceivePieces.{bytes-none}
 use Rattle.channels.specs.ChannelState.{write_back}
 use Rattle.channels.specs.OtherChannels.{CountsOthers}
-use Rattle.runs.specs.Runs.{take_bytes_on, RunOf}
-use Rattle.runs.proofs.CallRuns.{further, stopped, still-fits}
+use Rattle.runs.specs.Runs.{take_bytes_on}
 use Rattle.runs.proofs.take.take.Given as goal
 
 abbrev pub invariant-loop-i : goal.invariant-loop-i

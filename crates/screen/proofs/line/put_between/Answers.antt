@@ -2,7 +2,6 @@
 use mathlib.Core.List.{◌++◌}
 use Rattle.octets.specs.Decimal.{decimal}
 use Rattle.answers.proofs.WritesAt.{writes_at-append}
-use borrow.Author.Rules.{rules}
 use Rattle.screen.proofs.line.put_between.Goals as goal
 
 pub returns : goal.returns

@@ -5,7 +5,6 @@ use Rattle.octets.specs.Decimal.{decimal}
 use Rattle.answers.proofs.WritesAt.{writes_at-append}
 use Rattle.screen.specs.Screen.{broken_word, on_word, broken_text}
 use Rattle.screen.proofs.Screen.{length-between, length-broken_text}
-use borrow.Author.Rules.{rules}
 use Rattle.screen.proofs.line.put_broken.Goals as goal
 
 pub put_between-on_at-requires : goal.put_between-on_at-requires

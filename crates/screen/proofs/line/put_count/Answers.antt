@@ -1,6 +1,5 @@
 -- `line::put_count`.
 use native.Mathlib.Omega.{arith}
-use borrow.Author.Rules.{rules}
 use mathlib.Core.Path.{ap}
 use lib.ListN.{length}
 use Rattle.screen.specs.Screen.{unknown_word}

@@ -5,7 +5,6 @@ use Rattle.octets.specs.Decimal.{decimal}
 use Rattle.answers.proofs.WritesAt.{writes_at-append}
 use Rattle.screen.specs.Screen.{ended_word, of_word, count_text, ended_text}
 use Rattle.screen.proofs.Screen.{length-between, length-ended_text}
-use borrow.Author.Rules.{rules}
 use Rattle.screen.proofs.line.put_ended.Goals as goal
 
 pub put_between-count_at-requires : goal.put_between-count_at-requires

@@ -3,7 +3,6 @@ use native.Mathlib.Omega.{arith}
 use lib.ListN.{length}
 use mathlib.Core.Path.{◌∙◌}
 use Rattle.answers.proofs.WrittenBy.{room-short, room-enough, refused, written-first}
-use borrow.Author.Rules.{rules}
 use Rattle.screen.proofs.line.put_first.Goals as goal
 
 pub returns-then-out-text : goal.returns-then-out-text

@@ -4,7 +4,6 @@ use native.Mathlib.Omega.{arith}
 use lib.ListN.{length, length-append}
 use Rattle.screen.specs.Screen.{guess_word, result_word, suspect_word, ended_text}
 use Rattle.screen.proofs.Screen.{front-broken, front-guess, front-result, front-suspect}
-use borrow.Author.Rules.{rules}
 use Rattle.screen.proofs.line.put_front.Goals as goal
 
 pub put_broken-requires : goal.put_broken-requires

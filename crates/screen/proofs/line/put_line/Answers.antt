@@ -1,7 +1,6 @@
 -- `line::put_line`.
 use mathlib.Core.List.{◌++◌}
 use native.Mathlib.Omega.{arith}
-use borrow.Author.Rules.{rules}
 use Rattle.octets.specs.Decimal.{decimal}
 use Rattle.answers.proofs.WritesAt.{writes_at-append}
 use Rattle.verdicts.specs.Verdict.{to_verdict}

@@ -1,7 +1,6 @@
 -- `line::put_tail`.
 use mathlib.Core.Path.{ap}
 use native.Mathlib.Omega.{arith}
-use borrow.Author.Rules.{rules}
 use lib.ListN.{length}
 use Rattle.octets.specs.Decimal.{decimal}
 use Rattle.screen.specs.Screen.{doubtful_word, line_feed}

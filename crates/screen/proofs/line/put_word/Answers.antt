@@ -1,8 +1,7 @@
 -- `line::put_word`: the first i bytes of the word are written.
-use Prim.Native.Nat.{◌-◌, ◌+◌, ◌≤◌}
-use mathlib.Core.Path.{◌≡◌, refl, ap, ◌∙◌}
+use mathlib.Core.Path.{refl, ap, ◌∙◌}
 use native.Mathlib.Omega.{arith}
-use lib.ListN.{length, take, length-set}
+use lib.ListN.{length-set}
 use lib.Seq.{sets, take_all}
 use Rattle.screen.proofs.Screen.{put_next}
 use Rattle.screen.proofs.line.put_word.Goals as goal

@@ -1,10 +1,8 @@
 -- `line::put_word`: the first i bytes of the word are written.
 use Prim.Native.Nat.{◌-◌, ◌+◌, ◌≤◌}
-use mathlib.Core.Path.{◌≡◌, refl, ap, ◌∙◌}
-use native.Mathlib.Omega.{arith}
-use lib.ListN.{length, take, length-set}
-use lib.Seq.{sets, take_all}
-use Rattle.screen.proofs.Screen.{put_next}
+use mathlib.Core.Path.{◌≡◌}
+use lib.ListN.{length, take}
+use lib.Seq.{sets}
 use Rattle.screen.proofs.line.put_word.Given as goal
 
 abbrev pub invariant-loop-i : goal.invariant-loop-i

@@ -1,7 +1,6 @@
 -- `line::write`: what is shown, as a line.
 use mathlib.Core.Path.{sym, ◌∙◌}
 use native.Mathlib.Omega.{arith}
-use borrow.Author.Rules.{rules}
 use Rattle.answers.proofs.WrittenBy.{refused}
 use Rattle.screen.specs.Screen.{line_for, screen_of, screen_after}
 use Rattle.screen.proofs.Screen.{not-fit, fit, says-line, says-refused}

@@ -1,6 +1,5 @@
 -- `Receiver::receive`: the number of the refusal, then the same steps for any call.
 use mathlib.Core.Path.{◌≡◌, refl, sym, ap, ap₂, ◌∙◌}
-use borrow.Author.Rules.{rules}
 use Rattle.transfer.specs.declared.state.Transfer.{Transfer}
 use Rattle.transfer.specs.Channel.{channel_at}
 use Rattle.transfer.specs.Transfer.{World, world, verdict_of}
