@@ -84,11 +84,11 @@ laid_out-after (suc r) (suc (suc j)) (pair a b ps) h = laid_out-after r j ps (om
 
 -- the entries of a ledger that obeys the rule are its pairs' starts and ends
 module _ (r : ℕ) (l : List ℕ) (n : length l ≡ 2 * r) (o : obeys l ≡ true) where
-  pub l-is : l ≡ laid_out r (pairs_of l)
+  l-is : l ≡ laid_out r (pairs_of l)
   unfolding obeys
   l-is = laid_out-pairs_of r 0 l o n
 
-  pub fits_in : size (pairs_of l) ≤ r
+  fits_in : size (pairs_of l) ≤ r
   fits_in = omega (arith, size-pairs_of l)
 
   pub start_is : (i : ℕ) → get_or l (2 * i) 0 ≡ start_at i (pairs_of l)
@@ -96,9 +96,6 @@ module _ (r : ℕ) (l : List ℕ) (n : length l ≡ 2 * r) (o : obeys l ≡ true
 
   pub end_is : (i : ℕ) → get_or l (2 * i + 1) 0 ≡ end_at i (pairs_of l)
   end_is i = ap (λ z. get_or z (2 * i + 1) 0) l-is ∙ laid_out-end r i (pairs_of l) fits_in
-
-  pub zero-after-used : (j : ℕ) → 2 * size (pairs_of l) ≤ j → get_or l j 0 ≡ 0
-  zero-after-used j h = ap (λ z. get_or z j 0) l-is ∙ laid_out-after r j (pairs_of l) h
 
   pub test_words : Obeys r l
   unfolding obeys
@@ -109,7 +106,7 @@ module _ (r : ℕ) (l : List ℕ) (n : length l ≡ 2 * r) (o : obeys l ≡ true
         room = fits_in;
         ordered = λ i h. omega (arith, start_is i, end_is i, start-end 0 i (pairs_of l) c h);
         apart = λ i h. omega (arith, start_is (suc i), end_is i, end-start 0 i (pairs_of l) c h);
-        zero_after = zero-after-used;
+        zero_after = λ j h. ap (λ z. get_or z j 0) l-is ∙ laid_out-after r j (pairs_of l) h;
       }
 
 pub test_is_rule : (r : ℕ) (l : List ℕ) → length l ≡ 2 * r → (obeys l ≡ true) ↔ Obeys r l

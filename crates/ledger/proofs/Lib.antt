@@ -10,10 +10,8 @@ pub mod LedgerPairAt
 pub mod PairsJoinSlot
 pub mod PairsAsNumbers
 pub mod Zeros
-pub mod Rising
 pub mod LedgerRule
 pub mod Ledgers
-pub mod RuleByUsed
 pub mod LedgerEntries
 pub mod PairsObey
 pub mod LedgerRefusal

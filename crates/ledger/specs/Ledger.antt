@@ -21,12 +21,6 @@ unfoldable pub all_zero : List ℕ → Bool
 all_zero [] = true
 all_zero (x ∷ xs) = eqb x 0 && all_zero xs
 
--- each entry is less than the next
-unfoldable pub rises : List ℕ → Bool
-rises [] = true
-rises (x ∷ []) = true
-rises (x ∷ y ∷ rest) = ltb x y && rises (y ∷ rest)
-
 -- the ledger rule from the place lo on: used pairs first, each with start < end and its end less than the next start; then zeros.
 -- A pair is used unless both entries are 0. The zeros are pairs too: an odd number of entries breaks the rule.
 unfoldable pub obeys_from : ℕ → List ℕ → Bool

@@ -62,12 +62,6 @@ unfoldable pub ends_at_most : ℕ → Pairs → Bool
 ends_at_most f none = true
 ends_at_most f (pair a b ps) = leb b f && ends_at_most f ps
 
--- where the last pair ends, 0 where there is none
-unfoldable pub last_end : Pairs → ℕ
-last_end none = 0
-last_end (pair a b none) = b
-last_end (pair a b (pair c d ps)) = last_end (pair c d ps)
-
 -- the number of pairs, from the first on, that end below s
 unfoldable pub count_ending_below : ℕ → Pairs → ℕ
 count_ending_below s none = 0

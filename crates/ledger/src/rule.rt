@@ -1,7 +1,7 @@
 // The ledger rule, and how many bytes a ledger holds.
-ghost use Rattle.std.specs.Prelude.{◌≡◌, true, ◌&&◌, ◌+◌, ◌*◌, ◌-◌, ◌%◌, ◌≤◌, ◌<◌, min, leb, eqb, length, get_or, drop};
-ghost use Rattle.ledger.specs.Pairs.{size, total, ends_at_most};
-ghost use Rattle.ledger.specs.Ledger.{length_wrong, all_zero, rises, obeys, ledger_refusal, pairs_of, has_pair};
+ghost use Rattle.std.specs.Prelude.{◌≡◌, ◌&&◌, suc, ◌+◌, ◌%◌, ◌≤◌, min, leb, ltb, eqb, length, get_or, drop};
+ghost use Rattle.ledger.specs.Pairs.{total, ends_at_most};
+ghost use Rattle.ledger.specs.Ledger.{length_wrong, all_zero, obeys_from, obeys, ledger_refusal, pairs_of, has_pair};
 
 use sums::sum;
 
@@ -61,121 +61,59 @@ fn zero_pairs(entries: &[u64]) -> bool
     entries.len() % 2 == 0
 }
 
+// Whether there is a used pair at the place i of the entries.
+fn pair_used(ledger: &[u64], i: usize) -> bool
+    requires { i ≤ length ledger.now }
+    ensures { result ≡ ltb 0 (get_or ledger.now (i + 1) 0) }
+{
+    if ledger.len() <= i + 1 {
+        return false;
+    }
+    0 < ledger[i + 1]
+}
+
 // Whether the ledger has a used pair: the first is used, or none is.
 pub fn has_pair(ledger: &[u64]) -> bool
     ensures { result ≡ has_pair ledger.now }
 {
-    if ledger.len() < 2 {
-        return false;
-    }
-    0 < ledger[1]
+    pair_used(ledger, 0)
 }
 
-// How many pairs are used, found by halving where there is one. In a list that breaks the rule it is where the looks lead.
-fn used(ledger: &[u64]) -> usize
-    ensures { (2 * result ≤ length ledger.now) × (obeys ledger.now ≡ true → result ≡ size (pairs_of ledger.now)) }
+// Whether the pairs after the first obey the rule, where that one ends at `first`, and no end is above the limit. Ends that obey the rule
+// rise, so that the last one tells.
+fn obeys_after(ledger: &[u64], first: u64, limit: u64) -> bool
+    requires { 2 ≤ length ledger.now }
+    ensures { result ≡ (leb first limit && (obeys_from (suc first) (drop 2 ledger.now) && ends_at_most limit (pairs_of (drop 2 ledger.now)))) }
 {
-    if !has_pair(ledger) {
-        return 0;
-    }
-    let mut low = 0;
-    let mut high = ledger.len() / 2;
-    while low < high {
-        let middle = low + (high - low) / 2;
-        if ledger[2 * middle + 1] == 0 {
-            high = middle;
-        } else {
-            low = middle + 1;
-        }
-    }
-    low
-}
-
-// Whether each of 16 entries from a place on is less than the next.
-fn rises_run(entries: &[u64], from: usize) -> bool
-    requires { from + 16 < length entries.now }
-    ensures { (result && rises (drop (from + 16) entries.now)) ≡ rises (drop from entries.now) }
-{
-    let mut i = from;
-    while i < from + 16 {
-        if entries[i + 1] <= entries[i] {
+    let mut end = first;
+    let mut i = 2;
+    while pair_used(ledger, i) {
+        if ledger[i] <= end {
             return false;
         }
-        i += 1;
-    }
-    true
-}
-
-// Whether each entry is less than the next, 16 at a time as long as there are so many.
-fn rises(entries: &[u64]) -> bool
-    ensures { result ≡ rises entries.now }
-{
-    let mut i = 0;
-    while i + 16 < entries.len() {
-        if !rises_run(entries, i) {
+        if ledger[i + 1] <= ledger[i] {
             return false;
         }
-        i += 16;
+        end = ledger[i + 1];
+        i += 2;
     }
-    while i + 1 < entries.len() {
-        if entries[i] >= entries[i + 1] {
-            return false;
-        }
-        i += 1;
-    }
-    true
-}
-
-// Whether the last entry, where there is one, is at most the limit.
-fn last_at_most(entries: &[u64], limit: u64) -> bool
-    ensures { result ≡ leb (get_or entries.now (length entries.now - 1) 0) limit }
-{
-    if entries.len() == 0 {
-        return true;
-    }
-    entries[entries.len() - 1] <= limit
-}
-
-// Whether the ledger obeys its rule with no end above the limit, where n are its used pairs. Their entries rise from the first to the last,
-// so that the last end tells of all; zeros follow.
-fn obeys_with(ledger: &[u64], n: usize, limit: u64) -> bool
-    requires { (2 * n ≤ length ledger.now) × (obeys ledger.now ≡ true → n ≡ size (pairs_of ledger.now)) }
-    ensures { result ≡ (obeys ledger.now && ends_at_most limit (pairs_of ledger.now)) }
-{
-    if !last_at_most(&ledger[..2 * n], limit) {
+    if limit < end {
         return false;
     }
-    if !rises(&ledger[..2 * n]) {
-        return false;
-    }
-    zero_pairs(&ledger[2 * n..])
+    zero_pairs(&ledger[i..])
 }
 
-// What the rule's test finds.
-#[derive(Clone, Copy)]
-pub struct RuleCheck {
-    // Whether the ledger obeys its rule with no end above the limit.
-    pub obeys: bool,
-    // How many pairs are used, where it does.
-    pub used: usize,
-}
-
-pub fn check(ledger: &[u64], limit: u64) -> RuleCheck
-    ensures { (result.obeys ≡ (obeys ledger.now && ends_at_most limit (pairs_of ledger.now))) × (2 * result.used ≤ length ledger.now) × (result.obeys ≡ true → result.used ≡ size (pairs_of ledger.now)) }
-{
-    let n = used(ledger);
-    RuleCheck {
-        obeys: obeys_with(ledger, n, limit),
-        used: n,
-    }
-}
-
-// Its answer alone.
+// Whether the ledger obeys its rule with no end above the limit.
 pub fn obeys(ledger: &[u64], limit: u64) -> bool
     ensures { result ≡ (obeys ledger.now && ends_at_most limit (pairs_of ledger.now)) }
 {
-    let found = check(ledger, limit);
-    found.obeys
+    if !pair_used(ledger, 0) {
+        return zero_pairs(ledger);
+    }
+    if ledger[1] <= ledger[0] {
+        return false;
+    }
+    obeys_after(ledger, ledger[1], limit)
 }
 
 // The number by which a ledger that is to be written is refused: 53 for its length, 1 for its rule, 0 where it is accepted.
