@@ -1,28 +1,23 @@
 // The receiver as a host holds it, by value, and what a call of it answers.
-ghost use Rattle.std.specs.Prelude.{◌≡◌, true, cond, List, ℕ, ◌<◌, eqb, length};
+ghost use Rattle.std.specs.Prelude.{◌≡◌, true, List, ℕ, ◌<◌, length};
 ghost use Rattle.checks.specs.ReportOf.{report_with_file};
 ghost use Rattle.transfer.specs.declared.state.Transfer.{Transfer};
 ghost use Rattle.transfer.specs.Channel.{channel_at};
-ghost use Rattle.transfer.specs.Transfer.{ended_of, world, verdict_of};
-ghost use Rattle.transfer.specs.Receive.{is_non_empty, took, refusal_of, receive_of};
+ghost use Rattle.transfer.specs.Transfer.{used_of, ended_of, world, verdict_of};
+ghost use Rattle.transfer.specs.Receive.{is_non_empty, refusal_of, receive_of};
 ghost use Rattle.transfer.specs.Fit.{fits};
-ghost use Rattle.channels.specs.ChannelState.{write_back};
-ghost use Rattle.channels.specs.OtherChannels.{CountsOthers};
 ghost use Rattle.verdicts.specs.Verdict.{to_verdict};
 ghost use Rattle.runs.specs.Runs.{take_bytes_on};
-ghost use Rattle.receiver.specs.declared.receive.Answer.TheVariants.{Took, Refused};
+ghost use Rattle.receiver.specs.declared.receive.Answer.TheVariants.{Refused};
 ghost use Rattle.receiver.specs.Answers.{to_answer};
 
 use crate::transfer_channel;
 use channelchecks::report::FitReport;
-use channels::channel_state::ChannelState;
 use channels::other_channels;
-use channels::other_channels::OtherChannels;
 use checks::fit;
 use counts::count;
 use ledger::rule;
 use runs::take;
-use runs::take::CallResult;
 use transfer::state::Transfer;
 use verdicts::verdict;
 use verdicts::verdict::Verdict;
@@ -81,61 +76,48 @@ fn channel_index(channel: u64) -> usize
     0
 }
 
-// What a call answers that is refused by that number, 0 where it is not, and otherwise took so many bytes.
-fn answered(refused: u8, taken: usize) -> Answer
-    ensures { result ≡ cond (eqb refused 0) (Took taken) (Refused refused) }
+// What a refused call answers.
+fn refused(t: Transfer, n: u8, doubtful: &[u64]) -> Received
+    ensures { (result.receiver.transfer ≡ t) × (result.answer ≡ Refused n) × ((file claimed : List ℕ) → to_verdict result.verdict ≡ verdict_of (world t file claimed doubtful.now)) }
 {
-    if refused == 0 {
-        return Answer::Took(taken);
+    let shown = verdict::of_transfer(t, doubtful);
+    Received {
+        receiver: Receiver { transfer: t },
+        verdict: shown,
+        answer: Answer::Refused(n),
     }
-    Answer::Refused(refused)
 }
 
-// How many channels have ended beside the one at hand, for what FIT found; of a transfer that does not fit, all that have.
-fn ended_beside(t: Transfer, fits: bool, others: u64) -> u64
-    ensures { result ≡ cond fits others (ended_of t) }
-{
-    if fits {
-        return others;
-    }
-    count::ended(t)
-}
-
-// The state of the one at hand, which is counted already where the transfer does not fit.
-fn state_beside(fits: bool, state: u8) -> u8
-    ensures { result ≡ cond fits state 0 }
-{
-    if fits {
-        return state;
-    }
-    0
-}
-
-// The bytes of a piece, none of them by a call that is refused by that number.
-fn take_unless(
-    refused: u8,
-    x: ChannelState,
+// What a call that is not refused answers, on channel c, for what FIT found.
+fn taken(
+    t: Transfer,
     c: usize,
-    o: OtherChannels,
+    found: FitReport,
     piece: &[u8],
     file: &mut [u8],
     claimed: &mut [u64],
     doubtful: &mut [u64],
-) -> CallResult
-    ensures { (0 < refused → (result.channel ≡ x) × (file.new ≡ file.old) × (claimed.new ≡ claimed.old) × (doubtful.new ≡ doubtful.old)) × (refused ≡ 0 → (t : Transfer) → CountsOthers t c o → fits (world (write_back t c x) file.old claimed.old doubtful.old) ≡ true → (took result.taken, world (write_back t c result.channel) file.new claimed.new doubtful.new) ≡ take_bytes_on c (world (write_back t c x) file.old claimed.old doubtful.old) piece.now 0) }
+) -> Received
+    requires { (c < 64) × (fits (world t file.old claimed.old doubtful.old) ≡ true) × (found.used ≡ used_of t) × (found.ended ≡ ended_of t) }
+    ensures { ((to_answer result.answer, world result.receiver.transfer file.new claimed.new doubtful.new) ≡ take_bytes_on c (world t file.old claimed.old doubtful.old) piece.now 0) × (to_verdict result.verdict ≡ verdict_of (world result.receiver.transfer file.new claimed.new doubtful.new)) }
 {
-    if 0 < refused {
-        return CallResult {
-            channel: x,
-            taken: 0,
-        };
+    let k = t.channels[c];
+    let o = other_channels::counts_without(t.len, found, k.state);
+    let x = transfer_channel::of(t.count, t.fault, t.on, k, &t.heads, c);
+    let r = take::take(x, c, o, piece, file, claimed, doubtful);
+    let y = r.channel;
+    let shown = verdict::of(y.fault, y.count, o.ended, y.state, rule::has_pair(doubtful));
+    Received {
+        receiver: Receiver {
+            transfer: transfer_channel::write_back(t, c, y),
+        },
+        verdict: shown,
+        answer: Answer::Took(r.taken),
     }
-    take::take(x, c, o, piece, file, claimed, doubtful)
 }
 
 impl Receiver {
-    // Takes a piece on a channel. Refused by 1 to 4 it changes nothing; a fault is no refusal, it shows in the verdict. A refused call goes
-    // the same way as any other, taking no byte, so that the compiler copies the transfer once for the answer.
+    // Takes a piece on a channel. Refused by 1 to 4 it changes nothing; a fault is no refusal, it shows in the verdict.
     pub fn receive(
         self,
         channel: u64,
@@ -151,24 +133,9 @@ impl Receiver {
         let c = channel_index(channel);
         let k = t.channels[c];
         let n = refusal(found, t.fault, t.count, k.state, channel, 0 < piece.len());
-        let o = other_channels::counts_without(t.len, found, k.state);
-        let beside = ended_beside(t, found.fits, o.ended);
-        let x = transfer_channel::of(t.count, t.fault, t.on, k, &t.heads, c);
-        let r = take_unless(n, x, c, o, piece, file, claimed, doubtful);
-        let y = r.channel;
-        let shown = verdict::of(
-            y.fault,
-            y.count,
-            beside,
-            state_beside(found.fits, y.state),
-            rule::has_pair(doubtful),
-        );
-        Received {
-            receiver: Receiver {
-                transfer: transfer_channel::write_back(t, c, y),
-            },
-            verdict: shown,
-            answer: answered(n, r.taken),
+        if 0 < n {
+            return refused(t, n, doubtful);
         }
+        taken(t, c, found, piece, file, claimed, doubtful)
     }
 }
