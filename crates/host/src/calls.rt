@@ -1,14 +1,13 @@
 // The calls on one transfer, which goes in and comes back by value. Those named cob2 were called cob in the first version of this interface, with one
 // ledger: an object compiled for that version does not link with this one.
-ghost use Rattle.std.specs.Prelude.{◌≡◌, ◌≤◌, ◌<◌};
+ghost use Rattle.std.specs.Prelude.{◌≡◌};
 ghost use Rattle.transfer.specs.Transfer.{world, start_refusal, start_of, start_after};
 ghost use Rattle.transfer.specs.Receive.{receive_of};
 ghost use Rattle.verdicts.specs.Verdict.{to_verdict};
-ghost use Rattle.receiver.specs.Answers.{to_answer};
 ghost use Rattle.receiver.specs.Shown.{shown_of};
 ghost use Rattle.receiver.specs.declared.show.Screen.TheVariants.{Shows, Refused};
 ghost use Rattle.screen.specs.Screen.{screen_of, screen_after};
-ghost use Rattle.host.specs.Received.{verdict_code, taken_in, refusal_in, received_by};
+ghost use Rattle.host.specs.Received.{verdict_code, received_by};
 ghost use Rattle.host.specs.Shown.{shown_by};
 ghost use Rattle.host.specs.Written.{written_of};
 
@@ -71,53 +70,14 @@ pub extern "C" fn cob2_start(len: u64, claimed: &mut [u64], doubtful: &mut [u64]
     }
 }
 
-// The numbers of GUESS and RESULT.
-fn low_code(v: Verdict) -> u8
-    ensures { verdict_code (to_verdict v) < 2 → result ≡ verdict_code (to_verdict v) }
-{
-    match v {
-        Verdict::Guess => 0,
-        _ => 1,
-    }
-}
-
-// The numbers of BROKEN and SUSPECT.
-fn high_code(v: Verdict) -> u8
-    ensures { 2 ≤ verdict_code (to_verdict v) → result ≡ verdict_code (to_verdict v) }
-{
-    match v {
-        Verdict::Broken => 2,
-        _ => 3,
-    }
-}
-
-// By two arms at a time: the compiler keeps a case that cannot be for a match of more, and with it a copy of the transfer in each call.
 fn verdict_code(v: Verdict) -> u8
     ensures { result ≡ verdict_code (to_verdict v) }
 {
     match v {
-        Verdict::Guess | Verdict::Result => low_code(v),
-        _ => high_code(v),
-    }
-}
-
-// The bytes of the piece that were taken.
-fn taken_in(answer: Answer) -> usize
-    ensures { result ≡ taken_in (to_answer answer) }
-{
-    match answer {
-        Answer::Took(n) => n,
-        Answer::Refused(_) => 0,
-    }
-}
-
-// The number of the refusal, 0 where there is none.
-fn refusal_in(answer: Answer) -> u8
-    ensures { result ≡ refusal_in (to_answer answer) }
-{
-    match answer {
-        Answer::Took(_) => 0,
-        Answer::Refused(k) => k,
+        Verdict::Guess => 0,
+        Verdict::Result => 1,
+        Verdict::Broken => 2,
+        Verdict::Suspect => 3,
     }
 }
 
@@ -137,12 +97,21 @@ pub extern "C" fn cob2_receive(
     let after = received.receiver;
     let t = after.transfer;
     let verdict = received.verdict;
+    let word = verdict_code(verdict);
     let answer = received.answer;
-    Received {
-        transfer: t,
-        taken: taken_in(answer),
-        verdict: verdict_code(verdict),
-        refused: refusal_in(answer),
+    match answer {
+        Answer::Took(n) => Received {
+            transfer: t,
+            taken: n,
+            verdict: word,
+            refused: 0,
+        },
+        Answer::Refused(k) => Received {
+            transfer: t,
+            taken: 0,
+            verdict: word,
+            refused: k,
+        },
     }
 }
 
