@@ -1,5 +1,4 @@
 -- `rule::has_pair`.
-use borrow.Author.Rules.{rules}
 use Rattle.ledger.specs.Ledger.{has_pair}
 use Rattle.ledger.proofs.rule.has_pair.Goals as goal
 

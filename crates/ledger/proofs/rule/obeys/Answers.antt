@@ -6,7 +6,6 @@ use borrow.Author.Tests.{ltb-true, ltb-false, not-true, not-false}
 use lib.ListN.{length, get_or}
 use Rattle.ledger.specs.Ledger.{obeys}
 use Rattle.ledger.proofs.LedgerPairAt.{sound, sound_after, used-inside, sound-rest, sound-turned, sound-next}
-use borrow.Author.Rules.{rules}
 use Rattle.ledger.proofs.rule.obeys.Goals as goal
 use Rattle.ledger.proofs.rule.obeys.Goals.{Else-not-pair_used}
 

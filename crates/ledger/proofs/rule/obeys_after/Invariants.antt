@@ -1,15 +1,8 @@
 -- `rule::obeys_after`: the pairs passed obey the rule; those that are left decide, and the last end.
-use Prim.Native.Nat.{suc, ◌+◌, ◌-◌, ◌%◌, ◌≤◌, ◌<◌}
-use mathlib.Core.Path.{◌≡◌, refl, sym, ap, ◌∙◌}
-use mathlib.Core.Bool.{false, ◌&&◌}
-use native.Mathlib.Omega.{arith}
-use borrow.Author.Rules.{rules}
-use borrow.Author.Tests.{le-leb, lt-leb, ltb-true, ltb-false}
-use lib.Dec.{eqb}
-use lib.ListN.{length, get_or, drop, length-drop}
-use lib.Seq.{take_all}
-use Rattle.ledger.specs.Ledger.{all_zero}
-use Rattle.ledger.proofs.LedgerPairAt.{sound, sound_after, used-inside, sound-rest, after-low, after-turned, after_next}
+use Prim.Native.Nat.{◌-◌, ◌≤◌}
+use mathlib.Core.Path.{◌≡◌}
+use lib.ListN.{length, drop}
+use Rattle.ledger.proofs.LedgerPairAt.{sound_after}
 use Rattle.ledger.proofs.rule.obeys_after.Given as goal
 
 abbrev pub invariant-loop-first : goal.invariant-loop-first

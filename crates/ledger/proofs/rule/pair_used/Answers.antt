@@ -2,7 +2,6 @@
 use Prim.Native.Nat.{◌+◌}
 use native.Mathlib.Omega.{arith}
 use lib.ListN.{get_or-eq_default}
-use borrow.Author.Rules.{rules}
 use Rattle.ledger.proofs.rule.pair_used.Goals as goal
 
 pub returns-then-ledger-i : goal.returns-then-ledger-i
