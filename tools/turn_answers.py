@@ -5,13 +5,14 @@ usage: python3 tools/turn_answers.py CRATE NAMES [VIEWS]    CRATE is a folder cr
 wrote there; VIEWS what `rt check --generated DIR` wrote after a first turn, which says which places have a record of their own
 
 It goes by text. A goal, a place, a step and a field get the names that NAMES lists; answers that only call a tactic on what is known are left out, since the
-check tries those itself; what a proof said of its own stays in Answers.antt. Each Proof.antt moves to /tmp/old-proofs/CRATE/F.antt.
+check tries those itself; what a proof said of its own stays in Answers.antt. Each Proof.antt moves to old-proofs/CRATE/F.antt in the folder for temporary files.
 """
 
 import json
 import os
 import re
 import sys
+import tempfile
 
 IDENT = r"[^\W\d][\w'₀-]*"
 TRIVIAL = re.compile(r"^(search rules|omega arith|search \(rules\)|hlevel|refl|tt)$")
@@ -590,7 +591,7 @@ def convert(path, fn, module, crate):
         ans_text += ([comment] if comment else []) + [f"pub {new} : goal.{new}"] + ([unf.rstrip("\n")] if unf else []) + [f"{new}{argtext} ={rhs}".rstrip("\n"), ""]
     body_text = "\n".join(need_text + ans_text)
     folder = os.path.dirname(path)
-    kept = "/tmp/old-proofs/" + crate + "/" + os.path.relpath(folder, "crates/" + crate + "/proofs").replace("/", "~") + ".antt"
+    kept = tempfile.gettempdir() + "/old-proofs/" + crate + "/" + os.path.relpath(folder, "crates/" + crate + "/proofs").replace("/", "~") + ".antt"
     os.makedirs(os.path.dirname(kept), exist_ok=True)
     os.replace(path, kept)
     top = "\n".join(comment_top)
