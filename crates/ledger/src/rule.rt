@@ -20,7 +20,7 @@ pub fn length_wrong(ledger: &[u64]) -> bool
     ENTRY_LIMIT < ledger.len()
 }
 
-// 64 entries from a place on, joined: as many as the compiler makes straight vector code of.
+// 64 entries from a place on, joined.
 fn joined(entries: &[u64], from: usize) -> u64
     requires { from + 64 ≤ length entries.now }
     ensures { (eqb result 0 && all_zero (drop (from + 64) entries.now)) ≡ all_zero (drop from entries.now) }

@@ -1,4 +1,4 @@
--- Every whole record is malformed or well_formed, and bytes begin with one, with a cut one or with one that is too long.
+-- Every whole record is malformed or well-formed, and bytes begin with one, with a cut one or with one that is too long.
 use Prim.Native.Nat.{ℕ, ◌+◌, ◌≤◌, ◌<◌}
 use mathlib.Core.Path.{◌≡◌, refl, sym, ap, ◌∙◌, subst}
 use mathlib.Core.Logic.{◌⊎◌, inl, inr}

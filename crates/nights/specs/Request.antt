@@ -12,7 +12,7 @@ pair_limit = 256
 abbrev pub piece_limit : ℕ
 piece_limit = 16384
 
--- the most that the length field of a well_formed record says: kind, channel and the longest piece
+-- the most that the length field of a well-formed record says: kind, channel and the longest piece
 abbrev pub record_limit : ℕ
 record_limit = 16387
 

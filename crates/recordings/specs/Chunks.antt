@@ -39,7 +39,7 @@ pub record Chunks : Type 0 where
       → world_in (replay_state_of (feeds k cs).1) ≡ w
   -- nothing more is read exactly where the definition has stopped
   pub stops_is : (k : Kept) (cs : List (List ℕ)) → Begun k → Counted (joined cs) → (feeds k cs).1.session.stopped ≡ (after (joined cs)).stopped
-  -- what is held between chunks is shorter than the longest record that can be well_formed
+  -- what is held between chunks is shorter than the longest record that can be well-formed
   pub held_few : (k : Kept) (cs : List (List ℕ)) → Begun k → (feeds k cs).1.session.held < 4 + 16387
   -- a further chunk is refused only where fewer bytes are lent than 192 and 16 for each of its own
   pub refused_by : (k : Kept) (cs : List (List ℕ)) (chunk out : List ℕ) → Begun k → feed_refusal (feeds k cs).1 chunk out ≡ room_refusal (192 + 16 * length chunk) out

@@ -88,7 +88,7 @@ kept s held file claimed doubtful = record { session = s; held = held; file = fi
 abbrev pub replay_state_of : Kept → ReplayState
 replay_state_of k = replay_state k.session.progress k.file k.claimed k.doubtful
 
--- as much as the longest record that can be well_formed has, with its length field
+-- as much as the longest record that can be well-formed has, with its length field
 abbrev pub held_limit : ℕ
 held_limit = field_length + record_limit
 

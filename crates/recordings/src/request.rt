@@ -21,7 +21,7 @@ const PIECE_LIMIT: usize = 16384;
 // Frame and channel.
 pub const BEFORE_PIECE: usize = 7;
 
-// The most that the length field of a well_formed record says: kind, channel and the longest piece.
+// The most that the length field of a well-formed record says: kind, channel and the longest piece.
 pub const RECORD_LIMIT: u64 = 16387;
 
 // A start with its numbers, or a piece with its channel.

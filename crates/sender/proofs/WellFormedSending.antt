@@ -1,4 +1,4 @@
--- The sending of a file is well_formed, given at most 4,096 blocks with bytes and as many pairs.
+-- The sending of a file is well-formed, given at most 4,096 blocks with bytes and as many pairs.
 use Prim.Native.Nat.{ℕ, zero, suc, ◌+◌, ◌*◌, ◌^◌, ◌≤◌, ◌<◌}
 use mathlib.Core.Path.{◌≡◌, refl, sym, ap, ◌∙◌}
 use mathlib.Core.Bool.{Bool, true, false, cond}

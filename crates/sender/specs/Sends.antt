@@ -66,7 +66,7 @@ pub record CanEnd : Type 0 where
 
 -- ---- what the sending is
 
--- well_formed, for a receiver whose file has that length and whose ledgers have a pair for each block
+-- well-formed, for a receiver whose file has that length and whose ledgers have a pair for each block
 pub record WellFormedSending : Type 0 where
   pub is : (file : List ℕ) (count size : ℕ) → begin_refusal count size ≡ 0 → block_count (length file) size ≤ 4096 → (R : ℕ) → block_count (length file) size ≤ R → WellFormed (length file) R none (sending file count size)
   -- no block has bit 32, so that it never ends with SUSPECT (document 02, Item 3)

@@ -1,4 +1,4 @@
--- No sending is left out: calls that are taken whole and end with RESULT or SUSPECT are an arrival of a well_formed sending.
+-- No sending is left out: calls that are taken whole and end with RESULT or SUSPECT are an arrival of a well-formed sending.
 use Prim.Native.Nat.{ℕ, ◌+◌, ◌≤◌}
 use mathlib.Core.Path.{◌≡◌, sym, ◌∙◌}
 use mathlib.Core.Logic.{◌⊎◌, ⊎_elim}

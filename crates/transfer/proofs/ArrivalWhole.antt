@@ -1,4 +1,4 @@
--- Every arrival of a well_formed sending is taken whole, shows GUESS until its last byte and then RESULT or SUSPECT, and leaves the file that was sent.
+-- Every arrival of a well-formed sending is taken whole, shows GUESS until its last byte and then RESULT or SUSPECT, and leaves the file that was sent.
 use Prim.Native.Nat.{ℕ, zero, suc, ◌≤◌, ◌<◌}
 use mathlib.Core.Path.{◌≡◌, refl, sym, ap, ◌∙◌}
 use mathlib.Core.Logic.{◌↔◌, inl, inr}

@@ -1,4 +1,4 @@
--- A complete tally is that of a well_formed sending: each channel that was used is one life, with the blocks that it took.
+-- A complete tally is that of a well-formed sending: each channel that was used is one life, with the blocks that it took.
 use Prim.Native.Nat.{ℕ, zero, suc, ◌+◌, ◌-◌, ◌≤◌, ◌<◌}
 use mathlib.Core.Path.{◌≡◌, refl, sym, ap, ◌∙◌, subst}
 use mathlib.Core.Bool.{Bool, true, false, cond}

@@ -1,4 +1,4 @@
--- The screen line's example is a well_formed sending, and its three calls are an arrival of it; with bit 32 it is well_formed too.
+-- The screen line's example is a well-formed sending, and its three calls are an arrival of it; with bit 32 it is well-formed too.
 use Prim.Native.Nat.{ℕ, zero, suc, ◌+◌, ◌≤◌, ◌<◌}
 use mathlib.Core.Path.{◌≡◌, refl}
 use mathlib.Core.Bool.{false}

@@ -1,4 +1,4 @@
--- A byte of a well_formed sending meets no fault.
+-- A byte of a well-formed sending meets no fault.
 use Prim.Native.Nat.{ℕ, suc, ◌+◌, ◌≤◌, ◌<◌}
 use mathlib.Core.Path.{◌≡◌, refl, sym, ap, ◌∙◌, subst}
 use mathlib.Core.Logic.{◌⊎◌, inl, inr}

@@ -1,4 +1,4 @@
--- What a well_formed sending says of the streams that all its bytes make, and that these put into a file what is sent.
+-- What a well-formed sending says of the streams that all its bytes make, and that these put into a file what is sent.
 use Prim.Native.Nat.{ℕ, zero, suc, ◌+◌, ◌≤◌, ◌<◌}
 use mathlib.Core.Path.{◌≡◌, refl, sym, ap, ◌∙◌, subst}
 use mathlib.Core.Bool.{cond}

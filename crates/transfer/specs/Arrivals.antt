@@ -1,4 +1,4 @@
--- Every arrival of every well_formed sending: the last sentence of demand 3, a field for each of its parts (document 01; document 02, Item 3).
+-- Every arrival of every well-formed sending: the last sentence of demand 3, a field for each of its parts (document 01; document 02, Item 3).
 use Rattle.std.specs.Prelude.{ℕ, suc, ◌+◌, ◌≤◌, ◌<◌, ◌≡◌, ◌↔◌, ◌⊎◌, List, ◌∷◌, ◌++◌, length, get_or}
 use Rattle.ledger.specs.Pairs.{Pairs, size}
 use Rattle.transfer.specs.Transfer.{World, guess, result, suspect, verdict_of}
@@ -32,7 +32,7 @@ pub record EveryArrival : Type 0 where
       → Arrives w file s ks
   -- every sending has an arrival
   pub has_arrival : (s : List SentChannel) → (ks : List Call) × Arrival s ks
-  -- no sending is left out: what is taken whole and ends with RESULT or SUSPECT is a well_formed sending, for ledgers with a pair for each payload
+  -- no sending is left out: what is taken whole and ends with RESULT or SUSPECT is a well-formed sending, for ledgers with a pair for each payload
   -- that is not empty and for each range held before
   pub only_well_formed : (w : World) (file : List ℕ) (R : ℕ) (before : Pairs) → StartedWith w file R before → (ks : List Call) → AllTaken w ks
       → (verdict_of (after w ks) ≡ result) ⊎ (verdict_of (after w ks) ≡ suspect)

@@ -22,7 +22,7 @@ pub record Demand3 : Type 1 where
   pub each_call : EachCall
   -- after every list of calls
   pub every_list : EveryList
-  -- for every arrival of every well_formed sending
+  -- for every arrival of every well-formed sending
   pub every_arrival : EveryArrival
   -- an instance
   pub example : Example

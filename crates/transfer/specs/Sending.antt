@@ -13,7 +13,7 @@ pub record SentChannel : Type 0 where
   pub number : ℕ
   pub blocks : List Block
 
--- ---- well_formed
+-- ---- well-formed
 
 -- a block as it should be, for a file of F bytes
 pub record WellFormedBlock (F : ℕ) (x : Block) : Type 0 where
