@@ -22,27 +22,11 @@ LEMMAS = {
 }
 
 
-def antt_files(root):
-    for folder, dirs, files in os.walk(os.path.join(root, "crates")):
+def files(root, *endings):
+    for folder, dirs, names in os.walk(os.path.join(root, "crates")):
         dirs[:] = sorted(d for d in dirs if d != "out")
-        for f in sorted(files):
-            if f.endswith(".antt"):
-                yield os.path.join(folder, f)
-
-
-def rt_files(root):
-    for folder, dirs, files in os.walk(os.path.join(root, "crates")):
-        dirs[:] = sorted(d for d in dirs if d != "out")
-        for f in sorted(files):
-            if f.endswith(".rt"):
-                yield os.path.join(folder, f)
-
-
-def edit_files(root):
-    for folder, dirs, files in os.walk(os.path.join(root, "crates")):
-        dirs[:] = sorted(d for d in dirs if d != "out")
-        for f in sorted(files):
-            if f.endswith(".edit"):
+        for f in sorted(names):
+            if f.endswith(endings):
                 yield os.path.join(folder, f)
 
 
@@ -53,7 +37,7 @@ def snake(name):
 def own_names(root):
     """The names that the files of specs/ and proofs/ declare, each with whether it is a field or a constructor."""
     found = {}
-    for path in antt_files(root):
+    for path in files(root, ".antt"):
         if os.path.basename(path) in ("Proof.antt", "Answers.antt", "Invariants.antt"):
             inner = True
         else:
@@ -86,7 +70,7 @@ def renamings(root):
         if new != name:
             to[name] = new
     # what is left: lemmas inside others, names of an import, variables
-    for path in antt_files(root):
+    for path in files(root, ".antt"):
         text = open(path, encoding="utf-8").read()
         for token in set(re.findall(r"(?<![\w'-])[a-z][\w'-]*", text)) - imported(text):
             if re.search(r"[a-z0-9][A-Z]", token) and len(token) > 2:
@@ -123,7 +107,7 @@ def main(argv):
         if len(names) > 1:
             print(f"falls together: {' '.join(names)} -> {b}")
     tokens = {}
-    for path in list(antt_files(root)) + list(rt_files(root)):
+    for path in files(root, ".antt", ".rt"):
         for t in set(re.findall(r"(?<![\w'-])[a-z][\w'-]*", open(path, encoding="utf-8").read())):
             tokens.setdefault(t, []).append(path)
     for b in sorted(new):
@@ -133,7 +117,7 @@ def main(argv):
         for a, b in sorted(to.items()):
             print(f"{a} -> {b}")
         return 0
-    for path in list(antt_files(root)) + list(rt_files(root)) + list(edit_files(root)):
+    for path in files(root, ".antt", ".rt", ".edit"):
         text = open(path, encoding="utf-8").read()
         after = text
         for module, names in LEMMAS.items():
