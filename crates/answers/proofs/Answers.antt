@@ -1,16 +1,18 @@
 -- `Answers` holds.
 use mathlib.Core.Path.{refl}
 use lib.ListN.{length}
-use Rattle.answers.specs.Loaded.{loaded_number}
-use Rattle.answers.specs.Written.{written_number, written_bytes}
+use Rattle.answers.specs.Written.{written_bytes}
 use Rattle.answers.specs.Answers.{Answers}
+use Rattle.answers.proofs.Numbers.{apart, above_0}
 use Rattle.answers.proofs.WrittenBy.{first_some, first-none, room-short, room-enough, refuses, writes}
 
 pub answers : Answers
-unfolding loaded_number written_number written_bytes
+unfolding written_bytes
 answers =
     record {
-      loaded = refl;
+      apart = apart;
+      above_0 = above_0;
+      loaded = λ u. refl;
       not_loaded = λ k. refl;
       written = λ n. (refl, refl);
       not_written = λ k. (refl, refl);

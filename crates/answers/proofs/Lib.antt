@@ -1,3 +1,4 @@
 pub mod WritesAt
 pub mod WrittenBy
+pub mod Numbers
 pub mod Answers

@@ -7,8 +7,9 @@ use native.Mathlib.Decide.{dec_lt}
 use borrow.Author.Tests.{lt-ltb, le-ltb}
 use lib.ListN.{length, drop}
 use lib.Seq.{sets}
-use Rattle.answers.specs.Written.{written_number, written_bytes, first_refusal, room_refusal, written_by, written_after, Refuses, Writes}
-use Rattle.answers.specs.declared.written.Written.TheVariants.{Bytes, Refused}
+use Rattle.answers.specs.Refusal.{number_in}
+use Rattle.answers.specs.Written.{written_bytes, first_refusal, room_refusal, written_by, written_after, Refuses, Writes}
+use Rattle.std.specs.Prelude.{Ok, Err}
 use Rattle.answers.proofs.WritesAt.{sets_first}
 
 -- ---- the number
@@ -50,34 +51,34 @@ module _ (n : ℕ) (out : List ℕ) where
 -- ---- the answer and the lent bytes, where the number is j
 
 module _ (j n : ℕ) (text out : List ℕ) where
-  pub refused : (k : ℕ) → j ≡ k → 0 < k → (Refused k ≡ written_by j n) × (out ≡ written_after j text out)
+  pub refused : (k : ℕ) → j ≡ k → 0 < k → (Err k ≡ written_by j n) × (out ≡ written_after j text out)
   unfolding written_by written_after
   refused k e h = (rw (e, lt-ltb 0 k h), rw (e, lt-ltb 0 k h))
 
-  pub written : j ≡ 0 → (Bytes n ≡ written_by j n) × (text ++ drop (length text) out ≡ written_after j text out)
+  pub written : j ≡ 0 → (Ok n ≡ written_by j n) × (text ++ drop (length text) out ≡ written_after j text out)
   unfolding written_by written_after
   written e = (rw e, rw e)
 
   -- where the text was written at the first place
-  pub written-first : j ≡ 0 → length text ≤ length out → (Bytes n ≡ written_by j n) × (sets out 0 text ≡ written_after j text out)
+  pub written-first : j ≡ 0 → length text ≤ length out → (Ok n ≡ written_by j n) × (sets out 0 text ≡ written_after j text out)
   written-first e h =
       let w = written e in
       (w.0, sets_first text out h ∙ w.1)
 
   pub refuses : (k : ℕ) → j ≡ k → 0 < k → Refuses (written_by j n) (written_after j text out) out k
-  unfolding written_number written_bytes
+  unfolding written_bytes
   refuses k e h =
       let w = refused k e h in
-      record { number = sym (ap written_number w.0); bytes = sym (ap written_bytes w.0); unchanged = sym w.1 }
+      record { number = sym (ap number_in w.0); bytes = sym (ap written_bytes w.0); unchanged = sym w.1 }
 
   pub writes : j ≡ 0 → length text ≡ n → Writes (written_by j n) (written_after j text out) out text n
-  unfolding written_number written_bytes
+  unfolding written_bytes
   writes e l =
       let w = written e in
-      record { number = sym (ap written_number w.0); bytes = sym (ap written_bytes w.0); after_is = sym w.1 ∙ rw l }
+      record { number = sym (ap number_in w.0); bytes = sym (ap written_bytes w.0); after_is = sym w.1 ∙ rw l }
 
 -- nothing was refused where bytes were written
-pub written-only : (j n m : ℕ) → written_by j n ≡ Bytes m → (j ≡ 0) × (n ≡ m)
+pub written-only : (j n m : ℕ) → written_by j n ≡ Ok m → (j ≡ 0) × (n ≡ m)
 written-only j n m e = go (dec_lt 0 j)
   where
     go : Dec (0 < j) → (j ≡ 0) × (n ≡ m)

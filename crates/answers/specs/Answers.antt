@@ -1,15 +1,17 @@
 -- The number of each case of an answer, the bytes it says were written, and what every writer leaves.
-use Rattle.std.specs.Prelude.{ℕ, ◌≤◌, ◌<◌, ◌≡◌, List, length}
-use Rattle.answers.specs.Loaded.{loaded_number}
-use Rattle.answers.specs.Written.{written_number, written_bytes, first_refusal, room_refusal, written_by, written_after, Refuses, Writes}
-use Rattle.answers.specs.declared.loaded.Loaded.TheVariants.{Done, Refused}
-use Rattle.answers.specs.declared.written.Written.TheVariants.{Bytes, Refused as NotWritten}
+use Rattle.std.specs.Prelude.{ℕ, ◌≤◌, ◌<◌, ◌≡◌, ⊤, Ok, Err, List, length}
+use Rattle.answers.specs.Refusal.{number, number_in}
+use Rattle.answers.specs.declared.refusal.Refusal.{Refusal}
+use Rattle.answers.specs.Written.{written_bytes, first_refusal, room_refusal, written_by, written_after, Refuses, Writes}
 
 pub record Answers : Type 0 where
-  pub loaded : loaded_number Done ≡ 0
-  pub not_loaded : (k : ℕ) → loaded_number (Refused k) ≡ k
-  pub written : (n : ℕ) → (written_number (Bytes n) ≡ 0) × (written_bytes (Bytes n) ≡ n)
-  pub not_written : (k : ℕ) → (written_number (NotWritten k) ≡ k) × (written_bytes (NotWritten k) ≡ 0)
+  -- two refusals have different numbers, and none has 0
+  pub apart : (r s : Refusal) → number r ≡ number s → r ≡ s
+  pub above_0 : (r : Refusal) → 0 < number r
+  pub loaded : (u : ⊤) → number_in {A = ⊤} (Ok u) ≡ 0
+  pub not_loaded : (k : ℕ) → number_in {A = ⊤} (Err k) ≡ k
+  pub written : (n : ℕ) → (number_in {A = ℕ} (Ok n) ≡ 0) × (written_bytes (Ok n) ≡ n)
+  pub not_written : (k : ℕ) → (number_in {A = ℕ} (Err k) ≡ k) × (written_bytes (Err k) ≡ 0)
   -- the test that comes first says the number
   pub first_refuses : (k m : ℕ) → 0 < k → first_refusal k m ≡ k
   pub next_refuses : (m : ℕ) → first_refusal 0 m ≡ m

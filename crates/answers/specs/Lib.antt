@@ -1,4 +1,5 @@
-pub mod Written
+pub mod Refusal
 pub mod Loaded
+pub mod Written
 pub mod WritesAt
 pub mod Answers

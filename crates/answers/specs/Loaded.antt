@@ -1,9 +1,6 @@
 -- What a reader into a ledger answers.
-use Rattle.std.specs.Prelude.{ℕ}
-use Rattle.answers.specs.declared.loaded.Loaded.{Loaded}
-use Rattle.answers.specs.declared.loaded.Loaded.TheVariants.{Done, Refused}
+use Rattle.std.specs.Prelude.{ℕ, Result, ⊤}
 
--- document 01's number, 0 where nothing is refused
-unfoldable pub loaded_number : Loaded → ℕ
-loaded_number Done = 0
-loaded_number (Refused k) = k
+-- nothing, or the number by which it was refused
+abbrev pub Loaded : Type 0
+Loaded = Result ⊤ ℕ

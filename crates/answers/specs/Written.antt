@@ -1,17 +1,15 @@
 -- What a writer into lent bytes answers, and the lent bytes after it.
-use Rattle.std.specs.Prelude.{ℕ, ◌≡◌, cond, List, ◌++◌, ltb, length, drop}
-use Rattle.answers.specs.declared.written.Written.{Written}
-use Rattle.answers.specs.declared.written.Written.TheVariants.{Bytes, Refused}
+use Rattle.std.specs.Prelude.{ℕ, ◌≡◌, cond, Result, Ok, Err, List, ◌++◌, ltb, length, drop}
+use Rattle.answers.specs.Refusal.{number_in}
 
--- ---- document 01's number of an answer, 0 where nothing is refused, and how many bytes it says were written
+-- what a writer answers: how many bytes were written, or the number by which it was refused
+abbrev pub Written : Type 0
+Written = Result ℕ ℕ
 
-unfoldable pub written_number : Written → ℕ
-written_number (Bytes n) = 0
-written_number (Refused k) = k
-
+-- how many bytes it says were written, 0 where it was refused
 unfoldable pub written_bytes : Written → ℕ
-written_bytes (Bytes n) = n
-written_bytes (Refused k) = 0
+written_bytes (Ok n) = n
+written_bytes (Err k) = 0
 
 -- ---- the number of a refusal
 
@@ -27,7 +25,7 @@ room_refusal n out = cond (ltb (length out) n) 55 0
 
 -- refused by the number k, or n bytes written where it is 0
 unfoldable pub written_by : ℕ → ℕ → Written
-written_by k n = cond (ltb 0 k) (Refused k) (Bytes n)
+written_by k n = cond (ltb 0 k) (Err k) (Ok n)
 
 -- the lent bytes afterwards: as they were where k is above 0, else the text and then the lent bytes past it
 unfoldable pub written_after : ℕ → List ℕ → List ℕ → List ℕ
@@ -37,12 +35,12 @@ written_after k text out = cond (ltb 0 k) out (text ++ drop (length text) out)
 
 -- refused by this number, and the lent bytes are unchanged
 pub record Refuses (answer : Written) (after out : List ℕ) (k : ℕ) : Type 0 where
-  pub number : written_number answer ≡ k
+  pub number : number_in answer ≡ k
   pub bytes : written_bytes answer ≡ 0
   pub unchanged : after ≡ out
 
 -- this text of n bytes is written, and the lent bytes after it are unchanged
 pub record Writes (answer : Written) (after out text : List ℕ) (n : ℕ) : Type 0 where
-  pub number : written_number answer ≡ 0
+  pub number : number_in answer ≡ 0
   pub bytes : written_bytes answer ≡ n
   pub after_is : after ≡ text ++ drop n out

@@ -1,5 +1,4 @@
-// What the writers of lent bytes and the readers of ledgers answer.
+// Why a call is refused.
 #![tactic(auto)]
 
-pub mod loaded;
-pub mod written;
+pub mod refusal;

@@ -7,12 +7,12 @@ use mathlib.Core.List.{List}
 use native.Mathlib.Omega.{arith}
 use borrow.Author.Tests.{lt-ltb, le-ltb, eq-eqb, ne_eqb}
 use lib.ListN.{length}
-use Rattle.answers.specs.declared.written.Written.TheVariants.{Bytes}
+use Rattle.std.specs.Prelude.{Ok, Err}
 use Rattle.answers.specs.Written.{first_refusal, room_refusal}
 use Rattle.answers.proofs.WrittenBy.{first_some, first-none, first-zero, room-short, room-enough, room-zero, written-only}
 use Rattle.eblock.specs.Descriptor.{has, eodc, fault_of}
 use Rattle.eblock.specs.Header.{header_length, count_limit, descriptor_of, second_of, third_of, refusal_of, meant, read_refusal, read_of, write_refusal, write_of}
-use Rattle.eblock.specs.declared.header.Header.TheVariants.{Data, Eodc, Refused}
+use Rattle.eblock.specs.declared.header.Header.TheVariants.{Data, Eodc}
 
 -- ---- the judgement
 
@@ -43,15 +43,15 @@ meant-data d second third e = rw e
 
 -- ---- the reader
 
-pub reads_21 : (h : List ℕ) → (length h ≡ header_length → ⊥) → read_of h ≡ Refused 21
+pub reads_21 : (h : List ℕ) → (length h ≡ header_length → ⊥) → read_of h ≡ Err 21
 unfolding read_of read_refusal
 reads_21 h n = rw (ne_eqb (length h) header_length n)
 
-pub reads-refused : (h : List ℕ) (k : ℕ) → length h ≡ header_length → refusal_of (descriptor_of h) (third_of h) ≡ k → 0 < k → read_of h ≡ Refused k
+pub reads-refused : (h : List ℕ) (k : ℕ) → length h ≡ header_length → refusal_of (descriptor_of h) (third_of h) ≡ k → 0 < k → read_of h ≡ Err k
 unfolding read_of read_refusal
 reads-refused h k n e l = rw (eq-eqb (length h) header_length n, e, lt-ltb 0 k l)
 
-pub reads-meant : (h : List ℕ) → length h ≡ header_length → refusal_of (descriptor_of h) (third_of h) ≡ 0 → read_of h ≡ meant (descriptor_of h) (second_of h) (third_of h)
+pub reads-meant : (h : List ℕ) → length h ≡ header_length → refusal_of (descriptor_of h) (third_of h) ≡ 0 → read_of h ≡ Ok (meant (descriptor_of h) (second_of h) (third_of h))
 unfolding read_of read_refusal
 reads-meant h n k = rw (eq-eqb (length h) header_length n, k)
 
@@ -71,7 +71,7 @@ module _ (d third : ℕ) (out : List ℕ) where
   number_0 e h = first-none (refusal_of d third) _ e ∙ room-enough header_length out h
 
   -- the writer accepts exactly what is not refused, into 17 bytes or more
-  pub accepts : write_of d third out ≡ Bytes header_length → (refusal_of d third ≡ 0) × (header_length ≤ length out)
+  pub accepts : write_of d third out ≡ Ok header_length → (refusal_of d third ≡ 0) × (header_length ≤ length out)
   unfolding write_of write_refusal
   accepts e =
       let z = first-zero (refusal_of d third) (room_refusal header_length out) (written-only (write_refusal d third out) header_length header_length e).0 in

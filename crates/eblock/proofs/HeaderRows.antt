@@ -13,7 +13,7 @@ use Rattle.eblock.specs.Descriptor.{has, fault_of}
 use Rattle.eblock.specs.Header.{descriptor_of, second_of, third_of, header_bytes, refusal_of, read_of, second_field, write_refusal, write_of, write_after, refusal_number, values}
 use Rattle.eblock.specs.HeaderRows.{Reads, ReadRows, WriteRows}
 use Rattle.eblock.specs.declared.header.Header.{Header}
-use Rattle.eblock.specs.declared.header.Header.TheVariants.{Data, Eodc, Refused}
+use Rattle.eblock.specs.declared.header.Header.TheVariants.{Data, Eodc}
 use Rattle.eblock.proofs.HeaderAnswers as answers
 use Rattle.eblock.proofs.HeaderFields.{length-bytes_of}
 
@@ -25,27 +25,27 @@ module _ (h : List ℕ) where
 
   reads_21 : length h ≢ 17 → Reads h 21 []
   unfolding refusal_number values
-  reads_21 n = reads (Refused 21) (answers.reads_21 h n)
+  reads_21 n = reads (Err 21) (answers.reads_21 h n)
 
   module _ (n : length h ≡ 17) where
     reads_fault : 0 < fault_of (descriptor_of h) → Reads h (fault_of (descriptor_of h)) []
     unfolding refusal_number values
-    reads_fault f = reads (Refused (fault_of (descriptor_of h))) (answers.reads-refused h _ n (answers.refusal-fault (descriptor_of h) (third_of h) f) f)
+    reads_fault f = reads (Err (fault_of (descriptor_of h))) (answers.reads-refused h _ n (answers.refusal-fault (descriptor_of h) (third_of h) f) f)
 
     module _ (f : fault_of (descriptor_of h) ≡ 0) where
       reads_15 : has 64 (descriptor_of h) ≡ true → (third_of h ≡ 0) ⊎ (64 < third_of h) → Reads h 15 []
       unfolding refusal_number values
-      reads_15 e o = reads (Refused 15) (answers.reads-refused h 15 n (answers.refusal-15 (descriptor_of h) (third_of h) f e o) (omega arith))
+      reads_15 e o = reads (Err 15) (answers.reads-refused h 15 n (answers.refusal-15 (descriptor_of h) (third_of h) f e o) (omega arith))
 
       reads_count : has 64 (descriptor_of h) ≡ true → 0 < third_of h → third_of h ≤ 64
-          → (read_of h ≡ Eodc (descriptor_of h) (third_of h)) × Reads h 0 (descriptor_of h ∷ third_of h ∷ [])
+          → (read_of h ≡ Ok (Eodc (descriptor_of h) (third_of h))) × Reads h 0 (descriptor_of h ∷ third_of h ∷ [])
       unfolding refusal_number values
       reads_count e z l =
           let r = answers.reads-meant h n (answers.refusal-count (descriptor_of h) (third_of h) f e z l) ∙ answers.meant-count (descriptor_of h) (second_of h) (third_of h) e in
           (r, reads (Eodc (descriptor_of h) (third_of h)) r)
 
       reads_data : has 64 (descriptor_of h) ≡ false
-          → (read_of h ≡ Data (descriptor_of h) (second_of h) (third_of h)) × Reads h 0 (descriptor_of h ∷ second_of h ∷ third_of h ∷ [])
+          → (read_of h ≡ Ok (Data (descriptor_of h) (second_of h) (third_of h))) × Reads h 0 (descriptor_of h ∷ second_of h ∷ third_of h ∷ [])
       unfolding refusal_number values
       reads_data e =
           let r = answers.reads-meant h n (answers.refusal-data (descriptor_of h) (third_of h) f e) ∙ answers.meant-data (descriptor_of h) (second_of h) (third_of h) e in

@@ -8,13 +8,13 @@ use native.Mathlib.Decide.{dec_lt, ℕ_discrete}
 use lib.ListN.{length, take, drop}
 use lib.Seq.{take_at}
 use Rattle.octets.specs.Digits.{AllBelow}
-use Rattle.answers.specs.declared.written.Written.TheVariants.{Bytes}
+use Rattle.std.specs.Prelude.{Ok, Err}
 use Rattle.answers.proofs.WrittenBy.{written}
 use Rattle.eblock.specs.Descriptor.{has, eodc}
 use Rattle.eblock.specs.Header.{header_length, descriptor_of, second_of, third_of, header_bytes, refusal_of, meant, read_of, second_field, write_refusal, write_of, write_after}
 use Rattle.eblock.specs.RoundTrip.{WritesBack, RoundTrip}
 use Rattle.eblock.specs.declared.header.Header.{Header}
-use Rattle.eblock.specs.declared.header.Header.TheVariants.{Data, Eodc, Refused}
+use Rattle.eblock.specs.declared.header.Header.TheVariants.{Data, Eodc}
 use Rattle.eblock.proofs.HeaderAnswers.{reads_21, reads-refused, reads-meant, meant-count, meant-data, number_0, accepts}
 use Rattle.eblock.proofs.HeaderFields.{length-bytes_of, second-reads-back, third-reads-back, bytes-of-fields}
 
@@ -48,14 +48,14 @@ reads_bytes d second third h g k =
 
 -- the lent bytes after a header that was written
 stored : (d len third : ℕ) (out : List ℕ) → refusal_of d third ≡ 0 → header_length ≤ length out
-    → (write_of d third out ≡ Bytes header_length) × (write_after d len third out ≡ header_bytes d (second_field d len) third ++ drop header_length out)
+    → (write_of d third out ≡ Ok header_length) × (write_after d len third out ≡ header_bytes d (second_field d len) third ++ drop header_length out)
 unfolding write_of write_after
 stored d len third out r l =
     let bytes = header_bytes d (second_field d len) third in
     let w = written (write_refusal d third out) header_length bytes out (number_0 d third out r l) in
     (sym w.0, sym w.1 ∙ rw (length-bytes_of d (second_field d len) third))
 
-reads_written : (d len third : ℕ) (out : List ℕ) → len < 2 ^ 64 → third < 2 ^ 64 → write_of d third out ≡ Bytes header_length
+reads_written : (d len third : ℕ) (out : List ℕ) → len < 2 ^ 64 → third < 2 ^ 64 → write_of d third out ≡ Ok header_length
     → read_of (take header_length (write_after d len third out)) ≡ meant d len third
 reads_written d len third out h g e =
     let a = accepts d third out e in
@@ -71,7 +71,7 @@ pub record Accepted (h : List ℕ) : Type 0 where
   pub none : refusal_of (descriptor_of h) (third_of h) ≡ 0
   pub fields : read_of h ≡ meant (descriptor_of h) (second_of h) (third_of h)
 
-accepted : (h : List ℕ) (a : Header) → read_of h ≡ a → ((k : ℕ) → a ≡ Refused k → ⊥) → Accepted h
+accepted : (h : List ℕ) (a : Header) → read_of h ≡ a → ((k : ℕ) → a ≡ Err k → ⊥) → Accepted h
 accepted h a e n = go (ℕ_discrete (length h) header_length) (dec_lt 0 (refusal_of (descriptor_of h) (third_of h)))
   where
     go : Dec (length h ≡ header_length) → Dec (0 < refusal_of (descriptor_of h) (third_of h)) → Accepted h

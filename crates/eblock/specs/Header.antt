@@ -2,13 +2,12 @@
 --
 --     descriptor   length, unused with EODC   offset, or n with EODC
 --     1 byte       8 bytes                    8 bytes
-use Rattle.std.specs.Prelude.{ℕ, Bool, cond, ◌&&◌, ◌||◌, List, [], ◌∷◌, ◌++◌, ltb, eqb, length, get_or, take, drop}
+use Rattle.std.specs.Prelude.{ℕ, Bool, cond, Result, Ok, Err, ◌&&◌, ◌||◌, List, [], ◌∷◌, ◌++◌, ltb, eqb, length, get_or, take, drop}
 use Rattle.octets.specs.Digits.{from_big_endian, to_big_endian}
-use Rattle.answers.specs.declared.written.Written.{Written}
-use Rattle.answers.specs.Written.{first_refusal, room_refusal, written_by, written_after}
+use Rattle.answers.specs.Written.{Written, first_refusal, room_refusal, written_by, written_after}
 use Rattle.eblock.specs.Descriptor.{has, eodc, fault_of}
 use Rattle.eblock.specs.declared.header.Header.{Header}
-use Rattle.eblock.specs.declared.header.Header.TheVariants.{Data, Eodc, Refused}
+use Rattle.eblock.specs.declared.header.Header.TheVariants.{Data, Eodc}
 
 abbrev pub header_length : ℕ
 header_length = 17
@@ -51,8 +50,8 @@ meant d second third = cond (has eodc d) (Eodc d third) (Data d second third)
 unfoldable pub read_refusal : List ℕ → ℕ
 read_refusal h = cond (eqb (length h) header_length) (refusal_of (descriptor_of h) (third_of h)) 21
 
-unfoldable pub read_of : List ℕ → Header
-read_of h = cond (ltb 0 (read_refusal h)) (Refused (read_refusal h)) (meant (descriptor_of h) (second_of h) (third_of h))
+unfoldable pub read_of : List ℕ → Result Header ℕ
+read_of h = cond (ltb 0 (read_refusal h)) (Err (read_refusal h)) (Ok (meant (descriptor_of h) (second_of h) (third_of h)))
 
 -- ---- the writer
 
@@ -70,14 +69,9 @@ write_of d third out = written_by (write_refusal d third out) header_length
 unfoldable pub write_after : ℕ → ℕ → ℕ → List ℕ → List ℕ
 write_after d len third out = written_after (write_refusal d third out) (header_bytes d (second_field d len) third) out
 
--- ---- document 01's number for each case of an answer, 0 where nothing is refused, and the values it carries
+-- ---- the values that an answer carries
 
-unfoldable pub refusal_number : Header → ℕ
-refusal_number (Data d len offset) = 0
-refusal_number (Eodc d n) = 0
-refusal_number (Refused k) = k
-
-unfoldable pub values : Header → List ℕ
-values (Data d len offset) = d ∷ len ∷ offset ∷ []
-values (Eodc d n) = d ∷ n ∷ []
-values (Refused k) = []
+unfoldable pub values : Result Header ℕ → List ℕ
+values (Ok (Data d len offset)) = d ∷ len ∷ offset ∷ []
+values (Ok (Eodc d n)) = d ∷ n ∷ []
+values (Err k) = []

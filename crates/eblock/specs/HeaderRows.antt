@@ -1,15 +1,16 @@
 -- What the header reader and the header writer answer, row by row (document 01, "The block", "Numbers the host sees"): the number of each answer and
 -- the values it carries. The premises carry the order of the numbers.
-use Rattle.std.specs.Prelude.{ℕ, ◌≤◌, ◌<◌, ◌≡◌, ◌⊎◌, ◌≢◌, true, false, List, [], ◌∷◌, ◌++◌, length}
+use Rattle.std.specs.Prelude.{ℕ, ◌≤◌, ◌<◌, ◌≡◌, ◌⊎◌, ◌≢◌, true, false, Ok, List, [], ◌∷◌, ◌++◌, length}
 use Rattle.octets.specs.Digits.{to_big_endian}
+use Rattle.answers.specs.Refusal.{number_in}
 use Rattle.answers.specs.Written.{Refuses, Writes}
 use Rattle.eblock.specs.Descriptor.{has, fault_of}
-use Rattle.eblock.specs.Header.{descriptor_of, second_of, third_of, read_of, write_of, write_after, refusal_number, values}
+use Rattle.eblock.specs.Header.{descriptor_of, second_of, third_of, read_of, write_of, write_after, values}
 use Rattle.eblock.specs.declared.header.Header.TheVariants.{Data, Eodc}
 
 -- the reader's answer to these bytes
 pub record Reads (h : List ℕ) (k : ℕ) (vs : List ℕ) : Type 0 where
-  pub number_is : refusal_number (read_of h) ≡ k
+  pub number_is : number_in (read_of h) ≡ k
   pub values_are : values (read_of h) ≡ vs
 
 pub record ReadRows : Type 0 where
@@ -22,10 +23,10 @@ pub record ReadRows : Type 0 where
       → Reads h 15 []
   -- else a number of end markers, whatever the second field holds
   pub reads_count : (h : List ℕ) → length h ≡ 17 → fault_of (descriptor_of h) ≡ 0 → has 64 (descriptor_of h) ≡ true → 0 < third_of h → third_of h ≤ 64
-      → (read_of h ≡ Eodc (descriptor_of h) (third_of h)) × Reads h 0 (descriptor_of h ∷ third_of h ∷ [])
+      → (read_of h ≡ Ok (Eodc (descriptor_of h) (third_of h))) × Reads h 0 (descriptor_of h ∷ third_of h ∷ [])
   -- without bit 64 data, whatever length and offset are
   pub reads_data : (h : List ℕ) → length h ≡ 17 → fault_of (descriptor_of h) ≡ 0 → has 64 (descriptor_of h) ≡ false
-      → (read_of h ≡ Data (descriptor_of h) (second_of h) (third_of h)) × Reads h 0 (descriptor_of h ∷ second_of h ∷ third_of h ∷ [])
+      → (read_of h ≡ Ok (Data (descriptor_of h) (second_of h) (third_of h))) × Reads h 0 (descriptor_of h ∷ second_of h ∷ third_of h ∷ [])
 
 pub record WriteRows : Type 0 where
   -- 11, 12 or 13: the descriptor's fault

@@ -1,7 +1,7 @@
 -- Reader and writer undo each other.
 use Rattle.std.specs.Prelude.{ℕ, ◌^◌, ◌≤◌, ◌<◌, ◌≡◌, List, ◌++◌, length, take, drop}
 use Rattle.octets.specs.Digits.{AllBelow}
-use Rattle.answers.specs.declared.written.Written.TheVariants.{Bytes}
+use Rattle.std.specs.Prelude.{Ok, Err}
 use Rattle.eblock.specs.Header.{second_of, meant, read_of, write_of, write_after}
 use Rattle.eblock.specs.declared.header.Header.TheVariants.{Data, Eodc}
 

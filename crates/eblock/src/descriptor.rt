@@ -1,6 +1,9 @@
 // The descriptor: the first byte of a header.
 ghost use Rattle.std.specs.Prelude.{◌≡◌};
+ghost use Rattle.answers.specs.Refusal.{refusal_number};
 ghost use Rattle.eblock.specs.Descriptor.{has, closes_early, suspects_count, fault_of};
+
+use answers::refusal::Refusal;
 
 pub const END_OF_RECORD: u8 = 128;
 
@@ -18,51 +21,33 @@ pub const SENDER_CLOSES: u8 = 4;
 pub fn has(bit: u8, d: u8) -> bool
     ensures { result ≡ has bit d }
 {
-    if bit == 0 {
-        return false;
-    }
-    d / bit % 2 == 1
+    bit != 0 && d / bit % 2 == 1
 }
 
 fn closes_early(d: u8) -> bool
     ensures { result ≡ closes_early d }
 {
-    if has(SENDER_CLOSES, d) {
-        return !has(END_OF_DATA, d);
-    }
-    false
+    has(SENDER_CLOSES, d) && !has(END_OF_DATA, d)
 }
 
 fn suspects_count(d: u8) -> bool
     ensures { result ≡ suspects_count d }
 {
-    if has(EODC, d) {
-        return has(SUSPECTED, d);
-    }
-    false
+    has(EODC, d) && has(SUSPECTED, d)
 }
 
-// The fault of a descriptor, 0 where it is accepted.
-pub fn fault(d: u8) -> u8
-    ensures { result ≡ fault_of d }
+// Whether a descriptor is accepted, and by which fault it is not.
+pub fn accept(d: u8) -> Result<(), Refusal>
+    ensures { refusal_number result ≡ fault_of d }
 {
-    if has(1, d) {
-        return 11;
+    if has(1, d) || has(2, d) {
+        return Err(Refusal::MeaninglessBit);
     }
-    if has(2, d) {
-        return 11;
+    if has(END_OF_RECORD, d) || has(RESTART_MARKER, d) {
+        return Err(Refusal::UnacceptedBit);
     }
-    if has(END_OF_RECORD, d) {
-        return 12;
+    if closes_early(d) || suspects_count(d) {
+        return Err(Refusal::ContradictingBits);
     }
-    if has(RESTART_MARKER, d) {
-        return 12;
-    }
-    if closes_early(d) {
-        return 13;
-    }
-    if suspects_count(d) {
-        return 13;
-    }
-    0
+    Ok(())
 }
