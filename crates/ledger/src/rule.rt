@@ -1,8 +1,10 @@
 // The ledger rule, and how many bytes a ledger holds.
 ghost use Rattle.std.specs.Prelude.{◌≡◌, ◌&&◌, suc, ◌+◌, ◌%◌, ◌≤◌, min, leb, ltb, eqb, length, get_or, drop};
+ghost use Rattle.answers.specs.Refusal.{refusal_number};
 ghost use Rattle.ledger.specs.Pairs.{total, ends_at_most};
 ghost use Rattle.ledger.specs.Ledger.{length_wrong, all_zero, obeys_from, obeys, ledger_refusal, pairs_of, has_pair};
 
+use answers::refusal::Refusal;
 use sums::sum;
 
 // The most entries that a ledger may have.
@@ -116,17 +118,17 @@ pub fn obeys(ledger: &[u64], limit: u64) -> bool
     obeys_after(ledger, ledger[1], limit)
 }
 
-// The number by which a ledger that is to be written is refused: 53 for its length, 1 for its rule, 0 where it is accepted.
-pub fn refusal(ledger: &[u64]) -> u8
-    ensures { result ≡ ledger_refusal ledger.now }
+// Refuses a ledger that is not to be written: by its length, then by its rule.
+pub fn check(ledger: &[u64]) -> Result<(), Refusal>
+    ensures { refusal_number result ≡ ledger_refusal ledger.now }
 {
     if length_wrong(ledger) {
-        return 53;
+        return Err(Refusal::LedgerLength);
     }
     if !obeys(ledger, LARGEST) {
-        return 1;
+        return Err(Refusal::Unfit);
     }
-    0
+    Ok(())
 }
 
 // How many bytes the used pairs hold, or the largest number where that is more, which a ledger that obeys its rule never has.

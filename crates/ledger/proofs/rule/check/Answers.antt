@@ -1,4 +1,4 @@
--- `rule::refusal`.
+-- `rule::check`.
 use mathlib.Core.Path.{◌≡◌, sym, ◌∙◌}
 use mathlib.Core.Bool.{false}
 use native.Mathlib.Omega.{arith}
@@ -6,8 +6,8 @@ use borrow.Author.Tests.{not-true, not-false}
 use Rattle.ledger.specs.Ledger.{length_wrong, obeys}
 use Rattle.ledger.proofs.LedgerSizes.{obeys-fits}
 use Rattle.ledger.proofs.LedgerRefusal.{refusal-53, refusal-1, refusal-none}
-use Rattle.ledger.proofs.rule.refusal.Goals as goal
-use Rattle.ledger.proofs.rule.refusal.Goals.{After-obeys, Else-length_wrong}
+use Rattle.ledger.proofs.rule.check.Goals as goal
+use Rattle.ledger.proofs.rule.check.Goals.{After-obeys, Else-length_wrong}
 
 right : (c : Else-length_wrong) → length_wrong c.args.ledger.now ≡ false
 right c = sym c.length_wrong.ensures ∙ c.if-length_wrong.false
