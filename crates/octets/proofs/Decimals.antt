@@ -1,5 +1,5 @@
 -- The laws of decimal text: how many digits a number has, and that reading and writing undo each other.
-use Prim.Native.Nat.{ℕ, zero, suc, ◌+◌, ◌*◌, ◌/◌, ◌%◌, ◌^◌, ◌≤◌, ◌<◌}
+use Prim.Native.Nat.{ℕ, zero, suc, ◌+◌, ◌*◌, ◌/◌, ◌%◌, ◌^◌, ◌≤◌, ◌<◌, max}
 use mathlib.Core.Path.{◌≡◌, refl, sym, ap, ◌∙◌}
 use mathlib.Core.Bool.{Bool, true, false, ◌&&◌, not, and-eq-true_iff, and-true, false≢true}
 use mathlib.Core.Logic.{◌⊎◌, inl, inr}
@@ -57,6 +57,15 @@ width_is (suc w) n h (inr g) =
     let q : 10 ^ suc w ≡ 10 ^ w * 10 = pow-suc 10 w in
     let one : 1 ≤ 10 ^ w = one-le-pow w 10 (omega arith) in
     width-step n (omega arith) ∙ ap suc (width_is w (n / 10) (omega arith) (inr (omega arith)))
+
+-- by the logarithm, that of 0 being taken as that of 1
+pub width_of_log : (n k : ℕ) → 10 ^ k ≤ max n 1 → max n 1 < 10 * 10 ^ k → digit_count n ≡ k + 1
+width_of_log n zero h g = width_small n (omega arith)
+width_of_log n (suc k) h g =
+    let p : 10 ^ suc k ≡ 10 ^ k * 10 = pow-suc 10 k in
+    let q : 10 ^ suc (suc k) ≡ 10 ^ suc k * 10 = pow-suc 10 (suc k) in
+    let one : 1 ≤ 10 ^ k = one-le-pow k 10 (omega arith) in
+    width_is (suc k) n (omega arith) (inr (omega arith)) ∙ sym (add-one (suc k))
 
 pub width_fits : (n : ℕ) → n < 10 ^ digit_count n
 width_fits n = by-depth n n (le_refl n)

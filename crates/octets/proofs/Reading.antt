@@ -4,6 +4,7 @@ use mathlib.Core.Path.{◌≡◌, refl}
 use mathlib.Core.Bool.{Bool, true, false, cond, ◌&&◌, and-false}
 use mathlib.Core.List.{List, [], ◌∷◌, ◌++◌, map, map-append}
 use native.Mathlib.Omega.{arith}
+use Rattle.std.specs.Prelude.{Some, None}
 use borrow.Author.Tests.{lt-ltb, le-leb, lt-leb, ltb-true}
 use lib.Dec.{leb, ltb}
 use lib.ListN.{length, get_or}
@@ -11,21 +12,20 @@ use Rattle.octets.specs.Digits.{from_big_endian, from_little_endian}
 use Rattle.octets.specs.Decimal.{digit_value, decimal_value, read_of}
 use Rattle.texts.specs.Text.{is_digit, all, leading_count}
 use Rattle.octets.specs.Reading.{Reading}
-use Rattle.octets.specs.declared.decimal.Number.TheVariants.{Value, Nothing}
 use Rattle.octets.proofs.Digits.{from_big-snoc, from_little-cons}
 use Rattle.texts.proofs.Texts.{between-true, between-false, true-between, false-between, each_all, all-each, all-not, leading_le, leading-each, after-leading}
 
 -- ---- what a text reads as
 
-pub read_of-spoilt : (text : List ℕ) (limit : ℕ) → all is_digit text ≡ false → read_of text limit ≡ Nothing
+pub read_of-spoilt : (text : List ℕ) (limit : ℕ) → all is_digit text ≡ false → read_of text limit ≡ None
 unfolding read_of
 read_of-spoilt text limit e = rw (e, and-false (ltb 0 (length text)))
 
-pub read_of-above : (text : List ℕ) (limit : ℕ) → leb (decimal_value text) limit ≡ false → read_of text limit ≡ Nothing
+pub read_of-above : (text : List ℕ) (limit : ℕ) → leb (decimal_value text) limit ≡ false → read_of text limit ≡ None
 unfolding read_of
 read_of-above text limit e = rw (e, and-false (all is_digit text), and-false (ltb 0 (length text)))
 
-pub read_of-value : (text : List ℕ) (limit : ℕ) → 0 < length text → all is_digit text ≡ true → decimal_value text ≤ limit → read_of text limit ≡ Value (decimal_value text)
+pub read_of-value : (text : List ℕ) (limit : ℕ) → 0 < length text → all is_digit text ≡ true → decimal_value text ≤ limit → read_of text limit ≡ Some (decimal_value text)
 unfolding read_of
 read_of-value text limit h d l = rw (lt-ltb 0 (length text) h, d, le-leb (decimal_value text) limit l)
 
@@ -37,11 +37,11 @@ pub record Read (text : List ℕ) (n : ℕ) : Type 0 where
   pub digits : all is_digit text ≡ true
   pub says : decimal_value text ≡ n
 
-pub read_of-read : (text : List ℕ) (n limit : ℕ) → read_of text limit ≡ Value n → Read text n
+pub read_of-read : (text : List ℕ) (n limit : ℕ) → read_of text limit ≡ Some n → Read text n
 unfolding read_of
 read_of-read text n limit h = go (ltb 0 (length text)) (all is_digit text) (leb (decimal_value text) limit) refl refl h
   where
-    go : (s d l : Bool) → ltb 0 (length text) ≡ s → all is_digit text ≡ d → cond (s && (d && l)) (Value (decimal_value text)) Nothing ≡ Value n → Read text n
+    go : (s d l : Bool) → ltb 0 (length text) ≡ s → all is_digit text ≡ d → cond (s && (d && l)) (Some (decimal_value text)) None ≡ Some n → Read text n
     go true true true s d e = record { some = ltb-true 0 (length text) s; digits = d; says = cc }
     go true true false s d e = let z : ◌≡◌ {A = ℕ} 0 1 = cc in absurd (omega arith)
     go true false l s d e = let z : ◌≡◌ {A = ℕ} 0 1 = cc in absurd (omega arith)

@@ -4,12 +4,12 @@ use mathlib.Core.Path.{◌≡◌, ap, ◌∙◌}
 use mathlib.Core.Bool.{true}
 use mathlib.Core.List.{List}
 use native.Mathlib.Omega.{arith}
+use Rattle.std.specs.Prelude.{Some}
 use lib.ListN.{length, take}
 use lib.Seq.{take_all}
 use Rattle.octets.specs.Digits.{from_little_endian, from_big_endian, to_little_endian, to_big_endian}
 use Rattle.octets.specs.Decimal.{read_of, digit_count, in_digits, decimal, no_leading_zero}
 use Rattle.octets.specs.RoundTrip.{RoundTrip}
-use Rattle.octets.specs.declared.decimal.Number.TheVariants.{Value}
 use Rattle.octets.proofs.Digits
 use Rattle.octets.proofs.Digits.{length-to_little, length-to_big}
 use Rattle.octets.proofs.Decimals
@@ -27,18 +27,18 @@ big-back w n h l = rw (take_all 8 (to_big_endian 256 w n) (omega (arith, length-
 
 -- ---- decimal
 
-decimal-back : (n limit : ℕ) → n ≤ limit → read_of (in_digits (digit_count n) n) limit ≡ Value n
+decimal-back : (n limit : ℕ) → n ≤ limit → read_of (in_digits (digit_count n) n) limit ≡ Some n
 decimal-back n limit h =
     let w = digit_count n in
     let e = in_digits-reads-back w n (width_fits n) in
-    read_of-value (in_digits w n) limit (omega (arith, length-in_digits w n, width_some n)) (all-in_digits w n) (omega (arith, e)) ∙ ap Value e
+    read_of-value (in_digits w n) limit (omega (arith, length-in_digits w n, width_some n)) (all-in_digits w n) (omega (arith, e)) ∙ ap Some e
 
-digits-back : (text : List ℕ) (n limit : ℕ) → read_of text limit ≡ Value n → in_digits (length text) n ≡ text
+digits-back : (text : List ℕ) (n limit : ℕ) → read_of text limit ≡ Some n → in_digits (length text) n ≡ text
 digits-back text n limit h =
     let r = read_of-read text n limit h in
     rw (← r.says) (in_digits-writes-back text r.digits)
 
-plain_back : (text : List ℕ) (n limit : ℕ) → no_leading_zero text ≡ true → read_of text limit ≡ Value n → in_digits (digit_count n) n ≡ text
+plain_back : (text : List ℕ) (n limit : ℕ) → no_leading_zero text ≡ true → read_of text limit ≡ Some n → in_digits (digit_count n) n ≡ text
 unfolding decimal
 plain_back text n limit p h = rw (← (read_of-read text n limit h).says) (Decimals.decimal_writes_back text p)
 

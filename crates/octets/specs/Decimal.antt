@@ -1,9 +1,7 @@
 -- A number in decimal: bytes 48 to 57, the most significant digit first.
-use Rattle.std.specs.Prelude.{ℕ, zero, suc, ◌+◌, ◌-◌, ◌/◌, Bool, false, cond, ◌&&◌, not, List, [], ◌∷◌, map, leb, ltb, eqb, length}
+use Rattle.std.specs.Prelude.{ℕ, zero, suc, ◌+◌, ◌-◌, ◌/◌, Bool, false, cond, ◌&&◌, not, List, [], ◌∷◌, map, leb, ltb, eqb, length, Option, Some, None}
 use Rattle.octets.specs.Digits.{from_big_endian, to_big_endian}
 use Rattle.texts.specs.Text.{is_digit, all}
-use Rattle.octets.specs.declared.decimal.Number.{Number}
-use Rattle.octets.specs.declared.decimal.Number.TheVariants.{Value, Nothing}
 
 -- what a digit says, and the byte of a digit
 abbrev pub digit_value : ℕ → ℕ
@@ -17,8 +15,8 @@ unfoldable pub decimal_value : List ℕ → ℕ
 decimal_value text = from_big_endian 10 (map digit_value text)
 
 -- what reading a whole text answers: its number, where it is one digit or more and says at most the limit
-unfoldable pub read_of : List ℕ → ℕ → Number
-read_of text limit = cond (ltb 0 (length text) && (all is_digit text && leb (decimal_value text) limit)) (Value (decimal_value text)) Nothing
+unfoldable pub read_of : List ℕ → ℕ → Option ℕ
+read_of text limit = cond (ltb 0 (length text) && (all is_digit text && leb (decimal_value text) limit)) (Some (decimal_value text)) None
 
 -- how many digits n has without leading zeros, 0 having one. The first argument bounds the depth, and n itself is enough.
 unfoldable pub digit_count_by : ℕ → ℕ → ℕ

@@ -2,31 +2,25 @@
 ghost use Rattle.std.specs.Prelude.{◌≡◌, length, take};
 ghost use Rattle.octets.specs.Digits.{from_big_endian, to_big_endian};
 
-use crate::width::eight_at_most;
+use crate::digit_bytes;
 
 // The number that the bytes say, or their first eight where there are more.
 pub fn read(bytes: &[u8]) -> u64
     ensures { result ≡ from_big_endian 256 (take 8 bytes.now) }
 {
-    let w = eight_at_most(bytes.len());
+    let first = &bytes[..bytes.len().min(8)];
     let mut n: u64 = 0;
-    let mut i = 0;
-    while i < w {
-        n = n * 256 + bytes[i] as u64;
-        i += 1;
+    for &b in first {
+        n = n * 256 + u64::from(b);
     }
     n
 }
 
 // Fills all of out with the low bytes of n.
+#[tactic(auto, unfolding(crate::specs::Digits::to_big_endian))]
 pub fn write(n: u64, out: &mut [u8])
     ensures { out.new ≡ to_big_endian 256 (length out.old) n }
 {
-    let mut m = n;
-    let mut i = out.len();
-    while 0 < i {
-        i -= 1;
-        out[i] = (m % 256) as u8;
-        m = m / 256;
-    }
+    digit_bytes::write::<256, 0>(n, out);
+    out.reverse();
 }

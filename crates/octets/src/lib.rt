@@ -4,6 +4,6 @@
 
 pub mod big;
 pub mod decimal;
+mod digit_bytes;
 pub mod entries;
 pub mod little;
-mod width;

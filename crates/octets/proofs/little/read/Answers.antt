@@ -1,43 +1,49 @@
--- `little::read`: n is the number of the bytes from i on, of the first eight.
-use Prim.Native.Nat.{suc, ◌+◌, ◌-◌, ◌≤◌, ◌<◌}
-use mathlib.Core.Path.{◌≡◌}
+-- `little::read`: n is the number of the bytes passed, the first of them the most significant.
+use Prim.Native.Nat.{◌+◌, ◌*◌, ◌≤◌, ◌<◌}
+use mathlib.Core.Path.{refl, ◌∙◌}
+use mathlib.Core.List.{map-append, reverse, reverse-reverse}
 use native.Mathlib.Omega.{arith}
-use native.Mathlib.Nat.{one-le-pow}
-use lib.ListN.{length, get_or, take, length-take, drop_of_length-le}
-use Rattle.octets.specs.Digits.{from_little_endian}
-use Rattle.octets.proofs.LoopStep.{room, grows, little_more}
+use lib.ListN.{length, take, length-take, length-reverse}
+use Rattle.std.proofs.lemmas.Grind.{get_or_default_zero}
+use Rattle.std.proofs.lemmas.Iterator.Adapters.{YieldsList-from_rev_slice}
+use Rattle.std.proofs.lemmas.Iterator.Consumers.{YieldsList-so_far, YieldsList-turn, YieldsList-end}
+use Rattle.octets.specs.Digits.{from_big_endian, from_little_endian}
+use Rattle.octets.proofs.Digits.{below_at, below-take, below-reverse, from_big-snoc}
+use Rattle.octets.proofs.LoopStep.{room, take-eight}
 use Rattle.octets.proofs.little.read.Goals as goal
+use Rattle.octets.proofs.little.read.Goals.{In-Some, In-None}
 
-pub loop-i-init : goal.loop-i-init
-unfolding from_little_endian
-loop-i-init c =
-    let s = c.args.bytes.now in
-    let h : length (take 8 s) ≤ c.eight_at_most-i.result = simp length-take (omega arith) in
-    (omega arith, one-le-pow (8 - c.eight_at_most-i.result) 256 (omega arith), rw (drop_of_length-le (take 8 s) h))
+-- the byte at hand has room in eight bytes
+fits : (c : In-Some) → c.loop-b.n * 256 + c.in-Some.field-0.now < 18446744073709551616
+fits c =
+    let m = c.min.result in
+    let s = reverse (take m c.args.bytes.now) in
+    let k = length c.loop-b.yielded in
+    let b = below-reverse 256 (take m c.args.bytes.now) (below-take 256 m c.args.bytes.now (below_at 256 c.args.bytes.now (λ i. omega (arith, c.type_inv.bytes i)))) in
+    let l : length s ≤ 8 = omega (arith, length-reverse (take m c.args.bytes.now), length-take m c.args.bytes.now) in
+    let road = YieldsList-from_rev_slice (take m c.args.bytes.now) (cc) in
+    let t = YieldsList-turn road c.loop-b.yielded _ c.loop-b.yielded_by _ _ c.in-Some.field-0 c.in-Some.is c.next.ensures.steps in
+    let p = YieldsList-so_far road c.loop-b.yielded _ c.loop-b.yielded_by in
+    let v = t.1 ∙ get_or_default_zero s k c.in-Some.field-0.now t.0 in
+    rw (v, c.loop-b.invariant.2, p) (room s k b l t.0)
+
+pub loop-b-init : goal.loop-b-init
+unfolding from_big_endian from_little_endian
+loop-b-init c = (tt, tt, refl)
 
 pub overflow_mul-n : goal.overflow_mul-n
-overflow_mul-n c = omega (arith, room c.loop-i.n (8 - c.loop-i.i) c.loop-i.invariant.1 (omega arith))
-
-pub overflow_cast-n : goal.overflow_cast-n
-overflow_cast-n c = omega (arith, c.shared_slice_known-in-loop-i-1.given (c.loop-i.i - 1))
+overflow_mul-n c = omega (arith, fits (goal.at.overflow_mul-n c).In-Some)
 
 pub overflow_add-n : goal.overflow_add-n
-overflow_add-n c =
-    omega (arith, c.shared_slice_known-in-loop-i-1.given (c.loop-i.i - 1), room c.loop-i.n (8 - c.loop-i.i) c.loop-i.invariant.1 (omega arith))
+overflow_add-n c = omega (arith, c.from.ensures, fits (goal.at.overflow_add-n c).In-Some)
 
-pub loop-i-preserved : goal.loop-i-preserved
-loop-i-preserved c =
-    let s = c.args.bytes.now in
-    let j = c.loop-i.i - 1 in
-    let e : c.loop-i.i ≡ suc j = omega arith in
-    let k : 8 - c.loop-i.i + 1 ≡ 8 - j = omega arith in
-    let b : get_or s j 0 < 256 = omega (arith, c.shared_slice_known-in-loop-i-1.given j) in (
-      omega arith,
-      rw k at (grows c.loop-i.n (get_or s j 0) (8 - c.loop-i.i) c.loop-i.invariant.1 b),
-      rw (little_more 256 s j (omega arith) (omega arith), ← e, c.loop-i.invariant.2),
-    )
+pub loop-b-preserved : goal.loop-b-preserved
+loop-b-preserved c =
+    (tt, tt, rw (map-append (λ x. x.now) c.loop-b.yielded, from_big-snoc 256 c.in-Some.field-0.now, c.from.ensures, c.loop-b.invariant.2))
 
 pub returns : goal.returns
+unfolding from_big_endian
 returns c =
-    let e : c.loop-i.i ≡ 0 = omega arith in
-    rw e at c.loop-i.invariant.2
+    let s = take c.min.result c.args.bytes.now in
+    let e = YieldsList-end (YieldsList-from_rev_slice s (cc)) c.loop-b.yielded _ c.loop-b.yielded_by _ _ c.in-None.is c.next.ensures.steps in
+    c.loop-b.invariant.2 ∙ rw (e.0, reverse-reverse s, take-eight c.args.bytes.now c.min.result c.min.ensures)
