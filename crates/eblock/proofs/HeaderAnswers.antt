@@ -11,7 +11,7 @@ use Rattle.std.specs.Prelude.{Ok, Err}
 use Rattle.answers.specs.Written.{first_refusal, room_refusal}
 use Rattle.answers.proofs.WrittenBy.{first_some, first-none, first-zero, room-short, room-enough, room-zero, written-only}
 use Rattle.eblock.specs.Descriptor.{has, eodc, fault_of}
-use Rattle.eblock.specs.Header.{header_length, count_limit, descriptor_of, second_of, third_of, refusal_of, meant, read_refusal, read_of, write_refusal, write_of}
+use Rattle.eblock.specs.Header.{header_length, count_limit, descriptor_of, second_of, third_of, refusal_of, meant, read_of, write_refusal, write_of}
 use Rattle.eblock.specs.declared.header.Header.TheVariants.{Data, Eodc}
 
 -- ---- the judgement
@@ -34,45 +34,40 @@ unfolding refusal_of first_refusal
 refusal-count d third h e z l = rw (h, e, ne_eqb third 0 (omega arith), le-ltb count_limit third l)
 
 pub meant-count : (d second third : ℕ) → has eodc d ≡ true → meant d second third ≡ Eodc d third
-unfolding meant
 meant-count d second third e = rw e
 
 pub meant-data : (d second third : ℕ) → has eodc d ≡ false → meant d second third ≡ Data d second third
-unfolding meant
 meant-data d second third e = rw e
 
 -- ---- the reader
 
 pub reads_21 : (h : List ℕ) → (length h ≡ header_length → ⊥) → read_of h ≡ Err 21
-unfolding read_of read_refusal
+unfolding read_of
 reads_21 h n = rw (ne_eqb (length h) header_length n)
 
 pub reads-refused : (h : List ℕ) (k : ℕ) → length h ≡ header_length → refusal_of (descriptor_of h) (third_of h) ≡ k → 0 < k → read_of h ≡ Err k
-unfolding read_of read_refusal
+unfolding read_of
 reads-refused h k n e l = rw (eq-eqb (length h) header_length n, e, lt-ltb 0 k l)
 
 pub reads-meant : (h : List ℕ) → length h ≡ header_length → refusal_of (descriptor_of h) (third_of h) ≡ 0 → read_of h ≡ Ok (meant (descriptor_of h) (second_of h) (third_of h))
-unfolding read_of read_refusal
+unfolding read_of
 reads-meant h n k = rw (eq-eqb (length h) header_length n, k)
 
 -- ---- the writer's number
 
 module _ (d third : ℕ) (out : List ℕ) where
   pub number-refused : (k : ℕ) → refusal_of d third ≡ k → 0 < k → write_refusal d third out ≡ k
-  unfolding write_refusal
   number-refused k e h = first_some (refusal_of d third) _ (omega arith) ∙ e
 
   pub number-55 : refusal_of d third ≡ 0 → length out < header_length → write_refusal d third out ≡ 55
-  unfolding write_refusal
   number-55 e h = first-none (refusal_of d third) _ e ∙ room-short header_length out h
 
   pub number_0 : refusal_of d third ≡ 0 → header_length ≤ length out → write_refusal d third out ≡ 0
-  unfolding write_refusal
   number_0 e h = first-none (refusal_of d third) _ e ∙ room-enough header_length out h
 
   -- the writer accepts exactly what is not refused, into 17 bytes or more
   pub accepts : write_of d third out ≡ Ok header_length → (refusal_of d third ≡ 0) × (header_length ≤ length out)
-  unfolding write_of write_refusal
+  unfolding write_of
   accepts e =
       let z = first-zero (refusal_of d third) (room_refusal header_length out) (written-only (write_refusal d third out) header_length header_length e).0 in
       (z.0, room-zero header_length out z.1)

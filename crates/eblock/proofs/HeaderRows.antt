@@ -6,11 +6,13 @@ use mathlib.Core.Bool.{Bool, true, false}
 use mathlib.Core.List.{List, [], ◌∷◌, ◌++◌}
 use native.Mathlib.Omega.{arith}
 use lib.ListN.{length}
+use Rattle.std.specs.Prelude.{Result, Ok, Err}
 use Rattle.octets.specs.Digits.{to_big_endian}
+use Rattle.answers.specs.Refusal.{number_in}
 use Rattle.answers.specs.Written.{Refuses, Writes}
 use Rattle.answers.proofs.WrittenBy.{refuses, writes}
 use Rattle.eblock.specs.Descriptor.{has, fault_of}
-use Rattle.eblock.specs.Header.{descriptor_of, second_of, third_of, header_bytes, refusal_of, read_of, second_field, write_refusal, write_of, write_after, refusal_number, values}
+use Rattle.eblock.specs.Header.{descriptor_of, second_of, third_of, header_bytes, refusal_of, read_of, second_field, write_refusal, write_of, write_after, values}
 use Rattle.eblock.specs.HeaderRows.{Reads, ReadRows, WriteRows}
 use Rattle.eblock.specs.declared.header.Header.{Header}
 use Rattle.eblock.specs.declared.header.Header.TheVariants.{Data, Eodc}
@@ -20,36 +22,36 @@ use Rattle.eblock.proofs.HeaderFields.{length-bytes_of}
 -- ---- the reader
 
 module _ (h : List ℕ) where
-  reads : (a : Header) → read_of h ≡ a → Reads h (refusal_number a) (values a)
-  reads a e = record { number_is = ap refusal_number e; values_are = ap values e }
+  reads : (a : Result Header ℕ) → read_of h ≡ a → Reads h (number_in a) (values a)
+  reads a e = record { number_is = ap number_in e; values_are = ap values e }
 
   reads_21 : length h ≢ 17 → Reads h 21 []
-  unfolding refusal_number values
+  unfolding values
   reads_21 n = reads (Err 21) (answers.reads_21 h n)
 
   module _ (n : length h ≡ 17) where
     reads_fault : 0 < fault_of (descriptor_of h) → Reads h (fault_of (descriptor_of h)) []
-    unfolding refusal_number values
+    unfolding values
     reads_fault f = reads (Err (fault_of (descriptor_of h))) (answers.reads-refused h _ n (answers.refusal-fault (descriptor_of h) (third_of h) f) f)
 
     module _ (f : fault_of (descriptor_of h) ≡ 0) where
       reads_15 : has 64 (descriptor_of h) ≡ true → (third_of h ≡ 0) ⊎ (64 < third_of h) → Reads h 15 []
-      unfolding refusal_number values
+      unfolding values
       reads_15 e o = reads (Err 15) (answers.reads-refused h 15 n (answers.refusal-15 (descriptor_of h) (third_of h) f e o) (omega arith))
 
       reads_count : has 64 (descriptor_of h) ≡ true → 0 < third_of h → third_of h ≤ 64
           → (read_of h ≡ Ok (Eodc (descriptor_of h) (third_of h))) × Reads h 0 (descriptor_of h ∷ third_of h ∷ [])
-      unfolding refusal_number values
+      unfolding values
       reads_count e z l =
-          let r = answers.reads-meant h n (answers.refusal-count (descriptor_of h) (third_of h) f e z l) ∙ answers.meant-count (descriptor_of h) (second_of h) (third_of h) e in
-          (r, reads (Eodc (descriptor_of h) (third_of h)) r)
+          let r = answers.reads-meant h n (answers.refusal-count (descriptor_of h) (third_of h) f e z l) ∙ ap Ok (answers.meant-count (descriptor_of h) (second_of h) (third_of h) e) in
+          (r, reads (Ok (Eodc (descriptor_of h) (third_of h))) r)
 
       reads_data : has 64 (descriptor_of h) ≡ false
           → (read_of h ≡ Ok (Data (descriptor_of h) (second_of h) (third_of h))) × Reads h 0 (descriptor_of h ∷ second_of h ∷ third_of h ∷ [])
-      unfolding refusal_number values
+      unfolding values
       reads_data e =
-          let r = answers.reads-meant h n (answers.refusal-data (descriptor_of h) (third_of h) f e) ∙ answers.meant-data (descriptor_of h) (second_of h) (third_of h) e in
-          (r, reads (Data (descriptor_of h) (second_of h) (third_of h)) r)
+          let r = answers.reads-meant h n (answers.refusal-data (descriptor_of h) (third_of h) f e) ∙ ap Ok (answers.meant-data (descriptor_of h) (second_of h) (third_of h) e) in
+          (r, reads (Ok (Data (descriptor_of h) (second_of h) (third_of h))) r)
 
 pub read-rows : ReadRows
 read-rows = record { reads_21 = reads_21; reads_fault = reads_fault; reads_15 = reads_15; reads_count = reads_count; reads_data = reads_data }

@@ -8,7 +8,7 @@ use native.Mathlib.Decide.{dec_lt, ℕ_discrete}
 use lib.ListN.{length, take, drop}
 use lib.Seq.{take_at}
 use Rattle.octets.specs.Digits.{AllBelow}
-use Rattle.std.specs.Prelude.{Ok, Err}
+use Rattle.std.specs.Prelude.{Ok}
 use Rattle.answers.proofs.WrittenBy.{written}
 use Rattle.eblock.specs.Descriptor.{has, eodc}
 use Rattle.eblock.specs.Header.{header_length, descriptor_of, second_of, third_of, header_bytes, refusal_of, meant, read_of, second_field, write_refusal, write_of, write_after}
@@ -38,7 +38,7 @@ second_lt d len h = go (has eodc d) refl
     go false e = rw e h
 
 -- the reader on the bytes of fields that are accepted
-reads_bytes : (d second third : ℕ) → second < 2 ^ 64 → third < 2 ^ 64 → refusal_of d third ≡ 0 → read_of (header_bytes d second third) ≡ meant d second third
+reads_bytes : (d second third : ℕ) → second < 2 ^ 64 → third < 2 ^ 64 → refusal_of d third ≡ 0 → read_of (header_bytes d second third) ≡ Ok (meant d second third)
 unfolding header_bytes
 reads_bytes d second third h g k =
     let b = header_bytes d second third in
@@ -56,12 +56,12 @@ stored d len third out r l =
     (sym w.0, sym w.1 ∙ rw (length-bytes_of d (second_field d len) third))
 
 reads_written : (d len third : ℕ) (out : List ℕ) → len < 2 ^ 64 → third < 2 ^ 64 → write_of d third out ≡ Ok header_length
-    → read_of (take header_length (write_after d len third out)) ≡ meant d len third
+    → read_of (take header_length (write_after d len third out)) ≡ Ok (meant d len third)
 reads_written d len third out h g e =
     let a = accepts d third out e in
     let s = second_field d len in
     rw ((stored d len third out a.0 a.1).1, take_at (header_bytes d s third) (drop header_length out) header_length (length-bytes_of d s third))
-    (reads_bytes d s third (second_lt d len h) g a.0 ∙ meant-second d len third)
+    (reads_bytes d s third (second_lt d len h) g a.0 ∙ ap Ok (meant-second d len third))
 
 -- ---- what was read
 
@@ -69,14 +69,14 @@ reads_written d len third out h g e =
 pub record Accepted (h : List ℕ) : Type 0 where
   pub long : length h ≡ header_length
   pub none : refusal_of (descriptor_of h) (third_of h) ≡ 0
-  pub fields : read_of h ≡ meant (descriptor_of h) (second_of h) (third_of h)
+  pub fields : read_of h ≡ Ok (meant (descriptor_of h) (second_of h) (third_of h))
 
-accepted : (h : List ℕ) (a : Header) → read_of h ≡ a → ((k : ℕ) → a ≡ Err k → ⊥) → Accepted h
-accepted h a e n = go (ℕ_discrete (length h) header_length) (dec_lt 0 (refusal_of (descriptor_of h) (third_of h)))
+accepted : (h : List ℕ) (a : Header) → read_of h ≡ Ok a → Accepted h
+accepted h a e = go (ℕ_discrete (length h) header_length) (dec_lt 0 (refusal_of (descriptor_of h) (third_of h)))
   where
     go : Dec (length h ≡ header_length) → Dec (0 < refusal_of (descriptor_of h) (third_of h)) → Accepted h
-    go (no l) r = absurd (n 21 (sym e ∙ reads_21 h l))
-    go (yes l) (yes r) = absurd (n _ (sym e ∙ reads-refused h _ l refl r))
+    go (no l) r = cc (e, reads_21 h l)
+    go (yes l) (yes r) = cc (e, reads-refused h _ l refl r)
     go (yes l) (no r) = record { long = l; none = omega arith; fields = reads-meant h l (omega arith) }
 
 -- the writer on the fields of bytes that are accepted, with what it puts into the second field
@@ -86,33 +86,33 @@ rewrites h b a len s out g =
     let w = stored (descriptor_of h) len (third_of h) out a.none g in
     record { accepted = w.0; same = w.1 ∙ rw (s, bytes-of-fields h b a.long) }
 
-read-data : (h : List ℕ) → AllBelow 256 h → (d len offset : ℕ) → read_of h ≡ Data d len offset → (out : List ℕ) → header_length ≤ length out → WritesBack h d len offset out
+read-data : (h : List ℕ) → AllBelow 256 h → (d len offset : ℕ) → read_of h ≡ Ok (Data d len offset) → (out : List ℕ) → header_length ≤ length out → WritesBack h d len offset out
 unfolding second_field
 read-data h b d len offset e out g =
-    go (has eodc (descriptor_of h)) refl (accepted h (Data d len offset) e (λ k r. let z : ◌≡◌ {A = ℕ} 0 1 = cc in omega arith))
+    go (has eodc (descriptor_of h)) refl (accepted h (Data d len offset) e)
   where
     go : (c : Bool) → has eodc (descriptor_of h) ≡ c → Accepted h → WritesBack h d len offset out
     go true c a =
-        let f = a.fields ∙ meant-count (descriptor_of h) (second_of h) (third_of h) c in
-        let z : ◌≡◌ {A = ℕ} 0 1 = cc (f, e) in absurd (omega (arith, z))
+        let f = a.fields ∙ ap Ok (meant-count (descriptor_of h) (second_of h) (third_of h) c) in
+        cc (f, e)
     go false c a =
-        let f = a.fields ∙ meant-data (descriptor_of h) (second_of h) (third_of h) c in
+        let f = a.fields ∙ ap Ok (meant-data (descriptor_of h) (second_of h) (third_of h) c) in
         let d₁ : descriptor_of h ≡ d = cc (f, e) in
         let l₁ : second_of h ≡ len = cc (f, e) in
         let o₁ : third_of h ≡ offset = cc (f, e) in
         rw (← d₁, ← l₁, ← o₁) (rewrites h b a (second_of h) (rw c) out g)
 
-read_count : (h : List ℕ) → AllBelow 256 h → (d n : ℕ) → read_of h ≡ Eodc d n → second_of h ≡ 0 → (len : ℕ) (out : List ℕ) → header_length ≤ length out → WritesBack h d len n out
+read_count : (h : List ℕ) → AllBelow 256 h → (d n : ℕ) → read_of h ≡ Ok (Eodc d n) → second_of h ≡ 0 → (len : ℕ) (out : List ℕ) → header_length ≤ length out → WritesBack h d len n out
 unfolding second_field
 read_count h b d n e u len out g =
-    go (has eodc (descriptor_of h)) refl (accepted h (Eodc d n) e (λ k r. let z : ◌≡◌ {A = ℕ} 0 1 = cc in omega arith))
+    go (has eodc (descriptor_of h)) refl (accepted h (Eodc d n) e)
   where
     go : (c : Bool) → has eodc (descriptor_of h) ≡ c → Accepted h → WritesBack h d len n out
     go false c a =
-        let f = a.fields ∙ meant-data (descriptor_of h) (second_of h) (third_of h) c in
-        let z : ◌≡◌ {A = ℕ} 0 1 = cc (f, e) in absurd (omega (arith, z))
+        let f = a.fields ∙ ap Ok (meant-data (descriptor_of h) (second_of h) (third_of h) c) in
+        cc (f, e)
     go true c a =
-        let f = a.fields ∙ meant-count (descriptor_of h) (second_of h) (third_of h) c in
+        let f = a.fields ∙ ap Ok (meant-count (descriptor_of h) (second_of h) (third_of h) c) in
         let d₁ : descriptor_of h ≡ d = cc (f, e) in
         let n₁ : third_of h ≡ n = cc (f, e) in
         rw (← d₁, ← n₁) (rewrites h b a len (rw (c, u)) out g)

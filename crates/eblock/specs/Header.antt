@@ -41,13 +41,13 @@ unfoldable pub refusal_of : ℕ → ℕ → ℕ
 refusal_of d third = first_refusal (fault_of d) (cond (has eodc d && count_out_of_range third) 15 0)
 
 -- what an accepted header means: with EODC the second field says nothing and the third is n
-unfoldable pub meant : ℕ → ℕ → ℕ → Header
+abbrev pub meant : ℕ → ℕ → ℕ → Header
 meant d second third = cond (has eodc d) (Eodc d third) (Data d second third)
 
 -- ---- the reader
 
 -- 21 where there are not 17 bytes, then as above
-unfoldable pub read_refusal : List ℕ → ℕ
+abbrev pub read_refusal : List ℕ → ℕ
 read_refusal h = cond (eqb (length h) header_length) (refusal_of (descriptor_of h) (third_of h)) 21
 
 unfoldable pub read_of : List ℕ → Result Header ℕ
@@ -56,7 +56,7 @@ read_of h = cond (ltb 0 (read_refusal h)) (Err (read_refusal h)) (Ok (meant (des
 -- ---- the writer
 
 -- as above, then 55 where fewer than 17 bytes are lent
-unfoldable pub write_refusal : ℕ → ℕ → List ℕ → ℕ
+abbrev pub write_refusal : ℕ → ℕ → List ℕ → ℕ
 write_refusal d third out = first_refusal (refusal_of d third) (room_refusal header_length out)
 
 -- the second field: the length, or 0 with EODC

@@ -18,6 +18,7 @@ pub const END_OF_DATA: u8 = 8;
 pub const SENDER_CLOSES: u8 = 4;
 
 // Whether the bit of that weight is set; of weight 0, no bit is.
+#[tactic(auto, unfolding(crate::specs::Descriptor::has))]
 pub fn has(bit: u8, d: u8) -> bool
     ensures { result ≡ has bit d }
 {
@@ -37,6 +38,7 @@ fn suspects_count(d: u8) -> bool
 }
 
 // Whether a descriptor is accepted, and by which fault it is not.
+#[tactic(auto, unfolding(crate::specs::Descriptor::fault_of))]
 pub fn accept(d: u8) -> Result<(), Refusal>
     ensures { refusal_number result ≡ fault_of d }
 {

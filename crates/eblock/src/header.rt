@@ -3,7 +3,7 @@ ghost use Rattle.std.specs.Prelude.{◌≡◌};
 ghost use Rattle.answers.specs.Refusal.{numbered, refusal_number};
 ghost use Rattle.eblock.specs.Header.{refusal_of, read_of, second_field, write_of, write_after};
 
-use crate::descriptor;
+use crate::descriptor::{self, EODC, has};
 use answers::refusal::Refusal;
 use octets::big;
 
@@ -26,16 +26,18 @@ pub enum Header {
 }
 
 // What reader and writer ask of a descriptor and a third field.
+#[tactic(auto, unfolding(crate::specs::Header::refusal_of, answers::specs::Written::first_refusal))]
 fn accept(d: u8, third: u64) -> Result<(), Refusal>
     ensures { refusal_number result ≡ refusal_of d third }
 {
     descriptor::accept(d)?;
-    if descriptor::has(descriptor::EODC, d) && (third == 0 || COUNT_LIMIT < third) {
+    if has(EODC, d) && (third == 0 || COUNT_LIMIT < third) {
         return Err(Refusal::CountOutOfRange);
     }
     Ok(())
 }
 
+#[tactic(auto, unfolding(crate::specs::Header::read_of, crate::specs::Header::second_of, crate::specs::Header::third_of))]
 pub fn read(bytes: &[u8]) -> Result<Header, Refusal>
     ensures { numbered result ≡ read_of bytes.now }
 {
@@ -45,7 +47,7 @@ pub fn read(bytes: &[u8]) -> Result<Header, Refusal>
     let descriptor = bytes[0];
     let third = big::read(&bytes[9..17]);
     accept(descriptor, third)?;
-    if descriptor::has(descriptor::EODC, descriptor) {
+    if has(EODC, descriptor) {
         return Ok(Header::Eodc {
             descriptor,
             count: third,
@@ -60,14 +62,11 @@ pub fn read(bytes: &[u8]) -> Result<Header, Refusal>
 }
 
 // What the second field of a header holds: the length, or 0 with EODC, where it is unused.
+#[tactic(auto, unfolding(crate::specs::Header::second_field))]
 fn second_field(d: u8, length: u64) -> u64
     ensures { result ≡ second_field d length }
 {
-    if descriptor::has(descriptor::EODC, d) {
-        0
-    } else {
-        length
-    }
+    if has(EODC, d) { 0 } else { length }
 }
 
 // Writes a header into the first 17 bytes of out, and answers how many these are. third is the offset, or n with EODC.
