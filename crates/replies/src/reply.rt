@@ -1,27 +1,30 @@
 // The class of a reply code.
 ghost use Rattle.std.specs.Prelude.{◌≡◌};
+ghost use Rattle.answers.specs.Refusal.{numbered};
 ghost use Rattle.replies.specs.Reply.{class_of};
 
-// What a code announces, or the number by which it is refused.
-#[derive(Clone, Copy)]
+use answers::refusal::Refusal;
+
+// What a code announces.
+#[derive(Clone, Copy, Debug, PartialEq, Eq)]
 pub enum Class {
     Preliminary,
     Completion,
     Intermediate,
     Transient,
     Permanent,
-    Refused(u8),
 }
 
-pub fn class_of(code: u16) -> Class
-    ensures { result ≡ class_of code }
+#[tactic(auto, unfolding(crate::specs::Reply::class_of))]
+pub fn class_of(code: u16) -> Result<Class, Refusal>
+    ensures { numbered result ≡ class_of code }
 {
     match code {
-        100..=199 => Class::Preliminary,
-        200..=299 => Class::Completion,
-        300..=399 => Class::Intermediate,
-        400..=499 => Class::Transient,
-        500..=599 => Class::Permanent,
-        _ => Class::Refused(36),
+        100..=199 => Ok(Class::Preliminary),
+        200..=299 => Ok(Class::Completion),
+        300..=399 => Ok(Class::Intermediate),
+        400..=499 => Ok(Class::Transient),
+        500..=599 => Ok(Class::Permanent),
+        _ => Err(Refusal::ReplyCode),
     }
 }
