@@ -5,12 +5,13 @@ use mathlib.Core.Logic.{◌⊎◌, inl, inr}
 use mathlib.Core.Bool.{Bool, true, false, cond, ◌&&◌, and_assoc, and-eq-true_iff, and-false, true≢false}
 use mathlib.Core.List.{List, [], ◌∷◌, ◌++◌}
 use native.Mathlib.Omega.{arith}
-use native.Mathlib.Numerals.{add-one}
+use native.Mathlib.Numerals.{add-one, one-add}
 use native.Mathlib.Decide.{dec_lt}
 use borrow.Author.Tests.{le-leb, lt-leb, leb-true}
 use lib.Dec.{leb}
 use lib.ListN.{length, get_or, take, drop, take-append-drop, drop_of_length-le}
 use lib.Seq.{drop-cons, take-suc}
+use Rattle.std.specs.List.{prefix_len}
 use Rattle.texts.specs.Text.{between, all, leading_count}
 
 -- ---- a byte between two bounds
@@ -75,6 +76,12 @@ module _ (kind : ℕ → Bool) where
 
   -- ---- the bytes of a kind that a text begins with
 
+  -- as std counts them
+  pub prefix_is : (text : List ℕ) → prefix_len kind text ≡ leading_count kind text
+  unfolding leading_count
+  prefix_is [] = refl
+  prefix_is (b ∷ bs) = rw (prefix_is bs, one-add (leading_count kind bs))
+
   pub leading_le : (text : List ℕ) → leading_count kind text ≤ length text
   unfolding leading_count
   leading_le [] = omega arith
@@ -84,14 +91,10 @@ module _ (kind : ℕ → Bool) where
       go true h = omega arith
       go false h = omega arith
 
-  -- from a place on: at a byte of another kind, at one of the kind, and at the end
+  -- from a place on: at a byte of another kind, and at the end
   pub leading-stops : (text : List ℕ) (i : ℕ) → i < length text → kind (get_or text i 0) ≡ false → leading_count kind (drop i text) ≡ 0
   unfolding leading_count
   leading-stops text i h e = rw (drop-cons text i 0, e)
-
-  pub leading-goes : (text : List ℕ) (i : ℕ) → i < length text → kind (get_or text i 0) ≡ true → leading_count kind (drop i text) ≡ suc (leading_count kind (drop (i + 1) text))
-  unfolding leading_count
-  leading-goes text i h e = rw (drop-cons text i 0, e, add-one i)
 
   pub leading-ends : (text : List ℕ) (i : ℕ) → length text ≤ i → leading_count kind (drop i text) ≡ 0
   unfolding leading_count

@@ -1,8 +1,8 @@
 // Bytes of a text by their kind.
 ghost use Rattle.std.specs.Prelude.{◌≡◌};
-ghost use Rattle.texts.specs.Text.{between, is_letter, is_of_kind, leading_count};
+ghost use Rattle.texts.specs.Text.{is_of_kind, leading_count};
 
-#[derive(Clone, Copy)]
+#[derive(Clone, Copy, Debug, PartialEq, Eq)]
 pub enum ByteKind {
     Digit,
     Letter,
@@ -12,32 +12,14 @@ pub enum ByteKind {
     NotComma,
 }
 
-fn between(low: u8, high: u8, b: u8) -> bool
-    ensures { result ≡ between low high b }
-{
-    if b < low {
-        return false;
-    }
-    b <= high
-}
-
-fn is_letter(b: u8) -> bool
-    ensures { result ≡ is_letter b }
-{
-    if between(b'A', b'Z', b) {
-        return true;
-    }
-    between(b'a', b'z', b)
-}
-
 pub fn is_of_kind(kind: ByteKind, b: u8) -> bool
     ensures { result ≡ is_of_kind kind b }
 {
     match kind {
-        ByteKind::Digit => between(b'0', b'9', b),
-        ByteKind::Letter => is_letter(b),
+        ByteKind::Digit => b.is_ascii_digit(),
+        ByteKind::Letter => b.is_ascii_alphabetic(),
         ByteKind::Space => b == b' ',
-        ByteKind::Printable => between(32, 126, b),
+        ByteKind::Printable => matches!(b, 32..=126),
         ByteKind::NotComma => b != b',',
     }
 }
@@ -46,12 +28,5 @@ pub fn is_of_kind(kind: ByteKind, b: u8) -> bool
 pub fn leading(kind: ByteKind, text: &[u8]) -> usize
     ensures { result ≡ leading_count (is_of_kind kind) text.now }
 {
-    let mut i = 0;
-    while i < text.len() {
-        if !is_of_kind(kind, text[i]) {
-            return i;
-        }
-        i += 1;
-    }
-    i
+    text.iter().take_while(|b| is_of_kind(kind, **b)).count()
 }
