@@ -1,5 +1,6 @@
 -- One number of a host-port, and six of them: what is parsed, case by case, and that six fit 64 bits.
 use Prim.Native.Nat.{ℕ, suc, ◌+◌, ◌*◌, ◌%◌, ◌^◌, ◌≤◌, ◌<◌}
+use Rattle.std.specs.Prelude.{Option, Some, None}
 use mathlib.Core.Path.{◌≡◌, refl, sym, ap, ◌∙◌}
 use mathlib.Core.Bool.{Bool, true, false, cond, ◌&&◌, and-false}
 use mathlib.Core.List.{List}
@@ -12,15 +13,10 @@ use lib.ListN.{length, get_or, take, drop, drop_of_length-le}
 use lib.Seq.{length-take-le, get_or-take}
 use Rattle.octets.specs.Decimal.{decimal_value, no_leading_zero, read_of}
 use Rattle.texts.specs.Text.{is_digit, leading_count}
-use Rattle.octets.specs.declared.decimal.Number.{Number as Read}
-use Rattle.octets.specs.declared.decimal.Number.TheVariants.{Value, Nothing}
 use Rattle.texts.proofs.Texts.{leading_le, all-leading}
 use Rattle.octets.proofs.Decimals.{leading-zero, plain-unless}
-use Rattle.hostports.specs.declared.host_port.ParsedNumber.{ParsedNumber}
-use Rattle.hostports.specs.declared.host_port.ParsedNumber.TheVariants.{Number, Malformed as NoNumber}
-use Rattle.hostports.specs.declared.host_port.ParsedHostPort.{ParsedHostPort}
-use Rattle.hostports.specs.declared.host_port.ParsedHostPort.TheVariants.{HostPort, Malformed}
-use Rattle.hostports.specs.HostPort.{comma, digit_limit, value_limit, number_at, and_then, more_at, port_of, refuse_port_zero, host_port_at}
+use Rattle.hostports.specs.declared.host_port.Parsed.{Parsed}
+use Rattle.hostports.specs.HostPort.{read_as, comma, digit_limit, value_limit, number_at, and_then, more_at, port_of, refuse_port_zero, host_port_at}
 
 -- ---- one number
 
@@ -35,22 +31,22 @@ length_digits text at = length-take-le (leading_count is_digit (drop at text)) (
 first-digit : (text : List ℕ) (at : ℕ) → 1 < leading_count is_digit (drop at text) → get_or (digits_at text at) 0 0 ≡ get_or (drop at text) 0 0
 first-digit text at h = get_or-take (leading_count is_digit (drop at text)) (drop at text) 0 0 (omega arith)
 
-pub number_past : (text : List ℕ) (at : ℕ) → length text ≤ at → number_at text at ≡ NoNumber
+pub number_past : (text : List ℕ) (at : ℕ) → length text ≤ at → number_at text at ≡ None
 unfolding number_at leading_count no_leading_zero
 number_past text at h = rw (drop_of_length-le text h)
 
-pub number-zero : (text : List ℕ) (at : ℕ) → 1 < leading_count is_digit (drop at text) → get_or (drop at text) 0 0 ≡ 48 → number_at text at ≡ NoNumber
+pub number-zero : (text : List ℕ) (at : ℕ) → 1 < leading_count is_digit (drop at text) → get_or (drop at text) 0 0 ≡ 48 → number_at text at ≡ None
 unfolding number_at
 number-zero text at h e = rw (leading-zero (digits_at text at) (omega (arith, length_digits text at)) (first-digit text at h ∙ e))
 
-pub number-long : (text : List ℕ) (at : ℕ) → digit_limit < leading_count is_digit (drop at text) → number_at text at ≡ NoNumber
+pub number-long : (text : List ℕ) (at : ℕ) → digit_limit < leading_count is_digit (drop at text) → number_at text at ≡ None
 unfolding number_at
 number-long text at h = rw (lt-leb (leading_count is_digit (drop at text)) digit_limit h, and-false (no_leading_zero (digits_at text at)))
 
 -- what reading digits answers, with the place after them
-abbrev pub parsed_of : ℕ → Read → ParsedNumber
-parsed_of next (Value n) = Number n next
-parsed_of next Nothing = NoNumber
+abbrev pub parsed_of : ℕ → Option ℕ → Option Parsed
+parsed_of next (Some n) = read_as n next
+parsed_of next None = None
 
 pub number_short : (text : List ℕ) (at : ℕ) → let k = leading_count is_digit (drop at text) in k ≤ digit_limit → (1 < k → get_or (drop at text) 0 0 ≡ 48 → ⊥)
     → number_at text at ≡ parsed_of (at + k) (read_of (take k (drop at text)) value_limit)
@@ -72,43 +68,43 @@ number_short text at h g =
         let more : 1 < k = omega (arith, length_digits text at) in
         g more (sym (first-digit text at more) ∙ e)
 
-    go : (b : Bool) → cond b (Number n (at + k)) NoNumber ≡ parsed_of (at + k) (cond b (Value n) Nothing)
+    go : (b : Bool) → cond b (read_as n (at + k)) None ≡ parsed_of (at + k) (cond b (Some n) None)
     go true = refl
     go false = refl
 
 -- ---- port 0
 
-pub still-malformed : (s : ParsedHostPort) → s ≡ Malformed → refuse_port_zero s ≡ Malformed
+pub still-malformed : (s : Option Parsed) → s ≡ None → refuse_port_zero s ≡ None
 unfolding refuse_port_zero
 still-malformed s e = rw e
 
-pub port-zero : (v next : ℕ) → v % 65536 ≡ 0 → refuse_port_zero (HostPort v next) ≡ Malformed
+pub port-zero : (v next : ℕ) → v % 65536 ≡ 0 → refuse_port_zero (read_as v next) ≡ None
 unfolding refuse_port_zero
 port-zero v next e = rw (eq-eqb (port_of v) 0 (omega (arith, e)))
 
-pub port-kept : (v next : ℕ) → (v % 65536 ≡ 0 → ⊥) → refuse_port_zero (HostPort v next) ≡ HostPort v next
+pub port-kept : (v next : ℕ) → (v % 65536 ≡ 0 → ⊥) → refuse_port_zero (read_as v next) ≡ read_as v next
 unfolding refuse_port_zero
 port-kept v next h = rw (ne_eqb (port_of v) 0 (λ z. h (omega (arith, z))))
 
 -- ---- further numbers
 
-pub more-done : (text : List ℕ) (v at : ℕ) → more_at 0 text v at ≡ HostPort v at
+pub more-done : (text : List ℕ) (v at : ℕ) → more_at 0 text v at ≡ read_as v at
 unfolding more_at
 more-done text v at = refl
 
-pub no_comma : (n : ℕ) (text : List ℕ) (v at : ℕ) → (get_or text at 0 ≡ comma → ⊥) → more_at (suc n) text v at ≡ Malformed
+pub no_comma : (n : ℕ) (text : List ℕ) (v at : ℕ) → (get_or text at 0 ≡ comma → ⊥) → more_at (suc n) text v at ≡ None
 unfolding more_at
 no_comma n text v at h = rw (ne_eqb (get_or text at 0) comma h)
 
 -- a number, and after it n more, a comma before each; v is the value so far
-unfoldable pub numbers_from : ℕ → List ℕ → ℕ → ℕ → ParsedHostPort
+unfoldable pub numbers_from : ℕ → List ℕ → ℕ → ℕ → Option Parsed
 numbers_from n text v at = and_then (number_at text at) (λ u next. more_at n text (v * 256 + u) next)
 
-pub from-none : (n : ℕ) (text : List ℕ) (v at : ℕ) → number_at text at ≡ NoNumber → numbers_from n text v at ≡ Malformed
+pub from-none : (n : ℕ) (text : List ℕ) (v at : ℕ) → number_at text at ≡ None → numbers_from n text v at ≡ None
 unfolding numbers_from and_then
 from-none n text v at e = rw e
 
-pub from-number : (n : ℕ) (text : List ℕ) (v at u next : ℕ) → number_at text at ≡ Number u next → numbers_from n text v at ≡ more_at n text (v * 256 + u) next
+pub from-number : (n : ℕ) (text : List ℕ) (v at u next : ℕ) → number_at text at ≡ read_as u next → numbers_from n text v at ≡ more_at n text (v * 256 + u) next
 unfolding numbers_from and_then
 from-number n text v at u next e = rw e
 
@@ -117,16 +113,16 @@ pub first-is : (text : List ℕ) (at : ℕ) → host_port_at text at ≡ refuse_
 unfolding host_port_at numbers_from and_then
 first-is text at = go (number_at text at)
   where
-    go : (s : ParsedNumber) → refuse_port_zero (and_then s (more_at 5 text)) ≡ refuse_port_zero (and_then s (λ u next. more_at 5 text (0 * 256 + u) next))
-    go NoNumber = refl
-    go (Number u next) =
-        let z : 0 * 256 + u ≡ u = omega arith in
+    go : (s : Option Parsed) → refuse_port_zero (and_then s (more_at 5 text)) ≡ refuse_port_zero (and_then s (λ u next. more_at 5 text (0 * 256 + u) next))
+    go None = refl
+    go (Some n) =
+        let z : 0 * 256 + n.value ≡ n.value = omega arith in
         rw z
 
-pub first-malformed : (text : List ℕ) (at : ℕ) → number_at text at ≡ NoNumber → host_port_at text at ≡ Malformed
+pub first-malformed : (text : List ℕ) (at : ℕ) → number_at text at ≡ None → host_port_at text at ≡ None
 first-malformed text at e = first-is text at ∙ still-malformed _ (from-none 5 text 0 at e)
 
-pub first-number : (text : List ℕ) (at v next : ℕ) → number_at text at ≡ Number v next → host_port_at text at ≡ refuse_port_zero (more_at 5 text v next)
+pub first-number : (text : List ℕ) (at v next : ℕ) → number_at text at ≡ read_as v next → host_port_at text at ≡ refuse_port_zero (more_at 5 text v next)
 first-number text at v next e =
     let z : 0 * 256 + v ≡ v = omega arith in
     first-is text at ∙ ap refuse_port_zero (from-number 5 text 0 at v next e ∙ rw z)
@@ -135,17 +131,17 @@ pub comma-there : (n : ℕ) (text : List ℕ) (v at : ℕ) → get_or text at 0 
 unfolding more_at numbers_from
 comma-there n text v at h = rw (eq-eqb (get_or text at 0) comma h)
 
-pub more-malformed : (n : ℕ) (text : List ℕ) (v at : ℕ) → get_or text at 0 ≡ comma → number_at text (at + 1) ≡ NoNumber → more_at (suc n) text v at ≡ Malformed
+pub more-malformed : (n : ℕ) (text : List ℕ) (v at : ℕ) → get_or text at 0 ≡ comma → number_at text (at + 1) ≡ None → more_at (suc n) text v at ≡ None
 more-malformed n text v at h e = comma-there n text v at h ∙ from-none n text v (at + 1) e
 
-pub one_more : (n : ℕ) (text : List ℕ) (v at w next : ℕ) → get_or text at 0 ≡ comma → number_at text (at + 1) ≡ Number w next → more_at (suc n) text v at ≡ more_at n text (v * 256 + w) next
+pub one_more : (n : ℕ) (text : List ℕ) (v at w next : ℕ) → get_or text at 0 ≡ comma → number_at text (at + 1) ≡ read_as w next → more_at (suc n) text v at ≡ more_at n text (v * 256 + w) next
 one_more n text v at w next h e = comma-there n text v at h ∙ from-number n text v (at + 1) w next e
 
 -- ---- how large
 
 -- what five numbers make has room for a sixth
-pub room-left : (v k : ℕ) → v < 256 ^ (k + 1) → k < 5 → v < 2 ^ 40
-room-left v k h g = omega (arith, pow-le-pow_right {n = 256} (omega arith) {i = k + 1} {j = 5} (omega arith))
+pub room-left : (v k : ℕ) → v < 256 ^ k → k < 6 → v < 2 ^ 40
+room-left v k h g = omega (arith, pow-le-pow_right {n = 256} (omega arith) {i = k} {j = 5} (omega arith))
 
-pub grows : (v w k : ℕ) → v < 256 ^ (k + 1) → w < 256 → v * 256 + w < 256 ^ (k + 1 + 1)
-grows v w k h g = rw (add-one (k + 1), pow-suc 256 (k + 1)) (omega arith)
+pub grows : (v w k : ℕ) → v < 256 ^ k → w < 256 → v * 256 + w < 256 ^ (k + 1)
+grows v w k h g = rw (add-one k, pow-suc 256 k) (omega arith)

@@ -1,17 +1,17 @@
 -- `HostPorts` holds.
 use Prim.Native.Nat.{ℕ}
+use Rattle.std.specs.Prelude.{Option, Some, None}
 use mathlib.Core.Path.{◌≡◌, refl, ap}
 use mathlib.Core.List.{List}
-use Rattle.hostports.specs.declared.host_port.ParsedHostPort.{ParsedHostPort}
-use Rattle.hostports.specs.declared.host_port.ParsedHostPort.TheVariants.{HostPort, Malformed}
-use Rattle.hostports.specs.HostPort.{host_port_at, refusal_number, value_of, place_after}
+use Rattle.hostports.specs.declared.host_port.Parsed.{Parsed}
+use Rattle.hostports.specs.HostPort.{read_as, host_port_at, refusal_number, value_of, place_after}
 use Rattle.hostports.specs.HostPorts.{HostPortNumerals, WrittenAt, HostPorts}
 use Rattle.hostports.proofs.HostPortsWritten.{six-written}
 use Rattle.hostports.proofs.HostPortsRead.{six-read, port-not-zero, fits_48_bits}
 use Rattle.hostports.proofs.HostPortsOnce.{same_bytes, one_text}
 use Rattle.hostports.proofs.HostPortsRefused.{leading-zero-malformed, port-zero-malformed}
 
-numbered-0 : (s : ParsedHostPort) (v next : ℕ) → s ≡ HostPort v next → (refusal_number s ≡ 0) × (value_of s ≡ v) × (place_after s ≡ next)
+numbered-0 : (s : Option Parsed) (v next : ℕ) → s ≡ read_as v next → (refusal_number s ≡ 0) × (value_of s ≡ v) × (place_after s ≡ next)
 unfolding refusal_number value_of place_after
 numbered-0 s v next e = (rw e, rw e, rw e)
 
@@ -20,9 +20,9 @@ numbered-41 : (text : List ℕ) (at : ℕ) → ((h : HostPortNumerals) → Writt
 unfolding refusal_number value_of place_after
 numbered-41 text at none = go (host_port_at text at) refl
   where
-    go : (s : ParsedHostPort) → host_port_at text at ≡ s → (refusal_number s ≡ 41) × (value_of s ≡ 0) × (place_after s ≡ 0)
-    go Malformed e = (refl, refl, refl)
-    go (HostPort v next) e = let f = six-read text at v next e in absurd (none f.0 f.1)
+    go : (s : Option Parsed) → host_port_at text at ≡ s → (refusal_number s ≡ 41) × (value_of s ≡ 0) × (place_after s ≡ 0)
+    go None e = (refl, refl, refl)
+    go (Some p) e = let f = six-read text at p.value p.next e in absurd (none f.0 f.1)
 
 pub host-ports : HostPorts
 unfolding refusal_number

@@ -7,8 +7,7 @@ use lib.ListN.{length, take, drop}
 use lib.Seq.{take-append_seam}
 use Rattle.octets.specs.Decimal.{decimal}
 use Rattle.octets.proofs.Decimals.{decimal_writes_back}
-use Rattle.hostports.specs.declared.host_port.ParsedHostPort.TheVariants.{HostPort}
-use Rattle.hostports.specs.HostPort.{host_port_at}
+use Rattle.hostports.specs.HostPort.{read_as, host_port_at}
 use Rattle.hostports.specs.HostPorts.{Numeral, HostPortNumerals, host_port_text, address, port}
 use Rattle.octets.proofs.Rest.{rest_is}
 use Rattle.hostports.proofs.HostPortsWritten.{numeral-plain}
@@ -48,11 +47,11 @@ bytes_are text at next part rest there e =
     let n : next - at ≡ length part = omega arith in
     rw (there, n) (take-append_seam part rest)
 
-pub same_bytes : (s t : List ℕ) (a b v p q : ℕ) → host_port_at s a ≡ HostPort v p → host_port_at t b ≡ HostPort v q → take (p - a) (drop a s) ≡ take (q - b) (drop b t)
+pub same_bytes : (s t : List ℕ) (a b v p q : ℕ) → host_port_at s a ≡ read_as v p → host_port_at t b ≡ read_as v q → take (p - a) (drop a s) ≡ take (q - b) (drop b t)
 same_bytes s t a b v p q d e =
     let f = six-read s a v p d in
     let g = six-read t b v q e in
     bytes_are s a p _ _ f.1.there f.3 ∙ written_once f.0 g.0 (sym f.2 ∙ g.2) ∙ sym (bytes_are t b q _ _ g.1.there g.3)
 
-pub one_text : (s t : List ℕ) (v : ℕ) → host_port_at s 0 ≡ HostPort v (length s) → host_port_at t 0 ≡ HostPort v (length t) → s ≡ t
+pub one_text : (s t : List ℕ) (v : ℕ) → host_port_at s 0 ≡ read_as v (length s) → host_port_at t 0 ≡ read_as v (length t) → s ≡ t
 one_text s t v d e = sym (rest_is s 0) ∙ same_bytes s t 0 0 v (length s) (length t) d e ∙ rest_is t 0

@@ -1,5 +1,6 @@
 -- What reads as a host-port is written as one.
 use Prim.Native.Nat.{ℕ, suc, ◌+◌, ◌*◌, ◌-◌, ◌%◌, ◌^◌, ◌≤◌, ◌<◌}
+use Rattle.std.specs.Prelude.{Option, Some, None}
 use mathlib.Core.Path.{◌≡◌, refl, sym, ap, ◌∙◌}
 use mathlib.Core.Bool.{Bool, true, false, cond, ◌&&◌, and-eq-true_iff}
 use mathlib.Core.List.{List, [], ◌∷◌, ◌++◌}
@@ -13,11 +14,9 @@ use Rattle.octets.specs.Decimal.{decimal_value, no_leading_zero}
 use Rattle.octets.proofs.Decimals.{plain-some, plain-first}
 use Rattle.texts.specs.Text.{is_digit, leading_count}
 use Rattle.texts.proofs.Texts.{all-leading, leading-rest}
-use Rattle.hostports.specs.declared.host_port.ParsedNumber.{ParsedNumber}
-use Rattle.hostports.specs.declared.host_port.ParsedNumber.TheVariants.{Number, Malformed as NoNumber}
-use Rattle.hostports.specs.declared.host_port.ParsedHostPort.{ParsedHostPort}
-use Rattle.hostports.specs.declared.host_port.ParsedHostPort.TheVariants.{HostPort, Malformed}
-use Rattle.hostports.specs.HostPort.{comma, digit_limit, value_limit, number_at, and_then, more_at, port_of, refuse_port_zero, host_port_at}
+use Rattle.std.proofs.lemmas.Option.{same_Some}
+use Rattle.hostports.specs.declared.host_port.Parsed.{Parsed}
+use Rattle.hostports.specs.HostPort.{read_as, comma, digit_limit, value_limit, number_at, and_then, more_at, port_of, refuse_port_zero, host_port_at}
 use Rattle.hostports.specs.HostPorts.{Numeral, StartsWithNoDigit, HostPortNumerals, host_port_text, address, port, WrittenAt}
 use Rattle.hostports.proofs.HostPort.{digits_at, length_digits, more-done}
 use Rattle.hostports.proofs.HostPortsWritten.{after, comma_then, after_more, written-rest, written-some, written-place}
@@ -44,13 +43,15 @@ pub record NumeralAt (text : List ℕ) (at v next : ℕ) : Type 0 where
   pub says : v ≡ a.value
   pub place : next ≡ at + length a.text
 
-never : (v next : ℕ) → Malformed ≡ HostPort v next → ⊥
+never : (v next : ℕ) → None ≡ read_as v next → ⊥
 never v next e = let z : ◌≡◌ {A = ℕ} 0 1 = cc in omega arith
 
-same-host-port : (v p w q : ℕ) → HostPort v p ≡ HostPort w q → (v ≡ w) × (p ≡ q)
-same-host-port v p w q e = (cc, cc)
+same-read : (v p w q : ℕ) → read_as v p ≡ read_as w q → (v ≡ w) × (p ≡ q)
+same-read v p w q e =
+    let s = same_Some (record { value = v; next = p }) (record { value = w; next = q }) e in
+    (ap (λ (r : Parsed). r.value) s, ap (λ (r : Parsed). r.next) s)
 
-pub number_read : (text : List ℕ) (at v next : ℕ) → number_at text at ≡ Number v next → NumeralAt text at v next
+pub number_read : (text : List ℕ) (at v next : ℕ) → number_at text at ≡ read_as v next → NumeralAt text at v next
 unfolding number_at
 number_read text at v next = go (no_leading_zero digits && (leb k digit_limit && leb n value_limit)) refl
   where
@@ -63,24 +64,25 @@ number_read text at v next = go (no_leading_zero digits && (leb k digit_limit &&
     n : ℕ
     n = decimal_value digits
 
-    go : (t : Bool) → no_leading_zero digits && (leb k digit_limit && leb n value_limit) ≡ t → cond t (Number n (at + k)) NoNumber ≡ Number v next → NumeralAt text at v next
+    go : (t : Bool) → no_leading_zero digits && (leb k digit_limit && leb n value_limit) ≡ t → cond t (read_as n (at + k)) None ≡ read_as v next → NumeralAt text at v next
     go false e h = absurd (let z : ◌≡◌ {A = ℕ} 0 1 = cc in omega arith)
     go true e h =
         let p = (and-eq-true_iff (no_leading_zero digits) (leb k digit_limit && leb n value_limit)).0 e in
         let q = (and-eq-true_iff (leb k digit_limit) (leb n value_limit)).0 p.1 in
         let three : k ≤ digit_limit = leb-true k digit_limit q.0 in
         let low : n ≤ value_limit = leb-true n value_limit q.1 in
+        let same = same-read n (at + k) v next h in
         let size : length digits ≡ k = length_digits text at in
         record {
           a = record { text = digits; value = n; digits = all-leading is_digit (drop at text); one_or_more = plain-some digits p.0; at_most_three = omega arith; says = refl; small = omega arith; no_leading_zero_is = plain-first digits p.0 };
           rest = drop k (drop at text);
           there = sym (take-append-drop k (drop at text));
           no_digit = run_stops (drop at text);
-          says = cc;
-          place = rw size (cc);
+          says = sym same.0;
+          place = rw size (sym same.1);
         }
 
-pub number_bound : (text : List ℕ) (at v next : ℕ) → number_at text at ≡ Number v next → v < 256
+pub number_bound : (text : List ℕ) (at v next : ℕ) → number_at text at ≡ read_as v next → v < 256
 number_bound text at v next e =
     let m = number_read text at v next e in
     omega (arith, m.says, m.a.small)
@@ -91,7 +93,7 @@ record MoreAt (n : ℕ) (text : List ℕ) (v at w next : ℕ) : Type 0 where
   rest : List ℕ
   there : drop at text ≡ comma_then a rest
   no_digit : StartsWithNoDigit rest
-  on : more_at n text (v * 256 + a.value) (at + 1 + length a.text) ≡ HostPort w next
+  on : more_at n text (v * 256 + a.value) (at + 1 + length a.text) ≡ read_as w next
 
 -- a byte that is not 0 is in the text
 pub byte-there : (text : List ℕ) (at b : ℕ) → 1 ≤ b → get_or text at 0 ≡ b → drop at text ≡ b ∷ drop (at + 1) text
@@ -105,15 +107,15 @@ byte-there text at b h e = go (ltb at (length text)) refl
         let z : get_or text at 0 ≡ 0 = get_or-eq_default text 0 (ltb-false at (length text) o) in
         absurd (omega arith)
 
-more-read : (n : ℕ) (text : List ℕ) (v at w next : ℕ) → more_at (suc n) text v at ≡ HostPort w next → MoreAt n text v at w next
+more-read : (n : ℕ) (text : List ℕ) (v at w next : ℕ) → more_at (suc n) text v at ≡ read_as w next → MoreAt n text v at w next
 unfolding more_at and_then
 more-read n text v at w next = go (eqb (get_or text at 0) comma) refl (number_at text (at + 1)) refl
   where
-    go : (t : Bool) → eqb (get_or text at 0) comma ≡ t → (s : ParsedNumber) → number_at text (at + 1) ≡ s → cond t (and_then s (λ u place. more_at n text (v * 256 + u) place)) Malformed ≡ HostPort w next → MoreAt n text v at w next
+    go : (t : Bool) → eqb (get_or text at 0) comma ≡ t → (s : Option Parsed) → number_at text (at + 1) ≡ s → cond t (and_then s (λ u place. more_at n text (v * 256 + u) place)) None ≡ read_as w next → MoreAt n text v at w next
     go false c s e h = absurd (never w next h)
-    go true c NoNumber e h = absurd (never w next h)
-    go true c (Number u place) e h =
-        let m = number_read text (at + 1) u place e in
+    go true c None e h = absurd (never w next h)
+    go true c (Some p) e h =
+        let m = number_read text (at + 1) p.value p.next e in
         record {
           a = m.a;
           rest = m.rest;
@@ -127,38 +129,38 @@ given : {A R : Type 0} → A → (A → R) → R
 given x f = f x
 
 -- what is read as a host-port is six numbers, and the port that they make is not 0
-port-read : (s : ParsedHostPort) (v next : ℕ) → refuse_port_zero s ≡ HostPort v next → (s ≡ HostPort v next) × (0 < v % 65536)
+port-read : (s : Option Parsed) (v next : ℕ) → refuse_port_zero s ≡ read_as v next → (s ≡ read_as v next) × (0 < v % 65536)
 unfolding refuse_port_zero
-port-read Malformed v next e = absurd (never v next e)
-port-read (HostPort u place) v next is = go (eqb (port_of u) 0) refl is
+port-read None v next e = absurd (never v next e)
+port-read (Some p) v next is = go (eqb (port_of p.value) 0) refl is
   where
-    go : (t : Bool) → eqb (port_of u) 0 ≡ t → cond t Malformed (HostPort u place) ≡ HostPort v next → (HostPort u place ≡ HostPort v next) × (0 < v % 65536)
+    go : (t : Bool) → eqb (port_of p.value) 0 ≡ t → cond t None (Some p) ≡ read_as v next → (Some p ≡ read_as v next) × (0 < v % 65536)
     go true c e = absurd (never v next e)
     go false c e =
-        let same = same-host-port u place v next e in
-        (e, rw (← same.0) (omega (arith, eqb-false (port_of u) 0 c)))
+        let same = same-read p.value p.next v next e in
+        (e, rw (← same.0) (omega (arith, eqb-false (port_of p.value) 0 c)))
 
-pub port-not-zero : (text : List ℕ) (at v next : ℕ) → host_port_at text at ≡ HostPort v next → 0 < v % 65536
+pub port-not-zero : (text : List ℕ) (at v next : ℕ) → host_port_at text at ≡ read_as v next → 0 < v % 65536
 unfolding host_port_at
 port-not-zero text at v next e = (port-read (and_then (number_at text at) (more_at 5 text)) v next e).1
 
 -- six numbers, commas between, are written where they are read
-pub six-read : (text : List ℕ) (at v next : ℕ) → host_port_at text at ≡ HostPort v next
+pub six-read : (text : List ℕ) (at v next : ℕ) → host_port_at text at ≡ read_as v next
     → (h : HostPortNumerals) × WrittenAt text at h × (v ≡ address h * 65536 + port h) × (next ≡ at + length (host_port_text h))
 unfolding host_port_at and_then
 six-read text at v next is = go (number_at text at) refl (port-read (and_then (number_at text at) (more_at 5 text)) v next is).0
   where
-    go : (s : ParsedNumber) → number_at text at ≡ s → and_then s (more_at 5 text) ≡ HostPort v next
+    go : (s : Option Parsed) → number_at text at ≡ s → and_then s (more_at 5 text) ≡ read_as v next
         → (h : HostPortNumerals) × WrittenAt text at h × (v ≡ address h * 65536 + port h) × (next ≡ at + length (host_port_text h))
-    go NoNumber e g = absurd (never v next g)
-    go (Number u place) e g =
-        given (number_read text at u place e) (λ m₀.
+    go None e g = absurd (never v next g)
+    go (Some p) e g =
+        given (number_read text at p.value p.next e) (λ m₀.
         given (more-read 4 text m₀.a.value (at + length m₀.a.text) v next (rw (← m₀.says, ← m₀.place) g)) (λ m₁.
         given (more-read 3 text _ _ v next m₁.on) (λ m₂.
         given (more-read 2 text _ _ v next m₂.on) (λ m₃.
         given (more-read 1 text _ _ v next m₃.on) (λ m₄.
         given (more-read 0 text _ _ v next m₄.on) (λ m₅.
-        given (same-host-port _ _ v next (sym (more-done text _ _) ∙ m₅.on)) (λ end.
+        given (same-read _ _ v next (sym (more-done text _ _) ∙ m₅.on)) (λ end.
         given {A = (m₄.a.value ≡ 0) × (m₅.a.value ≡ 0) → ⊥} (λ z. omega (arith, port-not-zero text at v next is, end.0, z.0, z.1)) (λ some.
         let h : HostPortNumerals = record { a = m₀.a; b = m₁.a; c = m₂.a; d = m₃.a; e = m₄.a; f = m₅.a; has_port = some } in
         let p₁ = at + length h.a.text in
@@ -173,14 +175,14 @@ six-read text at v next is = go (number_at text at) refl (port-read (and_then (n
         let there : drop at text ≡ host_port_text h ++ m₅.rest = m₀.there ∙ rw (r₀, r₁, r₂, r₃, r₄) (sym (written-rest h m₅.rest)) in
         (h, record { rest = m₅.rest; there = there; no_digit = m₅.no_digit }, omega (arith, end.0), sym end.1 ∙ written-place h at)))))))))
 
-pub fits_48_bits : (text : List ℕ) (at v next : ℕ) → host_port_at text at ≡ HostPort v next → v < 2 ^ 48
+pub fits_48_bits : (text : List ℕ) (at v next : ℕ) → host_port_at text at ≡ read_as v next → v < 2 ^ 48
 fits_48_bits text at v next e =
     let f = six-read text at v next e in
     let h = f.0 in
     omega (arith, f.2, h.a.small, h.b.small, h.c.small, h.d.small, h.e.small, h.f.small)
 
 -- the place after a host-port is in the text or at its end
-pub host-port-place : (text : List ℕ) (at v next : ℕ) → host_port_at text at ≡ HostPort v next → next ≤ length text
+pub host-port-place : (text : List ℕ) (at v next : ℕ) → host_port_at text at ≡ read_as v next → next ≤ length text
 host-port-place text at v next e =
     let f = six-read text at v next e in
     let all : length text - at ≡ length (host_port_text f.0) + length f.1.rest = sym (length-drop at text) ∙ ap length f.1.there ∙ length-append (host_port_text f.0) f.1.rest in

@@ -1,5 +1,6 @@
 -- A number with a leading zero is malformed, and so is port 0, whatever comes before and after.
 use Prim.Native.Nat.{ℕ, suc, ◌+◌, ◌*◌, ◌-◌, ◌≤◌, ◌<◌}
+use Rattle.std.specs.Prelude.{Option, Some, None}
 use mathlib.Core.Path.{◌≡◌, refl, sym, ap, ◌∙◌}
 use mathlib.Core.Bool.{true}
 use mathlib.Core.List.{List, [], ◌∷◌, ◌++◌, append_assoc}
@@ -10,10 +11,8 @@ use Rattle.octets.specs.Cases.{AllHold}
 use Rattle.octets.specs.Decimal.{decimal_value}
 use Rattle.octets.proofs.Reading.{reading}
 use Rattle.texts.specs.Text.{is_digit, all, leading_count}
-use Rattle.hostports.specs.declared.host_port.ParsedNumber.{ParsedNumber}
-use Rattle.hostports.specs.declared.host_port.ParsedNumber.TheVariants.{Number, Malformed as NoNumber}
-use Rattle.hostports.specs.declared.host_port.ParsedHostPort.TheVariants.{Malformed}
-use Rattle.hostports.specs.HostPort.{number_at, more_at, refuse_port_zero, host_port_at}
+use Rattle.hostports.specs.declared.host_port.Parsed.{Parsed}
+use Rattle.hostports.specs.HostPort.{read_as, number_at, more_at, refuse_port_zero, host_port_at}
 use Rattle.hostports.specs.HostPorts.{comma_after_each}
 use Rattle.hostports.proofs.HostPort.{number-zero, first-is, numbers_from, from-none, from-number, comma-there, still-malformed, port-zero}
 use Rattle.hostports.proofs.HostPortsWritten.{run-all, after, byte-is}
@@ -21,24 +20,24 @@ use Rattle.hostports.proofs.HostPortsRead.{number_read}
 
 -- a run of digits with a comma after it: where it is a number, that number ends before the comma
 skip-run : (n : ℕ) (text : List ℕ) (v at : ℕ) (run rest : List ℕ) → all is_digit run ≡ true → drop at text ≡ run ++ 44 ∷ rest
-    → ((u : ℕ) → number_at text at ≡ Number u (at + length run) → refuse_port_zero (numbers_from n text (v * 256 + u) (at + length run + 1)) ≡ Malformed)
-    → refuse_port_zero (numbers_from (suc n) text v at) ≡ Malformed
+    → ((u : ℕ) → number_at text at ≡ read_as u (at + length run) → refuse_port_zero (numbers_from n text (v * 256 + u) (at + length run + 1)) ≡ None)
+    → refuse_port_zero (numbers_from (suc n) text v at) ≡ None
 skip-run n text v at run rest digits there on = go (number_at text at) refl
   where
-    go : (s : ParsedNumber) → number_at text at ≡ s → refuse_port_zero (numbers_from (suc n) text v at) ≡ Malformed
-    go NoNumber e = still-malformed _ (from-none (suc n) text v at e)
-    go (Number u next) e =
-        let m = number_read text at u next e in
+    go : (s : Option Parsed) → number_at text at ≡ s → refuse_port_zero (numbers_from (suc n) text v at) ≡ None
+    go None e = still-malformed _ (from-none (suc n) text v at e)
+    go (Some p) e =
+        let m = number_read text at p.value p.next e in
         let k : leading_count is_digit (drop at text) ≡ length run = rw there (run-all run (44 ∷ rest) digits refl) in
         let j : leading_count is_digit (drop at text) ≡ length m.a.text = rw m.there (run-all m.a.text m.rest m.a.digits m.no_digit) in
-        let place : next ≡ at + length run = omega (arith, m.place) in
-        let is : number_at text at ≡ Number u (at + length run) = e ∙ ap (Number u) place in
-        ap refuse_port_zero (from-number (suc n) text v at u (at + length run) is ∙ comma-there n text (v * 256 + u) (at + length run) (byte-is text (at + length run) 44 rest (after text at run (44 ∷ rest) there))) ∙ on u is
+        let place : p.next ≡ at + length run = omega (arith, m.place) in
+        let is : number_at text at ≡ read_as p.value (at + length run) = e ∙ ap (read_as p.value) place in
+        ap refuse_port_zero (from-number (suc n) text v at p.value (at + length run) is ∙ comma-there n text (v * 256 + p.value) (at + length run) (byte-is text (at + length run) 44 rest (after text at run (44 ∷ rest) there))) ∙ on p.value is
 
 -- so many runs, a comma after each, and what comes then
 skip_runs : (runs : List (List ℕ)) (m : ℕ) (text : List ℕ) (v at : ℕ) (then : List ℕ) → AllHold (λ run. all is_digit run ≡ true) runs → drop at text ≡ comma_after_each runs ++ then
-    → ((w place : ℕ) → drop place text ≡ then → refuse_port_zero (numbers_from m text w place) ≡ Malformed)
-    → refuse_port_zero (numbers_from (length runs + m) text v at) ≡ Malformed
+    → ((w place : ℕ) → drop place text ≡ then → refuse_port_zero (numbers_from m text w place) ≡ None)
+    → refuse_port_zero (numbers_from (length runs + m) text v at) ≡ None
 unfolding comma_after_each
 skip_runs [] m text v at then digits there last = rw (zero-add m) (last v at there)
 skip_runs (run ∷ runs) m text v at then digits there last =
@@ -50,14 +49,14 @@ skip_runs (run ∷ runs) m text v at then digits there last =
 
 -- ---- a leading zero
 
-zero-there : (text : List ℕ) (at d : ℕ) (rest : List ℕ) → is_digit d ≡ true → drop at text ≡ 48 ∷ d ∷ rest → number_at text at ≡ NoNumber
+zero-there : (text : List ℕ) (at d : ℕ) (rest : List ℕ) → is_digit d ≡ true → drop at text ≡ 48 ∷ d ∷ rest → number_at text at ≡ None
 unfolding leading_count
 zero-there text at d rest h e =
     let two : 1 < leading_count is_digit (drop at text) = rw (e, h) (omega arith) in
     number-zero text at two (rw e)
 
 pub leading-zero-malformed : (text : List ℕ) (at : ℕ) (before : List (List ℕ)) (d : ℕ) (rest : List ℕ) → AllHold (λ run. all is_digit run ≡ true) before → length before ≤ 5 → is_digit d ≡ true
-    → drop at text ≡ comma_after_each before ++ (48 ∷ d ∷ rest) → host_port_at text at ≡ Malformed
+    → drop at text ≡ comma_after_each before ++ (48 ∷ d ∷ rest) → host_port_at text at ≡ None
 leading-zero-malformed text at before d rest digits few h there =
     let m : length before + (5 - length before) ≡ 5 = omega arith in
     first-is text at
@@ -75,7 +74,7 @@ zero-first (b ∷ []) one plain e = rw e zero-says
 zero-first (b ∷ c ∷ rest) one plain e = absurd (plain (omega arith) e)
 
 -- a number that is read where a 0 is, is 0
-zero-read : (text : List ℕ) (at u next : ℕ) (rest : List ℕ) → drop at text ≡ 48 ∷ rest → number_at text at ≡ Number u next → u ≡ 0
+zero-read : (text : List ℕ) (at u next : ℕ) (rest : List ℕ) → drop at text ≡ 48 ∷ rest → number_at text at ≡ read_as u next → u ≡ 0
 zero-read text at u next rest there e =
     let m = number_read text at u next e in
     let a = m.a in
@@ -86,15 +85,15 @@ zero-read text at u next rest there e =
     first (x ∷ xs) ys one same = ap (λ (l : List ℕ). get_or l 0 0) same
 
 -- the last of the six
-last-zero : (text : List ℕ) (w at : ℕ) (rest : List ℕ) → drop at text ≡ 48 ∷ rest → refuse_port_zero (numbers_from 0 text (w * 256 + 0) at) ≡ Malformed
+last-zero : (text : List ℕ) (w at : ℕ) (rest : List ℕ) → drop at text ≡ 48 ∷ rest → refuse_port_zero (numbers_from 0 text (w * 256 + 0) at) ≡ None
 unfolding more_at
 last-zero text w at rest there = go (number_at text at) refl
   where
-    go : (s : ParsedNumber) → number_at text at ≡ s → refuse_port_zero (numbers_from 0 text (w * 256 + 0) at) ≡ Malformed
-    go NoNumber e = still-malformed _ (from-none 0 text (w * 256 + 0) at e)
-    go (Number u next) e = ap refuse_port_zero (from-number 0 text (w * 256 + 0) at u next e) ∙ port-zero _ next (omega (arith, zero-read text at u next rest there e))
+    go : (s : Option Parsed) → number_at text at ≡ s → refuse_port_zero (numbers_from 0 text (w * 256 + 0) at) ≡ None
+    go None e = still-malformed _ (from-none 0 text (w * 256 + 0) at e)
+    go (Some p) e = ap refuse_port_zero (from-number 0 text (w * 256 + 0) at p.value p.next e) ∙ port-zero _ p.next (omega (arith, zero-read text at p.value p.next rest there e))
 
-last-two : (text : List ℕ) (v at : ℕ) (rest : List ℕ) → drop at text ≡ 48 ∷ 44 ∷ 48 ∷ rest → refuse_port_zero (numbers_from 1 text v at) ≡ Malformed
+last-two : (text : List ℕ) (v at : ℕ) (rest : List ℕ) → drop at text ≡ 48 ∷ 44 ∷ 48 ∷ rest → refuse_port_zero (numbers_from 1 text v at) ≡ None
 unfolding all
 last-two text v at rest there =
     skip-run 0 text v at (48 ∷ []) (48 ∷ rest) refl there (λ u e.
@@ -102,7 +101,7 @@ last-two text v at rest there =
     rw z (last-zero text v (at + 1 + 1) rest (after text (at + 1) (44 ∷ []) (48 ∷ rest) (after text at (48 ∷ []) (44 ∷ 48 ∷ rest) there))))
 
 pub port-zero-malformed : (text : List ℕ) (at : ℕ) (before : List (List ℕ)) (rest : List ℕ) → AllHold (λ run. all is_digit run ≡ true) before → length before ≡ 4
-    → drop at text ≡ comma_after_each before ++ (48 ∷ 44 ∷ 48 ∷ rest) → host_port_at text at ≡ Malformed
+    → drop at text ≡ comma_after_each before ++ (48 ∷ 44 ∷ 48 ∷ rest) → host_port_at text at ≡ None
 port-zero-malformed text at before rest digits four there =
     let m : length before + 1 ≡ 5 = omega arith in
     first-is text at ∙ rw (← m) (skip_runs before 1 text 0 at (48 ∷ 44 ∷ 48 ∷ rest) digits there (λ v place e. last-two text v place rest e))

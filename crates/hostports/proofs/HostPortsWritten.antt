@@ -12,9 +12,7 @@ use Rattle.octets.specs.Decimal.{no_leading_zero}
 use Rattle.octets.proofs.Decimals.{plain-unless}
 use Rattle.texts.specs.Text.{is_digit, all, leading_count}
 use Rattle.texts.proofs.Texts.{leading-append}
-use Rattle.hostports.specs.declared.host_port.ParsedNumber.TheVariants.{Number}
-use Rattle.hostports.specs.declared.host_port.ParsedHostPort.TheVariants.{HostPort}
-use Rattle.hostports.specs.HostPort.{digit_limit, value_limit, number_at, more_at, refuse_port_zero, host_port_at}
+use Rattle.hostports.specs.HostPort.{read_as, digit_limit, value_limit, number_at, more_at, refuse_port_zero, host_port_at}
 use Rattle.hostports.specs.HostPorts.{Numeral, StartsWithNoDigit, HostPortNumerals, host_port_text, address, port, WrittenAt}
 use Rattle.hostports.proofs.HostPort.{first-number, one_more, more-done, port-kept}
 
@@ -38,7 +36,7 @@ numeral-plain a = plain-unless a.text a.digits a.no_leading_zero_is ∙ lt-ltb 0
 pub byte-is : (text : List ℕ) (at b : ℕ) (rest : List ℕ) → drop at text ≡ b ∷ rest → get_or text at 0 ≡ b
 byte-is text at b rest e = rw (← add-zero at, ← get_or-drop at text 0 0, e)
 
-number-written : (text : List ℕ) (at : ℕ) (a : Numeral) (rest : List ℕ) → drop at text ≡ a.text ++ rest → StartsWithNoDigit rest → number_at text at ≡ Number a.value (at + length a.text)
+number-written : (text : List ℕ) (at : ℕ) (a : Numeral) (rest : List ℕ) → drop at text ≡ a.text ++ rest → StartsWithNoDigit rest → number_at text at ≡ read_as a.value (at + length a.text)
 unfolding number_at
 number-written text at a rest e g =
     rw (
@@ -90,7 +88,7 @@ pub port-is-not-0 : (h : HostPortNumerals) → port h ≡ 0 → ⊥
 port-is-not-0 h z = h.has_port (omega arith, omega arith)
 
 -- six numbers are read one after the other
-pub six-written : (text : List ℕ) (at : ℕ) (h : HostPortNumerals) → WrittenAt text at h → host_port_at text at ≡ HostPort (address h * 65536 + port h) (at + length (host_port_text h))
+pub six-written : (text : List ℕ) (at : ℕ) (h : HostPortNumerals) → WrittenAt text at h → host_port_at text at ≡ read_as (address h * 65536 + port h) (at + length (host_port_text h))
 six-written text at h w =
     let s₅ = comma_then h.f w.rest in
     let s₄ = comma_then h.e s₅ in
@@ -109,7 +107,7 @@ six-written text at h w =
     let d₄ : drop p₄ text ≡ s₄ = after_more text p₃ h.d s₄ d₃ in
     let d₅ : drop p₅ text ≡ s₅ = after_more text p₄ h.e s₅ d₄ in
     let number : (address h * 256 + h.e.value) * 256 + h.f.value ≡ address h * 65536 + port h = omega arith in
-    let more : more_at 5 text h.a.value p₁ ≡ HostPort (address h * 65536 + port h) (at + length (host_port_text h)) =
+    let more : more_at 5 text h.a.value p₁ ≡ read_as (address h * 65536 + port h) (at + length (host_port_text h)) =
     more-written text p₁ h.b s₂ d₁ 4 _ refl
     ∙ more-written text p₂ h.c s₃ d₂ 3 _ refl
     ∙ more-written text p₃ h.d s₄ d₃ 2 _ refl

@@ -1,8 +1,7 @@
 -- Worked cases of one host-port (document 02, Item 10), as one statement over a list of cases.
 use Rattle.std.specs.Prelude.{ℕ, ◌+◌, ◌*◌, ◌≡◌, List, [], ◌∷◌, length}
 use Rattle.octets.specs.Cases.{AllHold}
-use Rattle.hostports.specs.declared.host_port.ParsedHostPort.TheVariants.{HostPort}
-use Rattle.hostports.specs.HostPort.{host_port_at, refusal_number}
+use Rattle.hostports.specs.HostPort.{read_as, host_port_at, refusal_number}
 
 pub data Case : Type 0 where
   -- the text is a host-port with this address and this port
@@ -11,7 +10,7 @@ pub data Case : Type 0 where
   refused : List ℕ → Case
 
 abbrev pub Holds : Case → Type 0
-Holds (accepted text address port) = host_port_at text 0 ≡ HostPort (address * 65536 + port) (length text)
+Holds (accepted text address port) = host_port_at text 0 ≡ read_as (address * 65536 + port) (length text)
 Holds (refused text) = refusal_number (host_port_at text 0) ≡ 41
 
 abbrev pub cases : List Case

@@ -3,8 +3,7 @@ use Rattle.std.specs.Prelude.{ℕ, ◌+◌, ◌*◌, ◌-◌, ◌%◌, ◌^◌, 
 use Rattle.octets.specs.Cases.{AllHold}
 use Rattle.octets.specs.Decimal.{decimal_value}
 use Rattle.texts.specs.Text.{is_digit, all}
-use Rattle.hostports.specs.declared.host_port.ParsedHostPort.TheVariants.{HostPort}
-use Rattle.hostports.specs.HostPort.{host_port_at, refusal_number, value_of, place_after}
+use Rattle.hostports.specs.HostPort.{read_as, host_port_at, refusal_number, value_of, place_after}
 
 -- a number of at most 255, written in 1 to 3 digits, without a leading zero, which a lone 0 is not
 pub record Numeral : Type 0 where
@@ -57,9 +56,9 @@ comma_after_each (run ∷ runs) = run ++ 44 ∷ comma_after_each runs
 pub record HostPorts : Type 0 where
   -- six numbers with commas between, the last two not both 0, at any place of a text, with nothing or a byte that is no digit after them,
   -- are a host-port: address * 65,536 + port, and the place after it
-  pub written_reads : (text : List ℕ) (at : ℕ) (h : HostPortNumerals) → WrittenAt text at h → host_port_at text at ≡ HostPort (address h * 65536 + port h) (at + length (host_port_text h))
+  pub written_reads : (text : List ℕ) (at : ℕ) (h : HostPortNumerals) → WrittenAt text at h → host_port_at text at ≡ read_as (address h * 65536 + port h) (at + length (host_port_text h))
   -- whatever reads as a host-port is written so
-  pub reads_written : (text : List ℕ) (at v next : ℕ) → host_port_at text at ≡ HostPort v next
+  pub reads_written : (text : List ℕ) (at v next : ℕ) → host_port_at text at ≡ read_as v next
       → (h : HostPortNumerals) × WrittenAt text at h × (v ≡ address h * 65536 + port h) × (next ≡ at + length (host_port_text h))
   -- the number is 0 where a host-port is written at the place, with its values
   pub number_0 : (text : List ℕ) (at : ℕ) (h : HostPortNumerals) → WrittenAt text at h
@@ -68,7 +67,7 @@ pub record HostPorts : Type 0 where
   pub number_41 : (text : List ℕ) (at : ℕ) → ((h : HostPortNumerals) → WrittenAt text at h → ⊥)
       → (refusal_number (host_port_at text at) ≡ 41) × (value_of (host_port_at text at) ≡ 0) × (place_after (host_port_at text at) ≡ 0)
   -- whatever text it is read from, a host-port fits 48 bits
-  pub fits_48_bits : (text : List ℕ) (at v next : ℕ) → host_port_at text at ≡ HostPort v next → v < 2 ^ 48
+  pub fits_48_bits : (text : List ℕ) (at v next : ℕ) → host_port_at text at ≡ read_as v next → v < 2 ^ 48
   -- 41: a 0 and a further digit where one of the six begins, after up to five runs of digits, whatever they say and whatever follows
   pub no_leading_zero_is : (text : List ℕ) (at : ℕ) (before : List (List ℕ)) (d : ℕ) (rest : List ℕ) → AllHold (λ run. all is_digit run ≡ true) before → length before ≤ 5 → is_digit d ≡ true
       → drop at text ≡ comma_after_each before ++ (48 ∷ d ∷ rest) → refusal_number (host_port_at text at) ≡ 41
@@ -76,8 +75,8 @@ pub record HostPorts : Type 0 where
   pub no_port_0 : (text : List ℕ) (at : ℕ) (before : List (List ℕ)) (rest : List ℕ) → AllHold (λ run. all is_digit run ≡ true) before → length before ≡ 4
       → drop at text ≡ comma_after_each before ++ (48 ∷ 44 ∷ 48 ∷ rest) → refusal_number (host_port_at text at) ≡ 41
   -- no host-port that is read has port 0
-  pub port_not_0 : (text : List ℕ) (at v next : ℕ) → host_port_at text at ≡ HostPort v next → 0 < v % 65536
+  pub port_not_0 : (text : List ℕ) (at v next : ℕ) → host_port_at text at ≡ read_as v next → 0 < v % 65536
   -- a host-port has one text: two texts that are a host-port each, of one value, are the same, whatever their lengths
-  pub one_text : (s t : List ℕ) (v : ℕ) → host_port_at s 0 ≡ HostPort v (length s) → host_port_at t 0 ≡ HostPort v (length t) → s ≡ t
+  pub one_text : (s t : List ℕ) (v : ℕ) → host_port_at s 0 ≡ read_as v (length s) → host_port_at t 0 ≡ read_as v (length t) → s ≡ t
   -- and the bytes of two host-ports of one value are the same, at any places of any texts
-  pub same_bytes : (s t : List ℕ) (a b v p q : ℕ) → host_port_at s a ≡ HostPort v p → host_port_at t b ≡ HostPort v q → take (p - a) (drop a s) ≡ take (q - b) (drop b t)
+  pub same_bytes : (s t : List ℕ) (a b v p q : ℕ) → host_port_at s a ≡ read_as v p → host_port_at t b ≡ read_as v q → take (p - a) (drop a s) ≡ take (q - b) (drop b t)
