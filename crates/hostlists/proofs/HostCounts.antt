@@ -5,9 +5,8 @@ use mathlib.Core.List.{List, [], ◌∷◌}
 use native.Mathlib.Omega.{arith}
 use borrow.Author.Tests.{le-ltb}
 use lib.ListN.{length, replicate, length-append}
-use Rattle.hostports.specs.HostPort.{host_port_at}
+use Rattle.hostports.specs.HostPort.{read_as, host_port_at}
 use Rattle.hostports.specs.HostPorts.{HostPortNumerals, host_port_text}
-use Rattle.hostports.specs.declared.host_port.ParsedHostPort.TheVariants.{HostPort}
 use Rattle.hostports.proofs.HostPortCases.{host-port-cases}
 use Rattle.hostlists.specs.HostList.{host_limit, ParsedList, parsed, trouble, hosts_of, answer_of, fill_of, count, host_count}
 use Rattle.hostlists.specs.HostLists.{with_spaces, ListText}
@@ -65,7 +64,7 @@ shortest text l = rw l.says (go l.hosts l.one_or_more)
     go (h ∷ i ∷ hs) n = omega (arith, eleven h, length-append (host_port_text h) (32 ∷ with_spaces (i ∷ hs)))
 
 -- a text that a host-port is read from, up to its end
-whole : (text : List ℕ) (v : ℕ) → host_port_at text 0 ≡ HostPort v (length text) → (h : HostPortNumerals) × (host_port_text h ≡ text)
+whole : (text : List ℕ) (v : ℕ) → host_port_at text 0 ≡ read_as v (length text) → (h : HostPortNumerals) × (host_port_text h ≡ text)
 unfolding host_count hosts_of count answer_of
 whole text v e =
     let o = only_one text (rw (list-ends 63 text 0 v (length text) e refl)) in

@@ -1,6 +1,7 @@
 -- A list of host-ports: what each step of reading it says, and what a lent list holds meanwhile.
 use Prim.Native.Nat.{ℕ, suc, ◌+◌, ◌-◌, ◌≤◌, ◌<◌}
-use mathlib.Core.Path.{◌≡◌, refl, sym, ap, ◌∙◌}
+use Rattle.std.specs.Prelude.{None, Result, Ok, Err}
+use mathlib.Core.Path.{◌≡◌, refl, ap, ◌∙◌}
 use mathlib.Core.List.{List, [], ◌∷◌, ◌++◌, append-nil}
 use native.Mathlib.Omega.{arith}
 use native.Mathlib.Nat.{sub-zero}
@@ -8,37 +9,33 @@ use native.Mathlib.Numerals.{add-one}
 use borrow.Author.Tests.{lt-ltb, le-ltb, eq-eqb, ne_eqb}
 use borrow.Rule.Slice.PartMut.{put_mid}
 use lib.ListN.{length, get_or, set, take, drop, replicate, length-append, length-take, length-drop, drop_of_length-le}
-use lib.Seq.{length-take-le, take_all, take-suc-set}
-use Rattle.hostports.specs.declared.host_port.ParsedHostPort.TheVariants.{HostPort, Malformed}
-use Rattle.hostlists.specs.declared.list.Hosts.{Hosts}
-use Rattle.hostlists.specs.declared.list.Hosts.TheVariants.{Count, Refused}
-use Rattle.hostports.specs.HostPort.{host_port_at}
-use Rattle.hostlists.specs.HostList.{host_limit, space, count, ParsedList, parsed, trouble, prepend, host_port_then, list_at, hosts_of, answer_of, host_ports, StoreResult, cleared_from, entries_of, fill_of, fill_after}
+use lib.Seq.{length-take-le, take-suc-set}
+use Rattle.std.specs.Result.{result_unwrap_or}
+use Rattle.answers.specs.Refusal.{numbered}
+use Rattle.answers.specs.declared.refusal.Refusal.{Refusal}
+use Rattle.hostports.specs.HostPort.{read_as, host_port_at}
+use Rattle.hostlists.specs.HostList.{host_limit, space, count, ParsedList, parsed, trouble, prepend, host_port_then, list_at, hosts_of, answer_of, host_ports, StoreResult, entries_of, fill_of, fill_after}
 
--- ---- clearing a list from an entry on
+-- ---- a list with zeros from an entry on
+
+abbrev pub cleared_from : ℕ → List ℕ → List ℕ
+cleared_from from list = take from list ++ replicate (length list - from) 0
 
 -- the part from an entry on, which came back as zeros
 pub cleared-part : (list ys : List ℕ) (from : ℕ) → ys ≡ replicate (length (take (length list - from) (drop from list))) 0
     → put_mid from (length list - from) list ys ≡ cleared_from from list
-unfolding cleared_from
 cleared-part list ys from e =
     let h : length (drop from list) ≤ length list - from = simp length-drop (omega arith) in
     let n : length (take (length list - from) (drop from list)) ≡ length list - from = simp (length-take, length-drop) (omega arith) in
     rw (e, n, drop_of_length-le (drop from list) h, append-nil)
 
-pub cleared-none : (list : List ℕ) (from : ℕ) → length list ≤ from → list ≡ cleared_from from list
-unfolding cleared_from
-cleared-none list from h =
-    let z : length list - from ≡ 0 = omega arith in
-    rw (z, take_all from list h, append-nil)
-
 -- ---- one step of a list
 
-pub list-malformed : (n : ℕ) (text : List ℕ) (at : ℕ) → host_port_at text at ≡ Malformed → list_at (suc n) text at ≡ trouble 41
+pub list-malformed : (n : ℕ) (text : List ℕ) (at : ℕ) → host_port_at text at ≡ None → list_at (suc n) text at ≡ trouble 41
 unfolding list_at host_port_then
 list-malformed n text at e = rw e
 
-module _ (n : ℕ) (text : List ℕ) (at v next : ℕ) (e : host_port_at text at ≡ HostPort v next) where
+module _ (n : ℕ) (text : List ℕ) (at v next : ℕ) (e : host_port_at text at ≡ read_as v next) where
   pub list-ends : next ≡ length text → list_at (suc n) text at ≡ parsed (v ∷ [])
   unfolding list_at host_port_then
   list-ends h = rw (e, eq-eqb next (length text) h)
@@ -84,13 +81,13 @@ following-snoc (u ∷ vs) v r = rw (following-snoc vs v r)
 pub following-more : (list : List ℕ) (n v : ℕ) (r : ParsedList) → n < length list → following (take (n + 1) (set list n v)) r ≡ following (take n list) (prepend v r)
 following-more list n v r h = rw (add-one n, take-suc-set list n v) (following-snoc (take n list) v r)
 
-pub stored-trouble : (text list vs : List ℕ) (r : ParsedList) (k : ℕ) → hosts_of text ≡ following vs r → r ≡ trouble k → StoreResult text (Refused k) list
+pub stored-trouble : (text list vs : List ℕ) (r : ParsedList) (k : ℕ) → hosts_of text ≡ following vs r → r ≡ trouble k → StoreResult text (Err k) list
 unfolding answer_of host_ports
 stored-trouble text list vs r k e h =
     let w : hosts_of text ≡ trouble k = e ∙ rw h (following-trouble vs k) in
     record { answers = rw w; after = rw w }
 
-pub stored_last : (text list : List ℕ) (n v : ℕ) (r : ParsedList) → n < length list → hosts_of text ≡ following (take n list) r → r ≡ parsed (v ∷ []) → StoreResult text (Count (n + 1)) (set list n v)
+pub stored_last : (text list : List ℕ) (n v : ℕ) (r : ParsedList) → n < length list → hosts_of text ≡ following (take n list) r → r ≡ parsed (v ∷ []) → StoreResult text (Ok (n + 1)) (set list n v)
 unfolding answer_of host_ports
 stored_last text list n v r h e g =
     let m : take (n + 1) (set list n v) ≡ take n list ++ (v ∷ []) = rw (add-one n, take-suc-set list n v) in
@@ -110,16 +107,26 @@ unfolding entries_of host_ports
 entries-are n (parsed vs) = refl
 entries-are n (trouble k) = rw (sub-zero n)
 
-pub fills-short : (text list : List ℕ) → length list < host_limit → (Refused 43 ≡ fill_of text list) × (list ≡ fill_after text list)
+pub fills-short : (text list : List ℕ) → length list < host_limit → (Err 43 ≡ fill_of text list) × (list ≡ fill_after text list)
 unfolding fill_of fill_after
 fills-short text list h = (rw (lt-ltb (length list) host_limit h), rw (lt-ltb (length list) host_limit h))
 
--- a list that the text's host-ports were stored in, cleared after them
-pub fills : (text list kept : List ℕ) (r : Hosts) (n : ℕ) → host_limit ≤ length list → length kept ≡ length list → StoreResult text r kept → count r ≡ n
-    → (r ≡ fill_of text list) × (cleared_from n kept ≡ fill_after text list)
-unfolding fill_of fill_after cleared_from
-fills text list kept r n h e s c =
-    let m : n ≡ length (host_ports (hosts_of text)) = sym c ∙ ap count s.answers ∙ count_is (hosts_of text) in (
-      rw (le-ltb (length list) host_limit h) s.answers,
-      rw (le-ltb (length list) host_limit h, entries-are (length list) (hosts_of text), e, m, s.after),
-    )
+module _ (text kept : List ℕ) (r : Result ℕ Refusal) (s : StoreResult text (numbered r) kept) where
+  -- how many host-ports were stored, none where the text is refused
+  stored : result_unwrap_or r 0 ≡ length (host_ports (hosts_of text))
+  unfolding count
+  stored = counted r ∙ ap count s.answers ∙ count_is (hosts_of text)
+    where
+      counted : (q : Result ℕ Refusal) → result_unwrap_or q 0 ≡ count (numbered q)
+      counted (Ok n) = refl
+      counted (Err k) = refl
+
+  pub stored-fits : result_unwrap_or r 0 ≤ length kept
+  stored-fits = omega (arith, stored, ap length s.after, length-take (length (host_ports (hosts_of text))) kept)
+
+  -- the list cleared after them
+  pub fills : (list : List ℕ) → host_limit ≤ length list → length kept ≡ length list
+      → (numbered r ≡ fill_of text list) × (cleared_from (result_unwrap_or r 0) kept ≡ fill_after text list)
+  unfolding fill_of fill_after
+  fills list h e =
+      (rw (le-ltb (length list) host_limit h) s.answers, rw (le-ltb (length list) host_limit h, entries-are (length list) (hosts_of text), e, stored, s.after))

@@ -9,9 +9,10 @@ use borrow.Author.Tests.{lt-ltb, le-ltb}
 use mathlib.Core.Bool.{false}
 use lib.Dec.{ltb}
 use lib.ListN.{length, get_or, replicate}
+use Rattle.answers.specs.Refusal.{number_in}
 use Rattle.hostports.specs.HostPort.{host_port_at, refusal_number as host_port_number}
 use Rattle.hostports.specs.HostPorts.{HostPortNumerals}
-use Rattle.hostlists.specs.HostList.{host_limit, ParsedList, parsed, trouble, hosts_of, answer_of, entries_of, fill_of, fill_after, refusal_number, count}
+use Rattle.hostlists.specs.HostList.{host_limit, ParsedList, parsed, trouble, hosts_of, answer_of, entries_of, fill_of, fill_after, count}
 use Rattle.hostlists.specs.HostLists.{with_spaces, space_after_each, values, ListText, LongerText, TooShort, HostLists, Filling}
 use Rattle.hostlists.proofs.HostListsRead.{reads-list, reads-longer, reads_malformed, ReadList, ReadLonger, Read, read-list}
 use Rattle.hostlists.proofs.HostListsOnce.{same_text, same_entries, values-not-0}
@@ -106,8 +107,8 @@ host-lists =
 
 -- ---- what filling a lent list answers and leaves
 
-short : (text list : List ℕ) → TooShort list → (refusal_number (fill_of text list) ≡ 43) × (count (fill_of text list) ≡ 0) × (fill_after text list ≡ list)
-unfolding fill_of fill_after refusal_number count
+short : (text list : List ℕ) → TooShort list → (number_in (fill_of text list) ≡ 43) × (count (fill_of text list) ≡ 0) × (fill_after text list ≡ list)
+unfolding fill_of fill_after count
 short text list h =
     let test = lt-ltb (length list) host_limit h in
     (rw test, rw test, rw test)
@@ -116,22 +117,22 @@ module _ (text list : List ℕ) (h : TooShort list → ⊥) where
   long-enough : ltb (length list) host_limit ≡ false
   long-enough = le-ltb (length list) host_limit (omega arith)
 
-  refused : (k : ℕ) → hosts_of text ≡ trouble k → (refusal_number (fill_of text list) ≡ k) × (count (fill_of text list) ≡ 0) × (fill_after text list ≡ replicate (length list) 0)
-  unfolding fill_of fill_after refusal_number count answer_of entries_of
+  refused : (k : ℕ) → hosts_of text ≡ trouble k → (number_in (fill_of text list) ≡ k) × (count (fill_of text list) ≡ 0) × (fill_after text list ≡ replicate (length list) 0)
+  unfolding fill_of fill_after count answer_of entries_of
   refused k e = (rw (long-enough, e), rw (long-enough, e), rw (long-enough, e))
 
   accepted : (l : ListText text)
-      → (refusal_number (fill_of text list) ≡ 0)
+      → (number_in (fill_of text list) ≡ 0)
       × (count (fill_of text list) ≡ length l.hosts)
       × (fill_after text list ≡ values l.hosts ++ replicate (length list - length l.hosts) 0)
-  unfolding fill_of fill_after refusal_number count answer_of entries_of
+  unfolding fill_of fill_after count answer_of entries_of
   accepted l =
       let e = reads text l in
       let n = length-values l.hosts in
       (rw (long-enough, e), rw (long-enough, e) n, rw (long-enough, e, n))
 
 -- a text that is not refused is a list, and the lent list has its host-ports and then zeros
-filled : (text list : List ℕ) → refusal_number (fill_of text list) ≡ 0 → (l : ListText text) × (fill_after text list ≡ values l.hosts ++ replicate (length list - length l.hosts) 0)
+filled : (text list : List ℕ) → number_in (fill_of text list) ≡ 0 → (l : ListText text) × (fill_after text list ≡ values l.hosts ++ replicate (length list - length l.hosts) 0)
 filled text list h = go (dec_lt (length list) host_limit) (hosts_of text) refl
   where
     go : Dec (length list < host_limit) → (r : ParsedList) → hosts_of text ≡ r → (l : ListText text) × (fill_after text list ≡ values l.hosts ++ replicate (length list - length l.hosts) 0)
@@ -141,7 +142,7 @@ filled text list h = go (dec_lt (length list) host_limit) (hosts_of text) refl
         (l, (accepted text list s l).2)
     go (no s) (trouble k) e = absurd (⊎_elim (λ z. omega (arith, z, h, (refused text list s k e).0)) (λ m. omega (arith, m.0, h, (refused text list s k e).0)) (which text k e))
 
-filled-once : (s t list other : List ℕ) → refusal_number (fill_of s list) ≡ 0 → refusal_number (fill_of t other) ≡ 0 → ((i : ℕ) → get_or (fill_after s list) i 0 ≡ get_or (fill_after t other) i 0) → s ≡ t
+filled-once : (s t list other : List ℕ) → number_in (fill_of s list) ≡ 0 → number_in (fill_of t other) ≡ 0 → ((i : ℕ) → get_or (fill_after s list) i 0 ≡ get_or (fill_after t other) i 0) → s ≡ t
 filled-once s t list other d e same =
     let p = filled s list d in
     let q = filled t other e in

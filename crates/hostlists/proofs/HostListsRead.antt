@@ -1,5 +1,6 @@
 -- A text of host-ports with one space between reads as their list, and what reads as one is written so.
 use Prim.Native.Nat.{ℕ, zero, suc, ◌+◌, ◌≤◌, ◌<◌}
+use Rattle.std.specs.Prelude.{Option, Some, None}
 use mathlib.Core.Path.{◌≡◌, refl, sym, ap, subst, ◌∙◌}
 use mathlib.Core.Bool.{Bool, true, false, cond}
 use mathlib.Core.Logic.{◌⊎◌, inl, inr}
@@ -9,10 +10,9 @@ use borrow.Author.Tests.{eqb-true, eqb-false}
 use lib.Dec.{eqb}
 use lib.ListN.{length, get_or, drop, length-drop, drop_of_length-le}
 use lib.Seq.{drop-cons}
-use Rattle.hostports.specs.HostPort.{host_port_at, refusal_number as host_port_number}
+use Rattle.hostports.specs.HostPort.{read_as, host_port_at, refusal_number as host_port_number}
 use Rattle.hostports.specs.HostPorts.{HostPortNumerals, host_port_text, WrittenAt}
-use Rattle.hostports.specs.declared.host_port.ParsedHostPort.{ParsedHostPort}
-use Rattle.hostports.specs.declared.host_port.ParsedHostPort.TheVariants.{HostPort, Malformed}
+use Rattle.hostports.specs.declared.host_port.Parsed.{Parsed}
 use Rattle.hostports.proofs.HostPorts.{host-ports}
 use Rattle.hostports.proofs.HostPortsWritten.{after, byte-is, written-some}
 use Rattle.hostports.proofs.HostPortsRead.{byte-there}
@@ -70,7 +70,7 @@ reads-longer (suc n) text at (h ∷ hs) b rest l e =
     ∙ rw (reads-longer n text (at + length (host_port_text h) + 1) hs b rest (omega arith) (after-space n text at h (space_after_each hs (b ∷ rest)) e))
 
 -- whether a host-port is malformed depends on what the text has from its place on
-malformed-there : (text : List ℕ) (at : ℕ) (rest : List ℕ) → drop at text ≡ rest → host_port_number (host_port_at rest 0) ≡ 41 → host_port_at text at ≡ Malformed
+malformed-there : (text : List ℕ) (at : ℕ) (rest : List ℕ) → drop at text ≡ rest → host_port_number (host_port_at rest 0) ≡ 41 → host_port_at text at ≡ None
 unfolding host_port_number
 malformed-there text at rest e h = malformed (host_port_at text at) (host-ports.number_41 text at none).0
   where
@@ -79,9 +79,9 @@ malformed-there text at rest e h = malformed (host_port_at text at) (host-ports.
         let z = (host-ports.number_0 rest 0 i (record { rest = w.rest; there = sym e ∙ w.there; no_digit = w.no_digit })).0 in
         omega (arith, z, h)
 
-    malformed : (s : ParsedHostPort) → host_port_number s ≡ 41 → s ≡ Malformed
-    malformed Malformed e = refl
-    malformed (HostPort v next) e = absurd (omega arith)
+    malformed : (s : Option Parsed) → host_port_number s ≡ 41 → s ≡ None
+    malformed None e = refl
+    malformed (Some p) e = absurd (omega arith)
 
 pub reads_malformed : (n : ℕ) (text : List ℕ) (at : ℕ) (hs : List HostPortNumerals) (rest : List ℕ) → length hs < n → drop at text ≡ space_after_each hs rest → host_port_number (host_port_at rest 0) ≡ 41
     → list_at n text at ≡ trouble 41
@@ -122,7 +122,7 @@ read-prepend n text at next h (trouble k) e (inr m) = inr (m.0, record { hs = h 
 
 -- a host-port that is read, and what comes after it
 read_found : (n : ℕ) (text : List ℕ) (at : ℕ) (h : HostPortNumerals) (on : ℕ → ParsedList) → WrittenAt text at h → ((place : ℕ) → place ≤ length text → Read n text place (on place))
-    → Read (suc n) text at (host_port_then text (HostPort (value h) (at + length (host_port_text h))) on)
+    → Read (suc n) text at (host_port_then text (read_as (value h) (at + length (host_port_text h))) on)
 unfolding host_port_then with_spaces values
 read_found n text at h on w more = go (eqb next (length text)) refl (eqb (get_or text next 0) space) refl
   where
@@ -144,16 +144,16 @@ read_found n text at h on w more = go (eqb next (length text)) refl (eqb (get_or
         read-prepend n text at (next + 1) h (on (next + 1)) (w.there ∙ rw (← here, byte)) (more (next + 1) (omega arith))
     go false p false q = inl refl
 
-same-host-port : {v w p q : ℕ} → v ≡ w → p ≡ q → HostPort v p ≡ HostPort w q
+same-host-port : {v w p q : ℕ} → v ≡ w → p ≡ q → read_as v p ≡ read_as w q
 same-host-port e d = rw (e, d)
 
-read-then : (n : ℕ) (text : List ℕ) (at : ℕ) (on : ℕ → ParsedList) (s : ParsedHostPort) → host_port_at text at ≡ s → ((place : ℕ) → place ≤ length text → Read n text place (on place))
+read-then : (n : ℕ) (text : List ℕ) (at : ℕ) (on : ℕ → ParsedList) (s : Option Parsed) → host_port_at text at ≡ s → ((place : ℕ) → place ≤ length text → Read n text place (on place))
     → Read (suc n) text at (host_port_then text s on)
 unfolding host_port_then
-read-then n text at on Malformed e more = inl refl
-read-then n text at on (HostPort v next) e more =
-    let f = host-ports.reads_written text at v next e in
-    subst (λ (s : ParsedHostPort). Read (suc n) text at (host_port_then text s on)) (same-host-port (sym f.2) (sym f.3)) (read_found n text at f.0 on f.1 more)
+read-then n text at on None e more = inl refl
+read-then n text at on (Some p) e more =
+    let f = host-ports.reads_written text at p.value p.next e in
+    subst (λ (s : Option Parsed). Read (suc n) text at (host_port_then text s on)) (same-host-port (sym f.2) (sym f.3)) (read_found n text at f.0 on f.1 more)
 
 pub read-list : (n : ℕ) (text : List ℕ) (at : ℕ) → at ≤ length text → Read n text at (list_at n text at)
 unfolding list_at space_after_each

@@ -1,14 +1,13 @@
 -- How many host-ports a text has, whatever list is lent for them.
-use Rattle.std.specs.Prelude.{ℕ, ◌≤◌, ◌<◌, ◌≡◌, List, [], ◌∷◌, ◌++◌, length}
+use Rattle.std.specs.Prelude.{ℕ, ◌≤◌, ◌<◌, ◌≡◌, Ok, Err, List, [], ◌∷◌, ◌++◌, length}
 use Rattle.hostports.specs.HostPorts.{HostPortNumerals, host_port_text}
 use Rattle.hostlists.specs.HostList.{fill_of, host_count}
 use Rattle.hostlists.specs.HostLists.{ListText}
-use Rattle.hostlists.specs.declared.list.Hosts.TheVariants.{Count, Refused}
 
 pub record HostCounts : Type 0 where
   -- into 64 entries or more: the number that filling answers, and none where it refuses
-  pub filled : (text list : List ℕ) (n : ℕ) → 64 ≤ length list → fill_of text list ≡ Count n → host_count text ≡ n
-  pub refused : (text list : List ℕ) (k : ℕ) → 64 ≤ length list → fill_of text list ≡ Refused k → host_count text ≡ 0
+  pub filled : (text list : List ℕ) (n : ℕ) → 64 ≤ length list → fill_of text list ≡ Ok n → host_count text ≡ n
+  pub refused : (text list : List ℕ) (k : ℕ) → 64 ≤ length list → fill_of text list ≡ Err k → host_count text ≡ 0
   -- as many as the list has; every other text has none
   pub list_counts : (text : List ℕ) (l : ListText text) → host_count text ≡ length l.hosts
   pub only_lists : (text : List ℕ) → 0 < host_count text → ListText text

@@ -1,10 +1,7 @@
 -- Host-port lists (document 01, "Control lines"): 1 to 64 host-ports with one space between.
-use Rattle.std.specs.Prelude.{ℕ, zero, suc, ◌+◌, ◌-◌, ◌≡◌, cond, List, [], ◌∷◌, ◌++◌, ltb, eqb, length, get_or, take, replicate}
+use Rattle.std.specs.Prelude.{ℕ, zero, suc, ◌+◌, ◌-◌, ◌≡◌, cond, Option, Some, None, Result, Ok, Err, List, [], ◌∷◌, ◌++◌, ltb, eqb, length, get_or, take, replicate}
 use Rattle.hostports.specs.HostPort.{host_port_at}
-use Rattle.hostports.specs.declared.host_port.ParsedHostPort.{ParsedHostPort}
-use Rattle.hostports.specs.declared.host_port.ParsedHostPort.TheVariants.{HostPort, Malformed}
-use Rattle.hostlists.specs.declared.list.Hosts.{Hosts}
-use Rattle.hostlists.specs.declared.list.Hosts.TheVariants.{Count, Refused}
+use Rattle.hostports.specs.declared.host_port.Parsed.{Parsed}
 
 -- the most host-ports of a list, and the fewest entries that may be lent
 abbrev pub host_limit : ℕ
@@ -26,11 +23,11 @@ prepend v (parsed vs) = parsed (v ∷ vs)
 prepend v (trouble k) = trouble k
 
 -- a host-port, and after a space what comes from there on; nothing else may follow it
-unfoldable pub host_port_then : List ℕ → ParsedHostPort → (ℕ → ParsedList) → ParsedList
-host_port_then text Malformed on = trouble 41
-host_port_then text (HostPort v next) on =
-    cond (eqb next (length text)) (parsed (v ∷ []))
-    (cond (eqb (get_or text next 0) space) (prepend v (on (next + 1))) (trouble 41))
+unfoldable pub host_port_then : List ℕ → Option Parsed → (ℕ → ParsedList) → ParsedList
+host_port_then text None on = trouble 41
+host_port_then text (Some p) on =
+    cond (eqb p.next (length text)) (parsed (p.value ∷ []))
+    (cond (eqb (get_or text p.next 0) space) (prepend p.value (on (p.next + 1))) (trouble 41))
 
 -- from a place on, where n more host-ports may come. Where none may, a space is before the place: the end of the text there is an empty
 -- host-port (41), and any further byte is a 65th (42).
@@ -43,18 +40,14 @@ hosts_of text = list_at host_limit text 0
 
 -- ---- what filling a lent list answers, and what it leaves there
 
-unfoldable pub answer_of : ParsedList → Hosts
-answer_of (parsed vs) = Count (length vs)
-answer_of (trouble k) = Refused k
+unfoldable pub answer_of : ParsedList → Result ℕ ℕ
+answer_of (parsed vs) = Ok (length vs)
+answer_of (trouble k) = Err k
 
 -- the host-ports of a text; none where there is trouble
 unfoldable pub host_ports : ParsedList → List ℕ
 host_ports (parsed vs) = vs
 host_ports (trouble k) = []
-
--- what clearing from an entry on leaves
-unfoldable pub cleared_from : ℕ → List ℕ → List ℕ
-cleared_from from list = take from list ++ replicate (length list - from) 0
 
 -- the n entries of a list: the host-ports, then zeros
 unfoldable pub entries_of : ℕ → ParsedList → List ℕ
@@ -62,26 +55,21 @@ entries_of n (parsed vs) = vs ++ replicate (n - length vs) 0
 entries_of n (trouble k) = replicate n 0
 
 -- 43 first, where the list is too short; then the first trouble in the text
-unfoldable pub fill_of : List ℕ → List ℕ → Hosts
-fill_of text list = cond (ltb (length list) host_limit) (Refused 43) (answer_of (hosts_of text))
+unfoldable pub fill_of : List ℕ → List ℕ → Result ℕ ℕ
+fill_of text list = cond (ltb (length list) host_limit) (Err 43) (answer_of (hosts_of text))
 
 unfoldable pub fill_after : List ℕ → List ℕ → List ℕ
 fill_after text list = cond (ltb (length list) host_limit) list (entries_of (length list) (hosts_of text))
 
 -- what storing a text's host-ports answers, and that the list begins with them afterwards
-pub record StoreResult (text : List ℕ) (answer : Hosts) (list : List ℕ) : Type 0 where
+pub record StoreResult (text : List ℕ) (answer : Result ℕ ℕ) (list : List ℕ) : Type 0 where
   pub answers : answer ≡ answer_of (hosts_of text)
   pub after : take (length (host_ports (hosts_of text))) list ≡ host_ports (hosts_of text)
 
--- document 01's number for each case, 0 where nothing is refused
-unfoldable pub refusal_number : Hosts → ℕ
-refusal_number (Count n) = 0
-refusal_number (Refused k) = k
-
 -- how many host-ports there are, 0 where the text is refused
-unfoldable pub count : Hosts → ℕ
-count (Count n) = n
-count (Refused k) = 0
+unfoldable pub count : Result ℕ ℕ → ℕ
+count (Ok n) = n
+count (Err k) = 0
 
 -- how many host-ports the text itself has, 0 where it is no list
 unfoldable pub host_count : List ℕ → ℕ

@@ -1,8 +1,9 @@
 -- What a host-port list means, in the terms of document 01, "Control lines" and "Numbers the host sees", and of document 02, Item 10.
 use Rattle.std.specs.Prelude.{ℕ, ◌+◌, ◌*◌, ◌-◌, ◌≤◌, ◌<◌, ◌≡◌, ◌⊎◌, List, [], ◌∷◌, ◌++◌, length, get_or, replicate}
+use Rattle.answers.specs.Refusal.{number_in}
 use Rattle.hostports.specs.HostPort.{host_port_at, refusal_number as host_port_number}
 use Rattle.hostports.specs.HostPorts.{HostPortNumerals, host_port_text, address, port}
-use Rattle.hostlists.specs.HostList.{parsed, trouble, hosts_of, fill_of, fill_after, refusal_number, count}
+use Rattle.hostlists.specs.HostList.{parsed, trouble, hosts_of, fill_of, fill_after, count}
 
 -- host-ports as they are written, one space between
 unfoldable pub with_spaces : List HostPortNumerals → List ℕ
@@ -64,18 +65,18 @@ TooShort list = length list < 64
 -- what filling a lent list answers, and what it leaves there: 43 first, then what the text is
 pub record Filling : Type 0 where
   -- 43: a list lent with fewer than 64 entries stays as it is
-  pub number_43 : (text list : List ℕ) → TooShort list → (refusal_number (fill_of text list) ≡ 43) × (count (fill_of text list) ≡ 0) × (fill_after text list ≡ list)
+  pub number_43 : (text list : List ℕ) → TooShort list → (number_in (fill_of text list) ≡ 43) × (count (fill_of text list) ≡ 0) × (fill_after text list ≡ list)
   -- 41 and 42: the whole list is zero
   pub number_41 : (text list : List ℕ) → (TooShort list → ⊥) → (ListText text → ⊥) → (LongerText text → ⊥)
-      → (refusal_number (fill_of text list) ≡ 41) × (count (fill_of text list) ≡ 0) × (fill_after text list ≡ replicate (length list) 0)
+      → (number_in (fill_of text list) ≡ 41) × (count (fill_of text list) ≡ 0) × (fill_after text list ≡ replicate (length list) 0)
   pub number_42 : (text list : List ℕ) → (TooShort list → ⊥) → LongerText text
-      → (refusal_number (fill_of text list) ≡ 42) × (count (fill_of text list) ≡ 0) × (fill_after text list ≡ replicate (length list) 0)
+      → (number_in (fill_of text list) ≡ 42) × (count (fill_of text list) ≡ 0) × (fill_after text list ≡ replicate (length list) 0)
   -- else how many host-ports there are, and the list has them and then zeros
   pub number_0 : (text list : List ℕ) → (TooShort list → ⊥) → (l : ListText text)
-      → (refusal_number (fill_of text list) ≡ 0)
+      → (number_in (fill_of text list) ≡ 0)
       × (count (fill_of text list) ≡ length l.hosts)
       × (fill_after text list ≡ values l.hosts ++ replicate (length list - length l.hosts) 0)
   -- two texts that are not refused and leave the same entries are one text, whatever the lengths of the lent lists: past the end of a lent
   -- list an entry counts as 0, and no host-port is 0
-  pub one_text : (s t list other : List ℕ) → refusal_number (fill_of s list) ≡ 0 → refusal_number (fill_of t other) ≡ 0
+  pub one_text : (s t list other : List ℕ) → number_in (fill_of s list) ≡ 0 → number_in (fill_of t other) ≡ 0
       → ((i : ℕ) → get_or (fill_after s list) i 0 ≡ get_or (fill_after t other) i 0) → s ≡ t

@@ -8,7 +8,4 @@ use Rattle.hostlists.proofs.list.store.Given as goal
 
 abbrev pub invariant-loop-n : goal.invariant-loop-n
 invariant-loop-n l =
-    (l.n ≤ host_limit) × (host_limit ≤ length l.initial.list) × (length l.list ≡ length l.initial.list) × (following (take l.n l.list) (list_at (host_limit - l.n) l.text l.at) ≡ hosts_of l.text)
-
-abbrev pub decreases-loop-n : goal.decreases-loop-n
-decreases-loop-n l = host_limit - l.n
+    (l.n ≤ host_limit) × (host_limit ≤ length l.list) × (following (take l.n l.list) (list_at (host_limit - l.n) l.text l.at) ≡ hosts_of l.text)
