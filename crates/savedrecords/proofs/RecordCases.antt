@@ -21,7 +21,7 @@ use Rattle.savedrecords.specs.declared.kind.Kind.{Kind}
 use Rattle.savedrecords.specs.declared.kind.SecondNumber.{SecondNumber}
 use Rattle.savedrecords.specs.declared.kind.SecondNumber.TheVariants.{End, Length}
 use Rattle.savedrecords.proofs.RecordPairs.{filled_at}
-use Rattle.savedrecords.proofs.RecordFrame.{frame-short, frame-length-wrong, frame-kind-wrong, frame_right, frame-sound}
+use Rattle.savedrecords.proofs.RecordFrame.{frame-short, frame-length-wrong, frame-kind-wrong, frame_right, frame_sound}
 use Rattle.savedrecords.proofs.RecordRefusal.{refusal-frame, refusal-head, refusal-parts, refusal-order, refusal-none, refusal-sound}
 
 -- ---- the frame
@@ -131,7 +131,7 @@ module _ (kind : Kind) (bytes : List ℕ) where
   unfolding length_field kind_of
   record-right z =
       let s = refusal-sound kind bytes z in
-      let f = frame-sound kind.number bytes s.frame in
+      let f = frame_sound kind.number bytes s.frame in
       record {
         frame = record { least = f.0; counted = omega (arith, f) };
         is_kind = f.2;

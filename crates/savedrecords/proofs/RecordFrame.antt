@@ -33,9 +33,9 @@ module _ (kind : ℕ) (bytes : List ℕ) (long : frame_length ≤ length bytes) 
       rw (le-leb frame_length (length bytes) long, eq-eqb (length_field bytes) (length bytes - field_length) e, eq-eqb (kind_of bytes) kind n)
 
 -- a frame that is right, taken apart
-pub frame-sound : (kind : ℕ) (bytes : List ℕ) → frame_refusal kind bytes ≡ 0
+pub frame_sound : (kind : ℕ) (bytes : List ℕ) → frame_refusal kind bytes ≡ 0
     → (frame_length ≤ length bytes) × (length_field bytes ≡ length bytes - field_length) × (kind_of bytes ≡ kind)
-frame-sound kind bytes z = go (dec_le frame_length (length bytes)) (ℕ_discrete (length_field bytes) (length bytes - field_length)) (ℕ_discrete (kind_of bytes) kind)
+frame_sound kind bytes z = go (dec_le frame_length (length bytes)) (ℕ_discrete (length_field bytes) (length bytes - field_length)) (ℕ_discrete (kind_of bytes) kind)
   where
     go : Dec (frame_length ≤ length bytes) → Dec (length_field bytes ≡ length bytes - field_length) → Dec (kind_of bytes ≡ kind)
         → (frame_length ≤ length bytes) × (length_field bytes ≡ length bytes - field_length) × (kind_of bytes ≡ kind)
@@ -57,5 +57,5 @@ frame_back kind body h g =
 -- bytes whose frame is right are that frame and their body
 pub frame_same : (kind : ℕ) (bytes : List ℕ) → AllBelow 256 bytes → frame_refusal kind bytes ≡ 0 → framed kind (body_of bytes) ≡ bytes
 frame_same kind bytes b z =
-    let f = frame-sound kind bytes z in
+    let f = frame_sound kind bytes z in
     rw (← f.2) (framed-same bytes b f.0 f.1)

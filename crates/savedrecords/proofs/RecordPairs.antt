@@ -1,15 +1,15 @@
 -- Pairs in bytes: how many, their order, the last end, and their bytes, there and back.
-use Prim.Native.Nat.{ℕ, zero, suc, ◌+◌, ◌*◌, ◌-◌, ◌^◌, ◌≤◌, ◌<◌}
+use Prim.Native.Nat.{ℕ, zero, suc, ◌+◌, ◌*◌, ◌-◌, ◌/◌, ◌%◌, ◌^◌, ◌≤◌, ◌<◌}
 use mathlib.Core.Path.{◌≡◌, refl, sym, ap, ◌∙◌}
 use mathlib.Core.Bool.{Bool, true, false, cond, ◌&&◌, ◌||◌, and-true, and-false, and-eq-true_iff}
-use mathlib.Core.List.{List, [], ◌∷◌, ◌++◌}
+use mathlib.Core.List.{List, [], ◌∷◌, ◌++◌, append_assoc}
 use native.Mathlib.Omega.{arith}
 use native.Mathlib.Decide.{dec_lt, dec_le}
 use native.Mathlib.Nat.{pow-le-pow_right}
-use borrow.Author.Tests.{le-leb, lt-leb, leb-true, lt-ltb, le-ltb, eq-eqb, ne_eqb}
+use borrow.Author.Tests.{le-leb, lt-leb, leb-true, lt-ltb, le-ltb, ne_eqb}
 use lib.Dec.{leb, ltb, eqb}
 use lib.ListN.{length, take, drop, length-append, length-take, length-drop, take-append-drop}
-use lib.Seq.{drop-drop, take_at, drop_at, length-take-le}
+use lib.Seq.{drop-drop, take_at, drop_at, length-take-le, take-append-le, drop-append-le}
 use Rattle.octets.specs.Digits.{AllBelow, from_little_endian, to_little_endian}
 use Rattle.octets.proofs.Digits.{length-to_little, below-take, below-drop, from_little-lt, little_reads_back, little_writes_back}
 use Rattle.ledger.specs.Pairs.{Pairs, none, pair, size, ObeyFrom, ends_at_most, obey_from}
@@ -35,24 +35,8 @@ length-pair_bytes second (pair a b ps) =
 
 -- ---- order
 
--- a sum below a number, by a difference
-pub ltb-less : (start len a : ℕ) → start < a → ltb len (a - start) ≡ ltb (start + len) a
-ltb-less start len a h = go (dec_lt len (a - start))
-  where
-    go : Dec (len < a - start) → ltb len (a - start) ≡ ltb (start + len) a
-    go (yes g) = rw (lt-ltb len (a - start) g, lt-ltb (start + len) a (omega arith))
-    go (no g) = rw (le-ltb len (a - start) (omega arith), le-ltb (start + len) a (omega arith))
-
-module _ (start len a n : ℕ) where
-  pub follows-empty : n ≡ 0 → may_follow start len a n ≡ false
-  follows-empty e = rw e (and-false (eqb len 0 || ltb (start + len) a))
-
-  module _ (some : 0 < n) where
-    pub follows-first : len ≡ 0 → may_follow start len a n ≡ true
-    follows-first e = rw (eq-eqb len 0 e, lt-ltb 0 n some)
-
-    pub follows_next : 0 < len → may_follow start len a n ≡ ltb (start + len) a
-    follows_next h = rw (ne_eqb len 0 (omega arith), lt-ltb 0 n some) (and-true (ltb (start + len) a))
+follows-empty : (start len a n : ℕ) → n ≡ 0 → may_follow start len a n ≡ false
+follows-empty start len a n e = rw e (and-false (eqb len 0 || ltb (start + len) a))
 
 -- the least place at which a pair may start after that one
 abbrev pub lowest_after : ℕ → ℕ → ℕ
@@ -74,16 +58,49 @@ obey_from-pair start len a e n ps l = go (dec_lt a e)
         rw (lowest (eqb len 0), lt-ltb a e h, ne_eqb n 0 (omega arith), lt-ltb 0 n (omega arith), z, and-true (eqb len 0 || ltb (start + len) a))
     go (no h) = rw (follows-empty start len a n (omega arith), le-ltb a e (omega arith)) (and-false (leb (lowest_after start len) a))
 
--- the k-th pair is looked at
-pub obey_from-turn : (second : SecondNumber) (bytes : List ℕ) (m k start len a n : ℕ) → k < m → let part = drop (16 * k) bytes in
-    a ≡ start_in part → n ≡ end_in second part - start_in part
-    → obey_from (lowest_after start len) (pairs_in second (m - k) part)
-    ≡ (may_follow start len a n && obey_from (lowest_after a n) (pairs_in second (m - (k + 1)) (drop (16 * (k + 1)) bytes)))
-unfolding pairs_in
-obey_from-turn second bytes m k start len a n h s l =
-    let e : m - k ≡ suc (m - (k + 1)) = omega arith in
-    let q : 16 * (k + 1) ≡ 16 * k + 16 = omega arith in
-    rw (e, q, ← drop-drop 16 (16 * k) bytes, s) (obey_from-pair start len (start_in (drop (16 * k) bytes)) (end_in second (drop (16 * k) bytes)) n _ l)
+-- the first sixteen bytes are a pair
+module _ (second : SecondNumber) (bytes chunk rest : List ℕ) (same : bytes ≡ chunk ++ rest) (sixteen : length chunk ≡ 16) where
+  pub start_first : start_in bytes ≡ start_in chunk
+  start_first = rw (same, take-append-le 8 chunk rest (omega arith))
+
+  number_first : from_little_endian 256 (take 8 (drop 8 bytes)) ≡ from_little_endian 256 (take 8 (drop 8 chunk))
+  number_first =
+      let l : 8 ≤ length (drop 8 chunk) = simp length-drop (omega arith) in
+      rw (same, drop-append-le 8 chunk rest (omega arith), take-append-le 8 (drop 8 chunk) rest l)
+
+  pub end_first : end_in second bytes ≡ end_in second chunk
+  end_first = rw (start_first, number_first)
+
+  pub pairs_first : pairs_in second (length bytes / 16) bytes ≡ pair (start_in chunk) (end_in second chunk) (pairs_in second (length rest / 16) rest)
+  unfolding pairs_in
+  pairs_first =
+      let n : length bytes / 16 ≡ suc (length rest / 16) = rw same (omega (arith, length-append chunk rest)) in
+      let d : drop 16 bytes ≡ rest = rw same (drop_at chunk rest 16 sixteen) in
+      rw (n, start_first, number_first, d)
+
+  -- and are looked at
+  pub obey_first : (start len a n : ℕ) → a ≡ start_in chunk → n ≡ end_in second chunk - start_in chunk
+      → obey_from (lowest_after start len) (pairs_in second (length bytes / 16) bytes) ≡ (may_follow start len a n && obey_from (lowest_after a n) (pairs_in second (length rest / 16) rest))
+  obey_first start len a n s l =
+      rw (pairs_first, s) (obey_from-pair start len (start_in chunk) (end_in second chunk) n (pairs_in second (length rest / 16) rest) l)
+
+-- the next sixteen bytes of those that are left after the first k pairs
+module _ (second : SecondNumber) (bytes left chunk rest : List ℕ) (k : ℕ) (left_is : left ≡ drop (16 * k) bytes) (same : left ≡ chunk ++ rest) (sixteen : length chunk ≡ 16) where
+  pub chunk_within : k < length bytes / 16
+  chunk_within = omega (arith, ap length left_is, ap length same, length-drop (16 * k) bytes, length-append chunk rest)
+
+  pub rest_after : rest ≡ drop (16 * (k + 1)) bytes
+  rest_after =
+      let q : 16 * (k + 1) ≡ 16 * k + 16 = omega arith in
+      rw (q, ← drop-drop 16 (16 * k) bytes, ← left_is, same, drop_at chunk rest 16 sixteen)
+
+  -- they are the pair with the number k
+  pub pair_is : (start len : ℕ) → start ≡ start_in chunk → len ≡ end_in second chunk - start_in chunk → let part = drop (16 * k) bytes in
+      (start ≡ start_in part) × (len ≡ end_in second part - start_in part)
+  pair_is start len s l =
+      let starts : start_in (drop (16 * k) bytes) ≡ start_in chunk = rw (← left_is) (start_first second left chunk rest same sixteen) in
+      let ends : end_in second (drop (16 * k) bytes) ≡ end_in second chunk = rw (← left_is) (end_first second left chunk rest same sixteen) in
+      (s ∙ sym starts, omega (arith, l, starts, ends))
 
 -- ---- the last end
 
@@ -93,6 +110,17 @@ last_end-pairs_in second zero bytes = refl
 last_end-pairs_in second (suc n) bytes =
     let q : 16 * suc n ≡ 16 + 16 * n = omega arith in
     last_end-pairs_in second n (drop 16 bytes) ∙ rw (q, ← drop-drop (16 * n) 16 bytes)
+
+-- the pairs of these bytes, the last of them before a rest of less than sixteen
+pub last_end_back : (second : SecondNumber) (bytes front chunk after : List ℕ) → bytes ≡ (front ++ chunk) ++ after → length chunk ≡ 16 → length after ≡ length bytes % 16
+    → last_end (pairs_in second (length bytes / 16) bytes) ≡ end_in second chunk
+last_end_back second bytes front chunk after e h g =
+    let l : length bytes ≡ length front + (length chunk + length after) = rw e (length-append (front ++ chunk) after ∙ rw (length-append front chunk) (omega arith)) in
+    let n = length front / 16 in
+    let m : length bytes / 16 ≡ suc n = omega arith in
+    let f : length front ≡ 16 * n = omega arith in
+    let same : drop (16 * n) bytes ≡ chunk ++ after = rw (e, append_assoc front chunk after) (drop_at front (chunk ++ after) (16 * n) f) in
+    rw m (last_end-pairs_in second n bytes ∙ end_first second (drop (16 * n) bytes) chunk after same h)
 
 -- ends by the rule rise, so that the last one tells
 pub ends_at_most-last : (f lo : ℕ) (ps : Pairs) → ObeyFrom lo ps → ends_at_most f ps ≡ leb (last_end ps) f

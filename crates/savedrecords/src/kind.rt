@@ -1,15 +1,15 @@
 // The kinds of saved ledger, each a value of one description.
 ghost use Rattle.std.specs.Prelude.{◌≡◌};
-ghost use Rattle.savedrecords.specs.Kind.{kind_one, kind_two, head_length};
+ghost use Rattle.savedrecords.specs.Kind.{head_length};
 
 // What the second number of a pair is, after its start.
-#[derive(Clone, Copy)]
+#[derive(Clone, Copy, Debug, PartialEq, Eq)]
 pub enum SecondNumber {
     End,
     Length,
 }
 
-#[derive(Clone, Copy)]
+#[derive(Clone, Copy, Debug, PartialEq, Eq)]
 pub struct Kind {
     // What the frame has as its kind.
     pub number: u16,
@@ -18,32 +18,25 @@ pub struct Kind {
     pub second: SecondNumber,
 }
 
-pub fn one() -> Kind
-    ensures { result ≡ kind_one }
-{
-    Kind {
+impl Kind {
+    // Start and end of each pair.
+    pub const ONE: Kind = Kind {
         number: 1,
         sized: false,
         second: SecondNumber::End,
-    }
-}
+    };
 
-pub fn two() -> Kind
-    ensures { result ≡ kind_two }
-{
-    Kind {
+    // The file length, then start and length of each pair.
+    pub const TWO: Kind = Kind {
         number: 2,
         sized: true,
         second: SecondNumber::Length,
-    }
-}
+    };
 
-// How many bytes come between the frame and the pairs.
-pub fn head_length(kind: Kind) -> usize
-    ensures { result ≡ head_length kind }
-{
-    if kind.sized {
-        return 8;
+    // How many bytes come between the frame and the pairs.
+    pub fn head_length(self) -> usize
+        ensures { result ≡ head_length self }
+    {
+        if self.sized { 8 } else { 0 }
     }
-    0
 }

@@ -1,9 +1,0 @@
--- `pair::length_of`.
-use native.Mathlib.Omega.{arith}
-use Rattle.savedrecords.proofs.pair.length_of.Goals as goal
-
-pub returns-in-End : goal.returns-in-End
-returns-in-End c = rw c.in-End.is c.saturating_sub.ensures
-
-pub returns-in-Length : goal.returns-in-Length
-returns-in-Length c = rw c.in-Length.is (omega arith)
