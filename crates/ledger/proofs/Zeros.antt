@@ -10,6 +10,7 @@ use lib.Bits.{bit_or, or_zero_l, or_add_and, and_le_r}
 use lib.Dec.{eqb}
 use lib.ListN.{length, get_or, take, drop, drop_of_length-le}
 use lib.Seq.{drop-cons}
+use Rattle.std.specs.List.{fold}
 use Rattle.ledger.specs.Ledger.{all_zero}
 
 -- ---- a part
@@ -35,15 +36,19 @@ or-zero zero b = ap (λ k. eqb k 0) (or_zero_l b)
 or-zero (suc a) b =
     rw (ne_eqb (suc a) 0 (λ e. omega arith)) (ne_eqb (bit_or (suc a) b) 0 (λ e. omega (arith, or_add_and (suc a) b, and_le_r (suc a) b)))
 
+-- over all of them
+pub fold-zeros : (any : ℕ) (l : List ℕ) → eqb (fold bit_or any l) 0 ≡ (eqb any 0 && all_zero l)
+unfolding all_zero
+fold-zeros any [] = sym (and-true (eqb any 0))
+fold-zeros any (x ∷ xs) = fold-zeros (bit_or any x) xs ∙ rw (or-zero any x) (and_assoc (eqb any 0) (eqb x 0) (all_zero xs))
+
 -- what a loop has gathered, and the numbers that are left, decide
 module _ (s : List ℕ) (i any : ℕ) (w : Bool) (v : (eqb any 0 && all_zero (drop i s)) ≡ w) where
-  -- a run of them at once, joined to j
-  pub gathers-run : (j n : ℕ) → (eqb j 0 && all_zero (drop (i + n) s)) ≡ all_zero (drop i s) → (eqb (bit_or any j) 0 && all_zero (drop (i + n) s)) ≡ w
-  gathers-run j n e = rw (or-zero any j) (and_assoc (eqb any 0) (eqb j 0) (all_zero (drop (i + n) s)) ∙ ap (λ b. eqb any 0 && b) e ∙ v)
-
   pub gathers : i < length s → (eqb (bit_or any (get_or s i 0)) 0 && all_zero (drop (i + 1) s)) ≡ w
   unfolding all_zero
-  gathers h = gathers-run (get_or s i 0) 1 (rw (drop-cons s i 0 h, add-one i))
+  gathers h =
+      let e : all_zero (drop i s) ≡ (eqb (get_or s i 0) 0 && all_zero (drop (i + 1) s)) = rw (drop-cons s i 0 h, add-one i) in
+      rw (or-zero any (get_or s i 0)) (and_assoc (eqb any 0) (eqb (get_or s i 0) 0) (all_zero (drop (i + 1) s)) ∙ (rw e at v))
 
   pub gathered : length s ≤ i → eqb any 0 ≡ w
   unfolding all_zero

@@ -1,121 +1,81 @@
 // The ledger rule, and how many bytes a ledger holds.
-ghost use Rattle.std.specs.Prelude.{◌≡◌, ◌&&◌, suc, ◌+◌, ◌%◌, ◌≤◌, min, leb, ltb, eqb, length, get_or, drop};
+ghost use Rattle.std.specs.Prelude.{◌≡◌, ◌&&◌, suc, ◌%◌, ◌<◌, min, ◌∷◌, leb, eqb, length, get_or, MatchOption};
 ghost use Rattle.answers.specs.Refusal.{refusal_number};
 ghost use Rattle.ledger.specs.Pairs.{total, ends_at_most};
 ghost use Rattle.ledger.specs.Ledger.{length_wrong, all_zero, obeys_from, obeys, ledger_refusal, pairs_of, has_pair};
 
 use answers::refusal::Refusal;
-use sums::sum;
 
 // The most entries that a ledger may have.
 pub const ENTRY_LIMIT: usize = 8192;
 // The largest number that an entry can be.
-pub const LARGEST: u64 = 18446744073709551615;
+pub const LARGEST: u64 = u64::MAX;
 
 // Whether a ledger has an odd number of entries, or too many: refusal 53.
+#[tactic(auto, unfolding(crate::specs::Ledger::length_wrong))]
 pub fn length_wrong(ledger: &[u64]) -> bool
     ensures { result ≡ length_wrong ledger.now }
 {
-    if ledger.len() % 2 != 0 {
-        return true;
-    }
-    ENTRY_LIMIT < ledger.len()
-}
-
-// 64 entries from a place on, joined.
-fn joined(entries: &[u64], from: usize) -> u64
-    requires { from + 64 ≤ length entries.now }
-    ensures { (eqb result 0 && all_zero (drop (from + 64) entries.now)) ≡ all_zero (drop from entries.now) }
-{
-    let mut any: u64 = 0;
-    let mut i = from;
-    while i < from + 64 {
-        any = any | entries[i];
-        i += 1;
-    }
-    any
+    ledger.len() % 2 != 0 || ENTRY_LIMIT < ledger.len()
 }
 
 // Whether the entries are all 0. It reads them all, so that the compiler can make vector code of it.
 fn all_zero(entries: &[u64]) -> bool
     ensures { result ≡ all_zero entries.now }
 {
-    let mut any: u64 = 0;
-    let mut i = 0;
-    while 64 <= entries.len() - i {
-        any = any | joined(entries, i);
-        i += 64;
-    }
-    while i < entries.len() {
-        any = any | entries[i];
-        i += 1;
-    }
-    any == 0
+    entries.iter().fold(0, |any: u64, entry| any | *entry) == 0
 }
 
 // Whether the entries are all 0 and make whole pairs.
 fn zero_pairs(entries: &[u64]) -> bool
     ensures { result ≡ (all_zero entries.now && eqb (length entries.now % 2) 0) }
 {
-    if !all_zero(entries) {
-        return false;
-    }
-    entries.len() % 2 == 0
+    all_zero(entries) && entries.len() % 2 == 0
 }
 
-// Whether there is a used pair at the place i of the entries.
-fn pair_used(ledger: &[u64], i: usize) -> bool
-    requires { i ≤ length ledger.now }
-    ensures { result ≡ ltb 0 (get_or ledger.now (i + 1) 0) }
+// The first pair, start and end, and the entries after it, where that pair is used.
+fn first_pair(ledger: &[u64]) -> Option<(u64, u64, &[u64])>
+    ensures { MatchOption result (get_or ledger.now 1 0 ≡ 0) (λ p. (0 < p.1) × (ledger.now ≡ p.0 ∷ p.1 ∷ p.2.now)) }
 {
-    if ledger.len() <= i + 1 {
-        return false;
+    match ledger {
+        [start, end, after @ ..] if 0 < *end => Some((*start, *end, after)),
+        _ => None,
     }
-    0 < ledger[i + 1]
 }
 
 // Whether the ledger has a used pair: the first is used, or none is.
+#[tactic(auto, unfolding(crate::specs::Ledger::has_pair))]
 pub fn has_pair(ledger: &[u64]) -> bool
     ensures { result ≡ has_pair ledger.now }
 {
-    pair_used(ledger, 0)
+    first_pair(ledger).is_some()
 }
 
-// Whether the pairs after the first obey the rule, where that one ends at `first`, and no end is above the limit. Ends that obey the rule
+// Whether these pairs obey the rule after one that ends at `first`, and no end is above the limit, that one included. Ends that obey the rule
 // rise, so that the last one tells.
-fn obeys_after(ledger: &[u64], first: u64, limit: u64) -> bool
-    requires { 2 ≤ length ledger.now }
-    ensures { result ≡ (leb first limit && (obeys_from (suc first) (drop 2 ledger.now) && ends_at_most limit (pairs_of (drop 2 ledger.now)))) }
+fn obeys_after(pairs: &[u64], first: u64, limit: u64) -> bool
+    ensures { result ≡ (leb first limit && (obeys_from (suc first) pairs.now && ends_at_most limit (pairs_of pairs.now))) }
 {
-    let mut end = first;
-    let mut i = 2;
-    while pair_used(ledger, i) {
-        if ledger[i] <= end {
+    let mut last = first;
+    let mut rest = pairs;
+    while let Some((start, end, after)) = first_pair(rest) {
+        if start <= last || end <= start {
             return false;
         }
-        if ledger[i + 1] <= ledger[i] {
-            return false;
-        }
-        end = ledger[i + 1];
-        i += 2;
+        last = end;
+        rest = after;
     }
-    if limit < end {
-        return false;
-    }
-    zero_pairs(&ledger[i..])
+    last <= limit && zero_pairs(rest)
 }
 
 // Whether the ledger obeys its rule with no end above the limit.
 pub fn obeys(ledger: &[u64], limit: u64) -> bool
     ensures { result ≡ (obeys ledger.now && ends_at_most limit (pairs_of ledger.now)) }
 {
-    if !pair_used(ledger, 0) {
-        return zero_pairs(ledger);
+    match first_pair(ledger) {
+        Some((start, end, after)) => start < end && obeys_after(after, end, limit),
+        None => zero_pairs(ledger),
     }
-    if ledger[1] <= ledger[0] {
-        return false;
-    }
-    obeys_after(ledger, ledger[1], limit)
 }
 
 // Refuses a ledger that is not to be written: by its length, then by its rule.
@@ -135,16 +95,11 @@ pub fn check(ledger: &[u64]) -> Result<(), Refusal>
 pub fn total(ledger: &[u64]) -> u64
     ensures { result ≡ min 18446744073709551615 (total (pairs_of ledger.now)) }
 {
-    let mut n: u64 = 0;
-    let mut i = 0;
-    while i + 1 < ledger.len() {
-        let a = ledger[i];
-        let b = ledger[i + 1];
-        if b == 0 {
-            return n;
-        }
-        n = sum::saturating_add(n, sum::saturating_sub(b, a));
-        i += 2;
+    let mut total: u64 = 0;
+    let mut rest = ledger;
+    while let Some((start, end, after)) = first_pair(rest) {
+        total = total.saturating_add(end.saturating_sub(start));
+        rest = after;
     }
-    n
+    total
 }

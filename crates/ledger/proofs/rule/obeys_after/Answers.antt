@@ -1,96 +1,32 @@
 -- `rule::obeys_after`: the pairs passed obey the rule; those that are left decide, and the last end.
-use Prim.Native.Nat.{suc, ◌+◌, ◌-◌, ◌%◌, ◌≤◌, ◌<◌}
-use mathlib.Core.Path.{◌≡◌, refl, sym, ap, ◌∙◌}
-use mathlib.Core.Bool.{false, ◌&&◌}
-use native.Mathlib.Omega.{arith}
-use borrow.Author.Tests.{le-leb, lt-leb, ltb-true, ltb-false}
-use lib.Dec.{eqb}
-use lib.ListN.{length, get_or, drop, length-drop}
-use lib.Seq.{take_all}
-use Rattle.ledger.specs.Ledger.{all_zero}
-use Rattle.ledger.proofs.LedgerPairAt.{sound, sound_after, used-inside, sound-rest, after-low, after-turned, after_next}
+use Prim.Native.Nat.{suc, ◌≤◌}
+use mathlib.Core.Path.{sym, ◌∙◌}
+use mathlib.Core.Logic.{◌⊎◌, inl, inr}
+use borrow.Author.Tests.{le-leb, lt-leb}
+use Rattle.ledger.proofs.LedgerPairAt.{sound, sound_after, sound-rest, after-wrong, after_next}
 use Rattle.ledger.proofs.rule.obeys_after.Goals as goal
-use Rattle.ledger.proofs.rule.obeys_after.Goals.{In-loop-first}
+use Rattle.ledger.proofs.rule.obeys_after.Goals.{Joined-then-start-last}
 
--- the pair at hand is used
-used : (c : In-loop-first) → 0 < get_or c.args.ledger.now (c.loop-first.i + 1) 0
-used c =
-    ltb-true 0 (get_or c.args.ledger.now (c.loop-first.i + 1) 0) (sym c.pair_used.ensures ∙ c.loop-first-test.true)
+wrong : (c : Joined-then-start-last) → (c.in-Some.start ≤ c.loop-start.last) ⊎ (c.in-Some.end ≤ c.in-Some.start)
+wrong c = elim c.then-start-last.either [ inl h ↦ inl h | inr h ↦ inr h.1 ]
 
-room : (c : In-loop-first) → c.loop-first.i + 1 < length c.args.ledger.now
-room c =
-    used-inside c.args.ledger.now c.loop-first.i (used c)
-
-pub loop-first-init : goal.loop-first-init
-loop-first-init c = (omega arith, refl)
-
-pub offset_bounds-ledger-i : goal.offset_bounds-ledger-i
-offset_bounds-ledger-i c = omega (arith, room c)
-
-pub bounds-ledger-i : goal.bounds-ledger-i
-bounds-ledger-i c = omega (arith, room (goal.at.bounds-ledger-i c).In-loop-first)
-
-pub returns-then-ledger-i : goal.returns-then-ledger-i
+pub returns-then-start-last : goal.returns-then-start-last
 unfolding sound_after sound
-returns-then-ledger-i c =
-    let x = c.args in
-    sym (sym c.loop-first.invariant.1 ∙ after-low c.loop-first.end x.limit x.ledger.now c.loop-first.i (used (goal.at.returns-then-ledger-i c).In-loop-first) c.if-ledger-i.true)
+returns-then-start-last c =
+    let x = c.in-Some in
+    sym (after-wrong c.loop-start.last c.args.limit x.start x.end x.after.now x.ensures.0 (wrong c)) ∙ (rw x.ensures.1 at c.loop-start.invariant)
 
-pub overflow_add-i : goal.overflow_add-i
-overflow_add-i c = omega (arith, room (goal.at.overflow_add-i c).In-loop-first)
+pub loop-start-preserved : goal.loop-start-preserved
+loop-start-preserved c =
+    let x = c.in-Some in
+    sym (after_next c.loop-start.last c.args.limit x.start x.end x.after.now x.ensures.0 c.if-start-last.false c.if-end-start.false) ∙ (rw x.ensures.1 at c.loop-start.invariant)
 
-pub offset_bounds-ledger-i-in-loop-first : goal.offset_bounds-ledger-i-in-loop-first
-offset_bounds-ledger-i-in-loop-first c = omega (arith, room (goal.at.offset_bounds-ledger-i-in-loop-first c).In-loop-first)
-
-pub bounds-ledger-i-in-loop-first : goal.bounds-ledger-i-in-loop-first
-bounds-ledger-i-in-loop-first c = omega (arith, room (goal.at.bounds-ledger-i-in-loop-first c).In-loop-first)
-
-pub offset_bounds-ledger-i-in-loop-first-2 : goal.offset_bounds-ledger-i-in-loop-first-2
-offset_bounds-ledger-i-in-loop-first-2 c = omega (arith, room (goal.at.offset_bounds-ledger-i-in-loop-first-2 c).In-loop-first)
-
-pub bounds-ledger-i-in-loop-first-2 : goal.bounds-ledger-i-in-loop-first-2
-bounds-ledger-i-in-loop-first-2 c = omega (arith, room (goal.at.bounds-ledger-i-in-loop-first-2 c).In-loop-first)
-
-pub returns-then-ledger-i-2 : goal.returns-then-ledger-i-2
+pub returns-then-last-limit : goal.returns-then-last-limit
 unfolding sound_after sound
-returns-then-ledger-i-2 c =
-    let x = c.args in
-    sym (sym c.loop-first.invariant.1 ∙ after-turned c.loop-first.end x.limit x.ledger.now c.loop-first.i (used (goal.at.returns-then-ledger-i-2 c).In-loop-first) c.if-ledger-i-2.true)
+returns-then-last-limit c =
+    c.zero_pairs.ensures ∙ sym (sound-rest (suc c.loop-start.last) c.args.limit c.loop-start.rest.now c.in_default.ensures)
+    ∙ (rw (le-leb c.loop-start.last c.args.limit c.if-last-limit.true) at c.loop-start.invariant)
 
-pub overflow_add-end : goal.overflow_add-end
-overflow_add-end c = omega (arith, room (goal.at.overflow_add-end c).In-loop-first)
-
-pub offset_bounds-ledger-i-in-loop-first-3 : goal.offset_bounds-ledger-i-in-loop-first-3
-offset_bounds-ledger-i-in-loop-first-3 c = omega (arith, room (goal.at.offset_bounds-ledger-i-in-loop-first-3 c).In-loop-first)
-
-pub bounds-ledger-i-in-loop-first-3 : goal.bounds-ledger-i-in-loop-first-3
-bounds-ledger-i-in-loop-first-3 c = omega (arith, room (goal.at.bounds-ledger-i-in-loop-first-3 c).In-loop-first)
-
-pub overflow_add-i-in-loop-first : goal.overflow_add-i-in-loop-first
-overflow_add-i-in-loop-first c = omega (arith, room (goal.at.overflow_add-i-in-loop-first c).In-loop-first)
-
-pub loop-first-smaller : goal.loop-first-smaller
-loop-first-smaller c = omega (arith, room (goal.at.loop-first-smaller c).In-loop-first)
-
-pub loop-first-preserved : goal.loop-first-preserved
-loop-first-preserved c =
-    let x = c.args in
-    (omega (arith, room (goal.at.loop-first-preserved c).In-loop-first), sym (after_next c.loop-first.end x.limit x.ledger.now c.loop-first.i (used (goal.at.loop-first-preserved c).In-loop-first) c.if-ledger-i.false c.if-ledger-i-2.false) ∙ c.loop-first.invariant.1)
-
-pub returns-then-limit-end : goal.returns-then-limit-end
+pub returns-else-last-limit : goal.returns-else-last-limit
 unfolding sound_after sound
-returns-then-limit-end c =
-    let x = c.args in
-    let e : sound_after c.loop-first.end x.limit (drop c.loop-first.i x.ledger.now) ≡ false = rw (lt-leb c.loop-first.end x.limit c.if-limit-end.true) in
-    sym (sym c.loop-first.invariant.1 ∙ e)
-
-pub returns : goal.returns
-unfolding sound_after sound
-returns c =
-    let x = c.args in
-    let s = x.ledger.now in
-    let z = ltb-false 0 (get_or s (c.loop-first.i + 1) 0) (sym c.pair_used.ensures ∙ c.loop-first-test.false) in
-    let e = sound-rest (suc c.loop-first.end) x.limit s c.loop-first.i c.loop-first.invariant.0 (omega (arith, z)) in
-    let m : length (drop c.loop-first.i s) ≤ length s - c.loop-first.i = simp length-drop (omega arith) in
-    c.zero_pairs.ensures ∙ ap (λ r. all_zero r && eqb (length r % 2) 0) (take_all (length s - c.loop-first.i) (drop c.loop-first.i s) m) ∙ sym e
-    ∙ (rw (le-leb c.loop-first.end x.limit c.if-limit-end.false) at c.loop-first.invariant.1)
+returns-else-last-limit c = rw (lt-leb c.loop-start.last c.args.limit c.if-last-limit.false) (rw (lt-leb c.loop-start.last c.args.limit c.if-last-limit.false) at c.loop-start.invariant)

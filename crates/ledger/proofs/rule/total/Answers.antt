@@ -1,43 +1,27 @@
 -- `rule::total`: what is counted and what the pairs that are left hold is all, up to the largest number.
-use Prim.Native.Nat.{ℕ, ◌+◌, ◌-◌, min}
+use Prim.Native.Nat.{ℕ, ◌+◌, ◌-◌, ◌<◌, min}
 use mathlib.Core.Path.{◌≡◌, ◌∙◌}
+use mathlib.Core.List.{List, ◌∷◌}
 use native.Mathlib.Omega.{arith}
-use lib.ListN.{get_or, drop}
+use borrow.Author.Tests.{ne_eqb}
 use Rattle.ledger.specs.Pairs.{total}
 use Rattle.ledger.specs.Ledger.{pairs_of}
-use Rattle.ledger.proofs.LedgerPairAt.{pairs-unused, pairs-used, pairs-over}
+use Rattle.ledger.proofs.LedgerPairAt.{first-unused}
 use Rattle.ledger.proofs.rule.total.Goals as goal
 
--- a sum that was cut at a limit, added to and cut again
-capped : (m n d t : ℕ) → min m (min m (n + d) + t) ≡ min m (n + (d + t))
-capped m n d t = omega arith
+one-more : (m n : ℕ) (s r : List ℕ) (a b k : ℕ) → 0 < b → s ≡ a ∷ b ∷ r → k ≡ min (n + (b - a)) m → min m (k + total (pairs_of r)) ≡ min m (n + total (pairs_of s))
+unfolding total pairs_of
+one-more m n s r a b k h e d = rw (e, ne_eqb b 0 (λ z. omega arith)) (omega arith)
 
-pub loop-i-init : goal.loop-i-init
-loop-i-init c = (omega arith, omega arith, omega arith)
-
-pub returns-then-b-eq0 : goal.returns-then-b-eq0
-unfolding total
-returns-then-b-eq0 c =
-    let s = c.args.ledger.now in
-    let e : total (pairs_of (drop c.loop-i.i s)) ≡ 0 = rw (pairs-unused s c.loop-i.i (omega arith) c.if-b-eq0.true) in
-    omega (arith, e)
-
-pub loop-i-preserved : goal.loop-i-preserved
-unfolding total
-loop-i-preserved c =
-    let s = c.args.ledger.now in
-    let a = get_or s c.loop-i.i 0 in
-    let b = get_or s (c.loop-i.i + 1) 0 in
-    let t : total (pairs_of (drop c.loop-i.i s)) ≡ (b - a) + total (pairs_of (drop (c.loop-i.i + 2) s)) = rw (pairs-used s c.loop-i.i (omega arith) c.if-b-eq0.false) in
-    let m : c.saturating_add-n.result ≡ min 18446744073709551615 (c.loop-i.n + (b - a)) = c.saturating_add-n.ensures ∙ rw c.saturating_sub.ensures in (
-      omega arith,
-      omega (arith, c.saturating_add-n.ensures),
-      rw m (capped 18446744073709551615 c.loop-i.n (b - a) (total (pairs_of (drop (c.loop-i.i + 2) s))) ∙ (rw t at c.loop-i.invariant.2)),
-    )
+pub loop-start-preserved : goal.loop-start-preserved
+loop-start-preserved c =
+    let x = c.in-Some in
+    let l = c.loop-start in
+    let d : c.saturating_add-total.result ≡ min (l.total + (x.end - x.start)) 18446744073709551615 = c.saturating_add-total.ensures ∙ rw c.saturating_sub.ensures in
+    (omega arith, one-more 18446744073709551615 l.total l.rest.now x.after.now x.start x.end c.saturating_add-total.result x.ensures.0 x.ensures.1 d ∙ l.invariant.1)
 
 pub returns : goal.returns
 unfolding total
 returns c =
-    let s = c.args.ledger.now in
-    let e : total (pairs_of (drop c.loop-i.i s)) ≡ 0 = rw (pairs-over s c.loop-i.i (omega arith)) in
+    let e : total (pairs_of c.loop-start.rest.now) ≡ 0 = rw (first-unused c.loop-start.rest.now c.in_default.ensures) in
     omega (arith, e)
