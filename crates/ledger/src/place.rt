@@ -20,7 +20,7 @@ pub struct Place {
 
 // Whether the pair with the number i is used and ends below start.
 #[tactic(auto, unfolding(crate::specs::Place::ends_below))]
-pub fn ends_below(ledger: &[u64], i: usize, start: u64) -> bool
+fn ends_below(ledger: &[u64], i: usize, start: u64) -> bool
     requires { i < capacity ledger.now }
     ensures { result ≡ ends_below start ledger.now i }
 {

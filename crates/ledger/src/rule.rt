@@ -34,7 +34,7 @@ fn zero_pairs(entries: &[u64]) -> bool
 }
 
 // The first pair, start and end, and the entries after it, where that pair is used.
-fn first_pair(ledger: &[u64]) -> Option<(u64, u64, &[u64])>
+pub fn first_pair(ledger: &[u64]) -> Option<(u64, u64, &[u64])>
     ensures { MatchOption result (get_or ledger.now 1 0 ≡ 0) (λ p. (0 < p.1) × (ledger.now ≡ p.0 ∷ p.1 ∷ p.2.now)) }
 {
     match ledger {
