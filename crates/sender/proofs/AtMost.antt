@@ -1,14 +1,17 @@
 -- The numbers of a sender against the most that each channel can have, one after the other.
 use Prim.Native.Nat.{ℕ, zero, suc, ◌+◌, ◌/◌, ◌%◌, ◌≤◌, ◌<◌}
-use mathlib.Core.Path.{◌≡◌, refl}
-use mathlib.Core.Bool.{true, false, cond, not, and-eq-true_iff}
+use mathlib.Core.Path.{◌≡◌, refl, sym}
+use mathlib.Core.Bool.{Bool, true, false, cond, not, and-eq-true_iff}
 use mathlib.Core.List.{List, [], ◌∷◌}
 use native.Mathlib.Omega.{arith}
+use native.Mathlib.Decide.{dec_lt}
 use native.Mathlib.Nat.{zero-add, add-zero, add-suc, suc-add}
 use lib.Dec.{leb, ltb}
-use lib.ListN.{length, get_or, drop, drop_of_length-le}
-use lib.Seq.{drop-cons}
-use borrow.Author.Tests.{lt-ltb, le-leb, lt-leb, leb-true, not-true}
+use lib.ListN.{length, get_or, get_or-eq_default}
+use borrow.Author.Tests.{lt-ltb, le-leb, leb-true, not-true}
+use Rattle.std.proofs.lemmas.List.FromFn.{length-enumerate_from, get_or-enumerate_from}
+use Rattle.std.specs.Bool.{MatchBool}
+use Rattle.std.specs.List.{AllWithin, HoldsAt, enumerate_from}
 use Rattle.sender.specs.declared.state.Sender.{Sender}
 use Rattle.sender.specs.Blocks.{out_of_range, block_count, blocks_on}
 use Rattle.sender.specs.Sender.{given_on, most_on, all_at_most, calls_can_give}
@@ -22,19 +25,6 @@ pub most-below : (len count size c : ℕ) → c < count → most_on len count si
 unfolding most_on
 most-below len count size c h = simp (lt-ltb c count h)
 
--- a channel that has no more than it can have leaves it to those after it
-pub within-next : (most : ℕ → ℕ) (c : ℕ) (l : List ℕ) → c < length l → get_or l c 0 ≤ most c → all_at_most most c (drop c l) ≡ all_at_most most (suc c) (drop (suc c) l)
-unfolding all_at_most
-within-next most c l h m = rw (drop-cons l c 0 h, le-leb (get_or l c 0) (most c) m)
-
-pub within-not : (most : ℕ → ℕ) (c : ℕ) (l : List ℕ) → c < length l → most c < get_or l c 0 → all_at_most most c (drop c l) ≡ false
-unfolding all_at_most
-within-not most c l h m = rw (drop-cons l c 0 h, lt-leb (get_or l c 0) (most c) m)
-
-pub within_end : (most : ℕ → ℕ) (c : ℕ) (l : List ℕ) → length l ≤ c → all_at_most most c (drop c l) ≡ true
-unfolding all_at_most
-within_end most c l h = rw (drop_of_length-le l h)
-
 -- ---- all of them at once
 
 pub each-at-most : (most : ℕ → ℕ) (n : ℕ) (l : List ℕ) → all_at_most most n l ≡ true → (c : ℕ) → get_or l c 0 ≤ most (n + c)
@@ -47,6 +37,21 @@ pub all-at-most : (most : ℕ → ℕ) (n : ℕ) (l : List ℕ) → ((c : ℕ) �
 unfolding all_at_most
 all-at-most most n [] h = refl
 all-at-most most n (x ∷ l) h = rw (le-leb x (most n) (rw (add-zero n) at (h 0))) (all-at-most most (suc n) l (λ c. rw (suc-add n c) (rw (add-suc n c) at (h (suc c)))))
+
+-- what the test of each number says of all
+pub from-all : (most : ℕ → ℕ) (l : List ℕ) (r : Bool)
+    → MatchBool r (AllWithin (λ (p : ℕ × ℕ). p.1 ≤ most p.0) (enumerate_from 0 l) 0 (length (enumerate_from 0 l))) ((k : ℕ) × (k < length (enumerate_from 0 l)) × HoldsAt (λ (p : ℕ × ℕ). most p.0 < p.1) (enumerate_from 0 l) k)
+    → r ≡ all_at_most most 0 l
+from-all most l true h = sym (all-at-most most 0 l (λ c. by c (dec_lt c (length l))))
+  where
+    by : (c : ℕ) → Dec (c < length l) → get_or l c 0 ≤ most (0 + c)
+    by c (yes p) = rw (get_or-enumerate_from 0 l c (0, 0) p) at (h c (0, 0) (omega arith) (omega (arith, length-enumerate_from 0 l)))
+    by c (no p) = omega (arith, get_or-eq_default l 0 {n = c} (omega arith))
+from-all most l false (k, b, h) = by (all_at_most most 0 l) refl
+  where
+    by : (a : Bool) → all_at_most most 0 l ≡ a → false ≡ a
+    by true e = absurd (omega (arith, each-at-most most 0 l e k, rw (get_or-enumerate_from 0 l k (0, 0) (omega (arith, length-enumerate_from 0 l))) at (h (0, 0))))
+    by false e = refl
 
 -- what the test of a sender says
 pub tested : (s : Sender) → calls_can_give s ≡ true → (out_of_range s.count s.size ≡ false) × ((c : ℕ) → given_on s c ≤ most_on s.len s.count s.size c)

@@ -11,7 +11,7 @@ use Rattle.transfer.specs.Block.{Block}
 use Rattle.sender.specs.Blocks.{block_count, data_block, ending, channel_blocks, blocks_on}
 use Rattle.sender.specs.Sender.{begin_refusal}
 use Rattle.sender.specs.BlockRows.{BlocksAre, EndingsAre}
-use Rattle.sender.proofs.BlockNumbers.{starts-inside, block-there}
+use Rattle.sender.proofs.BlockNumbers.{starts_inside, block-there}
 use Rattle.sender.proofs.BeginRange.{in-range}
 use Rattle.sender.proofs.ChannelShares.{number-mod, number-div, share-below, share-has}
 use Rattle.sender.proofs.ChannelRun.{block-is, ending-is, run_length, run_at}
@@ -35,8 +35,8 @@ blocks_are file count size e =
     record {
       holds = λ k. record { head_is = refl; body_is = refl };
       whole = data_length file size;
-      never_empty = λ k h. omega (arith, data_length file size k, starts-inside (length file) size k (omega (arith, r)) h, r);
-      as_many = λ k. (starts-inside (length file) size k (omega (arith, r)), block-there (length file) size k (omega (arith, r)));
+      never_empty = λ k h. omega (arith, data_length file size k, starts_inside (length file) size k (omega (arith, r)) h, r);
+      as_many = λ k. (starts_inside (length file) size k (omega (arith, r)), block-there (length file) size k (omega (arith, r)));
       goes_on = λ k d h. (mod-lt k (omega (arith, r)), in-share file count size k (omega (arith, r)) h, goes_on file count size k (omega (arith, r)) h d);
       no_other = λ c i d h k.
           (i * count + c, share-below _ count c i h k, number-mod i count c h, number-div i count c h, run_at file count size c h i d (omega (arith, k)) ∙ block-is file count size c i k);

@@ -1,23 +1,20 @@
 -- What 71, 73 and 74 ask, as the rows of the table say it.
 use Prim.Native.Nat.{ℕ, ◌+◌, ◌≤◌, ◌<◌}
-use mathlib.Core.Path.{◌≡◌, refl}
+use mathlib.Core.Path.{◌≡◌, refl, sym}
 use mathlib.Core.Logic.{◌≢◌}
 use mathlib.Core.Bool.{Bool, true, false, ◌||◌, not, or-true, true≢false}
 use native.Mathlib.Omega.{arith}
 use native.Mathlib.Decide.{dec_lt, dec_le}
+use lib.Dec.{eqb}
 use lib.ListN.{length}
 use borrow.Author.Tests.{le-leb, lt-leb, eq-eqb, ne_eqb, eqb-true, not-false}
+use Rattle.std.proofs.lemmas.Bool.{or_parts}
 use Rattle.sender.specs.declared.state.Sender.{Sender}
 use Rattle.sender.specs.Blocks.{out_of_range}
-use Rattle.sender.specs.Sender.{given_on, begin_refusal, most_on, all_at_most, calls_can_give, NextCall, is_mismatched, ending_sent, call_refusal}
+use Rattle.sender.specs.Sender.{given_on, begin_refusal, most_on, all_at_most, calls_can_give, NextCall, numbers_wrong, is_mismatched, ending_sent, call_refusal}
 use Rattle.sender.specs.SenderRows.{InRange, Outside, Matches, blocks_for}
 use Rattle.sender.proofs.BeginRange.{outside-is, within-range, in-range}
 use Rattle.sender.proofs.AtMost.{most-below}
-
--- neither of two tests holds
-neither : (a b : Bool) → (a || b) ≡ false → (a ≡ false) × (b ≡ false)
-neither true b e = absurd (true≢false e)
-neither false b e = (refl, e)
 
 pub range-of : (count size : ℕ) → out_of_range count size ≡ false → InRange count size
 unfolding begin_refusal
@@ -49,11 +46,33 @@ module _ (s : Sender) (k : NextCall) where
   unfolding is_mismatched
   wrong-given e = simp (e, or-true)
 
-  -- where the others do not hold it is left to the numbers given
-  pub by-given : out_of_range k.count k.size ≡ false → k.count ≡ s.count → k.size ≡ s.size → length k.file ≡ s.len
-      → is_mismatched s k ≡ not (all_at_most (most_on (length k.file) k.count k.size) 0 s.given)
-  unfolding is_mismatched calls_can_give
-  by-given r a b d = rw (r, ← a, ← b, ← d, r, eq-eqb k.count k.count refl, eq-eqb k.size k.size refl, eq-eqb (length k.file) (length k.file) refl)
+  pub wrong-numbers : numbers_wrong s k.count k.size (length k.file) ≡ true → is_mismatched s k ≡ true
+  unfolding numbers_wrong is_mismatched
+  wrong-numbers e = more (out_of_range k.count k.size) (not (eqb k.count s.count)) (not (eqb k.size s.size)) (not (eqb (length k.file) s.len)) (not (calls_can_give s)) e
+    where
+      more : (a b c d e : Bool) → (a || (b || (c || d))) ≡ true → (a || (b || (c || (d || e)))) ≡ true
+      more true b c d e h = refl
+      more false true c d e h = refl
+      more false false true d e h = refl
+      more false false false true e h = refl
+      more false false false false e h = absurd (true≢false (sym h))
+
+  -- where they are right it is left to those given
+  pub right-range : numbers_wrong s k.count k.size (length k.file) ≡ false → InRange k.count k.size
+  unfolding numbers_wrong
+  right-range e = range-of k.count k.size (or_parts _ _ e).0
+
+  pub by-given : numbers_wrong s k.count k.size (length k.file) ≡ false → is_mismatched s k ≡ not (all_at_most (most_on (length k.file) k.count k.size) 0 s.given)
+  unfolding numbers_wrong is_mismatched calls_can_give
+  by-given e =
+      let a = or_parts _ _ e in
+      let b = or_parts _ _ a.1 in
+      let c = or_parts _ _ b.1 in
+      let range : out_of_range k.count k.size ≡ false = a.0 in
+      let counts : k.count ≡ s.count = eqb-true k.count s.count (not-false _ b.0) in
+      let sizes : k.size ≡ s.size = eqb-true k.size s.size (not-false _ c.0) in
+      let lengths : length k.file ≡ s.len = eqb-true (length k.file) s.len (not-false _ c.1) in
+      rw (range, ← counts, ← sizes, ← lengths, range, eq-eqb k.count k.count refl, eq-eqb k.size k.size refl, eq-eqb (length k.file) (length k.file) refl)
 
   -- none of them
   pub none-wrong : Matches s k → is_mismatched s k ≡ false
@@ -63,10 +82,10 @@ module _ (s : Sender) (k : NextCall) where
   pub matching : is_mismatched s k ≡ false → Matches s k
   unfolding is_mismatched
   matching e =
-      let a = neither _ _ e in
-      let b = neither _ _ a.1 in
-      let c = neither _ _ b.1 in
-      let d = neither _ _ c.1 in
+      let a = or_parts _ _ e in
+      let b = or_parts _ _ a.1 in
+      let c = or_parts _ _ b.1 in
+      let d = or_parts _ _ c.1 in
       record {
         range = range-of k.count k.size a.0;
         count = eqb-true k.count s.count (not-false _ b.0);

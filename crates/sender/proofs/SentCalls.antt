@@ -7,7 +7,7 @@ use native.Mathlib.Omega.{arith}
 use native.Mathlib.Decide.{dec_lt, dec_le}
 use lib.ListN.{length, get_or, replicate, length-replicate}
 use borrow.Author.Tests.{lt-ltb, le-ltb}
-use Rattle.answers.specs.Written.{written_number}
+use Rattle.answers.specs.Refusal.{number_in}
 use Rattle.transfer.specs.Block.{block_bytes}
 use Rattle.transfer.specs.Sending.{sent_on}
 use Rattle.sender.specs.declared.state.Sender.{Sender}
@@ -85,8 +85,8 @@ module _ (file : List ℕ) (count size : ℕ) (s : Sender) (h : Handed (length f
   pub matches : (out : List ℕ) → Matches s (next_call c count size file out)
   matches out = record { range = h.range; count = sym h.count_is; size = sym h.size_is; file = sym h.len_is; given = test-holds (length file) count size s h }
 
-  as-begun : (out : List ℕ) → number_for s file c out ≡ written_number (next_of s (next_call c count size file out))
-  as-begun out = ap (λ n. written_number (next_of s (next_call c n s.size file out))) h.count_is ∙ ap (λ n. written_number (next_of s (next_call c count n file out))) h.size_is
+  as-begun : (out : List ℕ) → number_for s file c out ≡ number_in (next_of s (next_call c count size file out))
+  as-begun out = ap (λ n. number_in (next_of s (next_call c n s.size file out))) h.count_is ∙ ap (λ n. number_in (next_of s (next_call c count n file out))) h.size_is
 
   -- 74 exactly where the channel has been given its blocks and its ending
   pub answers-74 : given_on s c ≡ share + 1 → (out : List ℕ) → number_for s file c out ≡ 74
@@ -98,7 +98,7 @@ module _ (file : List ℕ) (count size : ℕ) (s : Sender) (h : Handed (length f
       k : NextCall
       k = next_call c count size file out
 
-      answer : written_number (next_of s k) ≡ 74
+      answer : number_in (next_of s k) ≡ 74
       answer = sym (as-begun out) ∙ e
 
       by : Dec (given_on s c ≤ share) → Dec (length out < 17 + length (next_block s k).body) → given_on s c ≡ share + 1

@@ -23,7 +23,7 @@ use Rattle.transfer.specs.Sending.{sent_blocks, payloads_holding}
 use Rattle.transfer.proofs.BlockClaims.{hit_by}
 use Rattle.sender.specs.Blocks.{block_count, block_length, data_block, ending, sending}
 use Rattle.sender.specs.Sends.{ExactlyOnce}
-use Rattle.sender.proofs.BlockNumbers.{starts-inside, block-there}
+use Rattle.sender.proofs.BlockNumbers.{starts_inside, block-there}
 use Rattle.sender.proofs.SendingSums.{sum_below, sum_below-same, sum_below-zero, sum_below-only, sum-sent}
 use Rattle.sender.proofs.SendingEach.{each-sent}
 
@@ -37,7 +37,7 @@ length-said d second third e h = rw e (second-reads-back d second third h)
 -- block k begins at k × size
 pub data-place : (file : List ℕ) (size k : ℕ) → 0 < size → length file < 2 ^ 64 → k < block_count (length file) size → place_of (data_block file size k) ≡ k * size
 unfolding data_block
-data-place file size k z l h = third-reads-back 0 (block_length (length file) size k) (k * size) (omega (arith, starts-inside (length file) size k z h))
+data-place file size k z l h = third-reads-back 0 (block_length (length file) size k) (k * size) (omega (arith, starts_inside (length file) size k z h))
 
 -- its header says how far it goes
 pub data-size : (file : List ℕ) (size k : ℕ) → length file < 2 ^ 64 → size_of (data_block file size k) ≡ min ((k + 1) * size) (length file) - k * size
@@ -130,7 +130,7 @@ module _ (file : List ℕ) (count size : ℕ) (some : 0 < count) (z : 0 < size) 
     where
       at_block : (k : ℕ) → k < blocks → hit_by p (data_block file size k) ≡ in_block p k
       at_block k h =
-          let end : k * size + block_length (length file) size k ≡ min ((k + 1) * size) (length file) = omega (arith, starts-inside (length file) size k z h) in
+          let end : k * size + block_length (length file) size k ≡ min ((k + 1) * size) (length file) = omega (arith, starts_inside (length file) size k z h) in
           rw (data-place file size k z l h, data-size file size k l, end)
 
       at-ending : (c : ℕ) → Where (place_of (ending count c)) (place_of (ending count c) + size_of (ending count c)) p → hit_by p (ending count c) ≡ 0

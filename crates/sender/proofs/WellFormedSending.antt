@@ -23,7 +23,7 @@ use Rattle.transfer.proofs.ArrivalWhole.{sent-append}
 use Rattle.transfer.proofs.CompleteSending.{ends_last}
 use Rattle.transfer.proofs.BlockCut.{Done, done-append}
 use Rattle.sender.specs.Blocks.{block_count, block_length, data_block, ending, data_blocks_on, channel_blocks, channels_below, sending}
-use Rattle.sender.proofs.BlockNumbers.{starts-inside, block-there}
+use Rattle.sender.proofs.BlockNumbers.{starts_inside, block-there}
 use Rattle.sender.proofs.SendingSums.{sum_below, sum_below-same, sum_below-zero, sum_below-at, sum_below-most, sum-channels, sum-sent}
 use Rattle.sender.proofs.SendingEach.{each_on, each-channel, each-sent}
 use Rattle.sender.proofs.SentPlaces.{data-place, data-size, data_length, ending-is, ending-size, exactly_once}
@@ -45,7 +45,7 @@ data-well file size k z l h =
       seventeen = unfold data_block in length-bytes_of 0 (block_length (length file) size k) (k * size);
       accepted = unfold data_block header_bytes fault_of has in refl;
       whole = data_length file size k ∙ sym (data-size file size k l);
-      inside = λ m. omega (arith, data-place file size k z l h, data-size file size k l, starts-inside (length file) size k z h);
+      inside = λ m. omega (arith, data-place file size k z l h, data-size file size k l, starts_inside (length file) size k z h);
     }
 
 -- and does not end its channel

@@ -1,6 +1,5 @@
 -- An instance: five bytes on two channels, in blocks of two.
-use Rattle.std.specs.Prelude.{ℕ, ◌≡◌, List, [], ◌∷◌, ◌++◌, replicate}
-use Rattle.answers.specs.declared.written.Written.TheVariants.{Bytes}
+use Rattle.std.specs.Prelude.{ℕ, ◌≡◌, Ok, List, [], ◌∷◌, ◌++◌, replicate}
 use Rattle.transfer.specs.Block.{block_bytes}
 use Rattle.sender.specs.Blocks.{channel_blocks}
 use Rattle.sender.specs.Sender.{sender_of, begin_of, next_call, next_of, next_after, sender_after}
@@ -23,6 +22,6 @@ pub record Example : Type 0 where
   -- the first call on channel 1, lent 20 bytes
   pub first_call_is :
       let call = next_call 1 2 2 example_file (replicate 20 238) in
-      (next_of (begin_of 5 2 2) call ≡ Bytes 19)
+      (next_of (begin_of 5 2 2) call ≡ Ok 19)
       × (next_after (begin_of 5 2 2) call ≡ 0 ∷ 0 ∷ 0 ∷ 0 ∷ 0 ∷ 0 ∷ 0 ∷ 0 ∷ 2 ∷ 0 ∷ 0 ∷ 0 ∷ 0 ∷ 0 ∷ 0 ∷ 0 ∷ 2 ∷ 13 ∷ 14 ∷ 238 ∷ [])
       × (sender_after (begin_of 5 2 2) call ≡ sender_of 5 2 2 (0 ∷ 1 ∷ replicate 62 0))

@@ -1,7 +1,6 @@
 -- A sender, how it is begun, and what a call for the next block of a channel answers and leaves (document 02, Item 1).
 use Rattle.std.specs.Prelude.{ℕ, suc, ◌+◌, Bool, true, cond, ◌&&◌, ◌||◌, not, List, [], ◌∷◌, ◌++◌, leb, ltb, eqb, length, get_or, set, replicate}
-use Rattle.answers.specs.declared.written.Written.{Written}
-use Rattle.answers.specs.Written.{first_refusal, room_refusal, written_by, written_after}
+use Rattle.answers.specs.Written.{Written, first_refusal, room_refusal, written_by, written_after}
 use Rattle.transfer.specs.Block.{Block}
 use Rattle.sender.specs.declared.state.Sender.{Sender}
 use Rattle.sender.specs.Blocks.{channel_limit, out_of_range, block_count, blocks_on, block_on}
@@ -60,6 +59,10 @@ bytes_of x = x.head ++ x.body
 
 unfoldable pub next_bytes : Sender → NextCall → List ℕ
 next_bytes s k = bytes_of (block_on k.file k.count k.size k.channel (given_on s k.channel))
+
+-- numbers out of range, or that are not the sender's
+unfoldable pub numbers_wrong : Sender → ℕ → ℕ → ℕ → Bool
+numbers_wrong s count size len = out_of_range count size || (not (eqb count s.count) || (not (eqb size s.size) || not (eqb len s.len)))
 
 -- what 71 asks: numbers out of range, numbers or a file length that are not the sender's, or a sender that the test above refuses
 unfoldable pub is_mismatched : Sender → NextCall → Bool

@@ -1,7 +1,7 @@
 -- What every list of calls on a sender sends, from an accepted beginning on (document 02, Item 1).
 use Rattle.std.specs.Prelude.{ℕ, ◌≤◌, ◌<◌, ◌≡◌, ◌↔◌, ◌⊎◌, ◌≢◌, true, List, [], ◌∷◌, ◌++◌, length, get_or}
 use Rattle.ledger.specs.Pairs.{none}
-use Rattle.answers.specs.Written.{written_number}
+use Rattle.answers.specs.Refusal.{number_in}
 use Rattle.transfer.specs.Transfer.{World, result, verdict_of}
 use Rattle.transfer.specs.Calls.{Call, after}
 use Rattle.transfer.specs.Block.{block_bytes, doubtful_in}
@@ -32,7 +32,7 @@ pub record GivenByCalls : Type 0 where
 
 -- the number that a call for the next block of the channel is answered with, count and size as begun
 abbrev pub number_for : Sender → List ℕ → ℕ → List ℕ → ℕ
-number_for s file c out = written_number (next_of s (next_call c s.count s.size file out))
+number_for s file c out = number_in (next_of s (next_call c s.count s.size file out))
 
 -- the first is the front of the second
 abbrev pub Front : List ℕ → List ℕ → Type 0

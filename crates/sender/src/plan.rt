@@ -4,107 +4,100 @@ ghost use Rattle.eblock.specs.Header.{header_bytes, refusal_of, second_field};
 ghost use Rattle.sender.specs.Blocks.{block_count, block_start, block_length, block_on};
 ghost use Rattle.sender.specs.Sender.{most_on, all_at_most};
 
-// A block's header: its descriptor, its length, and the offset or, with 72, the count. Its bytes are those of the file from the offset on.
-#[derive(Clone, Copy)]
+use eblock::descriptor::{END_OF_DATA, EODC};
+
+// The ending of channel 0 announces the count.
+const COUNTED_ENDING: u8 = EODC + END_OF_DATA;
+
+// A block's header: its descriptor, its length, and the offset or, in the ending of channel 0, the count. Its bytes are those of the file from the
+// offset on.
+#[derive(Clone, Copy, Debug, PartialEq, Eq)]
 pub struct Outline {
     pub descriptor: u8,
     pub length: u64,
     pub third: u64,
 }
 
-// How many blocks with bytes the file has.
-fn block_count(len: u64, size: u64) -> u64
-    requires { (0 < size) × (len < 2 ^ 63) }
-    ensures { result ≡ block_count len size }
-{
-    let whole = len / size;
-    if len % size == 0 {
-        return whole;
-    }
-    whole + 1
+// How a file of len bytes is sent: on so many channels, in blocks of so many bytes.
+#[derive(Clone, Copy, Debug, PartialEq, Eq)]
+pub struct Plan {
+    pub len: u64,
+    pub count: u64,
+    pub size: u64,
+    ghost fits: { (len < 2 ^ 63) × (0 < count) × (count ≤ 64) × (0 < size) },
 }
 
-// The most that channel c can be given, its ending counted, where each channel has so many blocks and those below `more` one besides.
-fn most(each: u64, more: u64, count: u64, c: u64) -> u64
-    requires { each < 2 ^ 63 }
-    ensures { result ≡ cond (ltb c count) (each + cond (ltb c more) 1 0 + 1) 0 }
-{
-    if count <= c {
-        return 0;
+impl Plan {
+    // How many blocks with bytes the file has.
+    #[tactic(auto, using(crate::proofs::BlockNumbers::rounded_up))]
+    fn block_count(self) -> u64
+        ensures { result ≡ block_count self.len self.size }
+    {
+        self.len.div_ceil(self.size)
     }
-    if c < more {
-        return each + 2;
-    }
-    each + 1
-}
 
-// The same for a file of len bytes.
-pub fn most_on(len: u64, count: u64, size: u64, c: u64) -> u64
-    requires { (0 < count) × (0 < size) × (len < 2 ^ 63) }
-    ensures { result ≡ most_on len count size c }
-{
-    let blocks = block_count(len, size);
-    most(blocks / count, blocks % count, count, c)
-}
-
-// Whether no channel has been given more.
-pub fn all_at_most(len: u64, count: u64, size: u64, given: &[u64]) -> bool
-    requires { (0 < count) × (0 < size) × (len < 2 ^ 63) }
-    ensures { result ≡ all_at_most (most_on len count size) 0 given.now }
-{
-    let blocks = block_count(len, size);
-    let each = blocks / count;
-    let more = blocks % count;
-    let mut c = 0;
-    while c < given.len() {
-        if most(each, more, count, c as u64) < given[c] {
-            return false;
+    // The most that channel c can be given, its ending counted.
+    #[tactic(auto, using(crate::proofs::BlockNumbers::share_most), unfolding(crate::specs::Sender::most_on, crate::specs::Blocks::blocks_on))]
+    pub fn most_on(self, c: u64) -> u64
+        ensures { result ≡ most_on self.len self.count self.size c }
+    {
+        let blocks = self.block_count();
+        let each = blocks / self.count;
+        let more = blocks % self.count;
+        if self.count <= c {
+            0
+        } else if c < more {
+            each + 2
+        } else {
+            each + 1
         }
-        c += 1;
     }
-    true
-}
 
-// Block k of the file.
-fn data_outline(len: u64, size: u64, k: u64) -> Outline
-    requires { (0 < size) × (len < 2 ^ 63) × (k < block_count len size) }
-    ensures { (result.descriptor ≡ 0) × (result.length ≡ block_length len size k) × (result.third ≡ block_start size k) × (result.third + result.length ≤ len) }
-{
-    let from = k * size;
-    let rest = len - from;
-    if rest < size {
-        return Outline {
+    // Whether no channel has been given more.
+    pub fn all_at_most(self, given: &[u64]) -> bool
+        ensures { result ≡ all_at_most (most_on self.len self.count self.size) 0 given.now }
+    {
+        given
+            .iter()
+            .enumerate()
+            .all(|(c, n)| *n <= self.most_on(c as u64))
+    }
+
+    // Block k of the file.
+    #[tactic(auto, using(crate::proofs::BlockNumbers::starts_inside))]
+    fn data_outline(self, k: u64) -> Outline
+        requires { k < block_count self.len self.size }
+        ensures { (result.descriptor ≡ 0) × (result.length ≡ block_length self.len self.size k) × (result.third ≡ block_start self.size k) × (result.third + result.length ≤ self.len) }
+    {
+        let third = k * self.size;
+        let rest = self.len - third;
+        Outline {
             descriptor: 0,
-            length: rest,
-            third: from,
-        };
+            length: rest.min(self.size),
+            third,
+        }
     }
-    Outline {
-        descriptor: 0,
-        length: size,
-        third: from,
-    }
-}
 
-// The block that channel c is given after i others, which are not yet all.
-pub fn next_outline(len: u64, count: u64, size: u64, c: u64, i: u64) -> Outline
-    requires { (c < count) × (count ≤ 64) × (0 < size) × (len < 2 ^ 63) × (i < most_on len count size c) }
-    ensures { (refusal_of result.descriptor result.third ≡ 0) × (0 < result.length → result.third + result.length ≤ len) × ((file : List ℕ) → length file ≡ len → (header_bytes result.descriptor (second_field result.descriptor result.length) result.third ≡ (block_on file count size c i).head) × (take result.length (drop result.third file) ≡ (block_on file count size c i).body)) }
-{
-    let most = most_on(len, count, size, c);
-    if i + 1 < most {
-        return data_outline(len, size, i * count + c);
-    }
-    if c == 0 {
-        return Outline {
-            descriptor: 72,
-            length: 0,
-            third: count,
-        };
-    }
-    Outline {
-        descriptor: 8,
-        length: 0,
-        third: 0,
+    // The block that channel c is given after i others, which are not yet all.
+    pub fn next_outline(self, c: u64, i: u64) -> Outline
+        requires { (c < self.count) × (i < most_on self.len self.count self.size c) }
+        ensures { (refusal_of result.descriptor result.third ≡ 0) × (0 < result.length → result.third + result.length ≤ self.len) × ((file : List ℕ) → length file ≡ self.len → (header_bytes result.descriptor (second_field result.descriptor result.length) result.third ≡ (block_on file self.count self.size c i).head) × (take result.length (drop result.third file) ≡ (block_on file self.count self.size c i).body)) }
+    {
+        let most = self.most_on(c);
+        if i + 1 < most {
+            self.data_outline(i * self.count + c)
+        } else if c == 0 {
+            Outline {
+                descriptor: COUNTED_ENDING,
+                length: 0,
+                third: self.count,
+            }
+        } else {
+            Outline {
+                descriptor: END_OF_DATA,
+                length: 0,
+                third: 0,
+            }
+        }
     }
 }

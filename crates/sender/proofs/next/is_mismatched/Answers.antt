@@ -1,40 +1,28 @@
 -- `next::is_mismatched`.
-use mathlib.Core.Path.{sym, ap, ◌∙◌}
-use mathlib.Core.Bool.{not}
+use mathlib.Core.Path.{◌≡◌, sym, ap, ◌∙◌}
+use mathlib.Core.Bool.{false, not}
+use mathlib.Core.List.{[]}
 use native.Mathlib.Omega.{arith}
-use Rattle.sender.specs.Sender.{next_call}
-use Rattle.sender.proofs.Judged.{wrong-when, wrong-count, wrong_size, wrong-file, by-given, range-of}
+use lib.ListN.{replicate, length-replicate}
+use Rattle.sender.specs.Sender.{next_call, numbers_wrong}
+use Rattle.sender.proofs.Judged.{wrong-numbers, right-range, by-given}
 use Rattle.sender.proofs.next.is_mismatched.Goals as goal
 
-pub returns-then-out_of_range : goal.returns-then-out_of_range
-returns-then-out_of_range c =
+pub returns-then-numbers_wrong : goal.returns-then-numbers_wrong
+returns-then-numbers_wrong c =
     let x = c.args in
-    λ n file out e. sym (wrong-when x.s (next_call n x.count x.size file out) (sym c.out_of_range.ensures ∙ c.if-out_of_range.true))
+    λ n file out l.
+    c.if-numbers_wrong.true ∙ sym (wrong-numbers x.s (next_call n x.count x.size file out) (rw l (sym c.numbers_wrong.ensures ∙ c.if-numbers_wrong.true)))
 
-pub returns-then-count-s : goal.returns-then-count-s
-returns-then-count-s c =
+pub invariant_of-all_at_most : goal.invariant_of-all_at_most
+invariant_of-all_at_most c =
     let x = c.args in
-    λ n file out e. sym (wrong-count x.s (next_call n x.count x.size file out) c.if-count-s.true)
+    let e : numbers_wrong x.s x.count x.size x.len ≡ false = sym c.numbers_wrong.ensures ∙ c.if-numbers_wrong.false in
+    let r = right-range x.s (next_call 0 x.count x.size (replicate x.len 0) []) (rw length-replicate e) in
+    record { fits = omega (arith, r) }
 
-pub returns-then-size-s : goal.returns-then-size-s
-returns-then-size-s c =
+pub returns-else-numbers_wrong : goal.returns-else-numbers_wrong
+returns-else-numbers_wrong c =
     let x = c.args in
-    λ n file out e. sym (wrong_size x.s (next_call n x.count x.size file out) c.if-size-s.true)
-
-pub returns-then-len-s : goal.returns-then-len-s
-returns-then-len-s c =
-    let x = c.args in
-    λ n file out e. sym (wrong-file x.s (next_call n x.count x.size file out) (λ h. c.if-len-s.true (sym e ∙ h)))
-
-pub all_at_most-requires : goal.all_at_most-requires
-all_at_most-requires c =
-    let x = c.args in
-    let r = range-of x.count x.size (sym c.out_of_range.ensures ∙ c.if-out_of_range.false) in
-    omega (arith, r)
-
-pub returns : goal.returns
-returns c =
-    let x = c.args in
-    λ n file out e.
-    sym (rw e at (by-given x.s (next_call n x.count x.size file out) (sym c.out_of_range.ensures ∙ c.if-out_of_range.false) c.if-count-s.false c.if-size-s.false (e ∙ c.if-len-s.false))
-    ∙ ap not (sym c.all_at_most.ensures))
+    λ n file out l.
+    ap not (c.all_at_most.ensures) ∙ sym (rw l at (by-given x.s (next_call n x.count x.size file out) (rw l (sym c.numbers_wrong.ensures ∙ c.if-numbers_wrong.false))))

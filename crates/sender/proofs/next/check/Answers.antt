@@ -1,4 +1,4 @@
--- `next::refusal`.
+-- `next::check`.
 use Prim.Native.Nat.{ℕ, ◌+◌, ◌<◌}
 use mathlib.Core.Path.{◌≡◌, sym, ◌∙◌}
 use mathlib.Core.Bool.{Bool, false}
@@ -11,7 +11,7 @@ use Rattle.sender.specs.Sender.{most_on, next_call, is_mismatched}
 use Rattle.sender.specs.SenderRows.{InRange, Matches}
 use Rattle.sender.proofs.AtMost.{most-below}
 use Rattle.sender.proofs.Judged.{matching, refused-71, refused-73, refused-74, not-refused}
-use Rattle.sender.proofs.next.refusal.Goals as goal
+use Rattle.sender.proofs.next.check.Goals as goal
 
 -- where the first test says no, the call is one on this sender, whatever file of that length is lent
 module _ (s : Sender) (channel count size len : ℕ) (wrong : Bool) (e : (c : ℕ) (file out : List ℕ) → length file ≡ len → wrong ≡ is_mismatched s (next_call c count size file out)) (no : wrong ≡ false) where
@@ -36,11 +36,11 @@ returns-then-count-channel c =
     let o = matches x.s x.channel x.count x.size x.len c.is_mismatched.result c.is_mismatched.ensures c.if-is_mismatched.false in
     λ file out e. sym (refused-73 x.s _ (o file out e) c.if-count-channel.true)
 
-pub most_on-requires : goal.most_on-requires
-most_on-requires c =
+pub invariant_of-plan : goal.invariant_of-plan
+invariant_of-plan c =
     let x = c.args in
     let r = ranges x.s x.channel x.count x.size x.len c.is_mismatched.result c.is_mismatched.ensures c.if-is_mismatched.false in
-    omega (arith, r)
+    record { fits = omega (arith, r) }
 
 pub bounds-s-channel : goal.bounds-s-channel
 bounds-s-channel c =
