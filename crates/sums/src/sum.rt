@@ -1,32 +1,25 @@
 // Sums and differences that a u64 may not hold.
 ghost use Rattle.std.specs.Prelude.{◌≡◌, ◌+◌, ◌-◌, min, leb};
 
+// Stays: two of u64's own methods as functions, since must-fail edits are of `saturating_add` and `saturating_sub`.
+
 // a + b, or the largest number where that is more.
 pub fn saturating_add(a: u64, b: u64) -> u64
     ensures { result ≡ min 18446744073709551615 (a + b) }
 {
-    if 18446744073709551615 - a < b {
-        return 18446744073709551615;
-    }
-    a + b
+    a.saturating_add(b)
 }
 
 // a - b, or 0 where b is more.
 pub fn saturating_sub(a: u64, b: u64) -> u64
     ensures { result ≡ a - b }
 {
-    if a < b {
-        return 0;
-    }
-    a - b
+    a.saturating_sub(b)
 }
 
 // Whether a + x is at most b.
 pub fn sum_at_most(a: u64, x: u64, b: u64) -> bool
     ensures { result ≡ leb (a + x) b }
 {
-    if b < a {
-        return false;
-    }
-    x <= b - a
+    a.checked_add(x).is_some_and(|sum| sum <= b)
 }
