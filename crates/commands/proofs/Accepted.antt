@@ -10,7 +10,8 @@ use lib.Dec.{ltb, eqb}
 use lib.ListN.{length, get_or, take, drop, replicate, length-append, length-drop, length-replicate, drop_of_length-le}
 use lib.Seq.{drop_at, drop-drop, drop-append-add}
 use Rattle.texts.specs.Text.{all, is_letter, is_printable, is_space, leading_count}
-use Rattle.commands.specs.Line.{takes_no_argument, text_of, ends_in_cr_lf, verb_of, after_verb, has_verb, argument_start, argument_accepted, read_of, argument_of, refusal_number, verb}
+use Rattle.answers.specs.Refusal.{number_in}
+use Rattle.commands.specs.Line.{takes_no_argument, text_of, ends_in_cr_lf, verb_of, after_verb, has_verb, argument_start, argument_accepted, read_of, argument_of, verb}
 use Rattle.commands.specs.Accepted.{TakesNoArgument, CommandLine, AcceptedLines}
 use Rattle.commands.specs.Refused.{BeginsWithVerb}
 use Rattle.texts.proofs.Texts.{all_append, all_drop, leading_le, leading-rest}
@@ -81,7 +82,7 @@ module _ (line : List ℕ) (p : Passed line) where
     first = first;
   }
 
-by-line : (line : List ℕ) → refusal_number (read_of line) ≡ 0
+by-line : (line : List ℕ) → number_in (read_of line) ≡ 0
     → (word : List ℕ) × (spaces : ℕ) × CommandLine line word (argument_of (read_of line) line) (verb (read_of line)) spaces
 unfolding verb
 by-line line e =
@@ -92,9 +93,9 @@ by-line line e =
 -- ---- a command line
 
 -- a space follows the word or nothing does
-rest-followed : (spaces : ℕ) (argument : List ℕ) → (spaces ≡ 0 → argument ≡ []) → (replicate spaces 32 ++ argument ≡ []) ⊎ (get_or (replicate spaces 32 ++ argument) 0 0 ≡ 32)
-rest-followed zero argument h = inl (h refl)
-rest-followed (suc n) argument h = inr refl
+rest-followed : (spaces : ℕ) (text : List ℕ) → (spaces ≡ 0 → text ≡ []) → (replicate spaces 32 ++ text ≡ []) ⊎ (get_or (replicate spaces 32 ++ text) 0 0 ≡ 32)
+rest-followed zero end h = inl (h refl)
+rest-followed (suc n) end h = inr refl
 
 module _ (line word argument : List ℕ) (v spaces : ℕ) (k : CommandLine line word argument v spaces) where
   abbrev rest : List ℕ
@@ -146,11 +147,11 @@ module _ (line word argument : List ℕ) (v spaces : ℕ) (k : CommandLine line 
   joined-part : drop (argument_start joined) joined ≡ argument
   joined-part = rw (place_is, drop-append-add word rest spaces) (drop_at (replicate spaces 32) argument spaces (length-replicate spaces 32))
 
-  accepted : (refusal_number (read_of line) ≡ 0) × (verb (read_of line) ≡ v) × (argument_of (read_of line) line ≡ argument)
-  unfolding refusal_number verb
+  accepted : (number_in (read_of line) ≡ 0) × (verb (read_of line) ≡ v) × (argument_of (read_of line) line ≡ argument)
+  unfolding verb
   accepted =
       let r = passed-accepted line passed in
-      (ap refusal_number r, ap verb r ∙ ap verb_of text_is ∙ verb_is joined word rest v begun, handed line passed ∙ ap (λ t. drop (argument_start t) t) text_is ∙ joined-part)
+      (ap number_in r, ap verb r ∙ ap verb_of text_is ∙ verb_is joined word rest v begun, handed line passed ∙ ap (λ t. drop (argument_start t) t) text_is ∙ joined-part)
 
 pub accepted-lines : AcceptedLines
 accepted-lines = record { accepted_is = by-line; command_line_accepted = accepted }

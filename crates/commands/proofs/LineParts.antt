@@ -1,11 +1,12 @@
 -- A line taken apart into its text and CR LF, and the text into verb, spaces and argument.
 use Prim.Native.Nat.{ℕ, suc, ◌+◌, ◌-◌, ◌≤◌}
-use mathlib.Core.Path.{◌≡◌, sym, ap, ◌∙◌}
-use mathlib.Core.Bool.{true, ◌&&◌, and-eq-true_iff}
+use mathlib.Core.Path.{◌≡◌, refl, sym, ap, ◌∙◌}
+use mathlib.Core.Bool.{true, ◌&&◌, and-eq-true_iff, and-false, and-true}
 use mathlib.Core.List.{List, [], ◌∷◌, ◌++◌}
 use native.Mathlib.Omega.{arith}
 use borrow.Author.Tests.{le-leb, leb-true, eq-eqb, eqb-true}
 use lib.Dec.{leb, eqb}
+use lib.Pointwise.{pointwise}
 use lib.ListN.{length, get_or, take, drop, replicate, length-append, length-drop, take-append-drop, drop_of_length-le}
 use lib.Seq.{drop-cons, drop-drop, drop-append-le, take_at, get_or-append-add, get_or_at}
 use Rattle.texts.specs.Text.{is_letter, is_space, leading_count}
@@ -43,6 +44,21 @@ module _ (line : List ℕ) (h : ends_in_cr_lf line ≡ true) where
   -- the text and CR LF are the line
   pub ends_whole : line ≡ text_of line ++ cr_lf
   ends_whole = sym (take-append-drop (length line - 2) line) ∙ ap (λ r. text_of line ++ r) ends-drop
+
+-- the suffix that the code strips
+pub suffix-ends : (line : List ℕ) → pointwise eqb (drop (length line - 2) line) cr_lf ≡ ends_in_cr_lf line
+unfolding ends_in_cr_lf
+suffix-ends [] = refl
+suffix-ends (x ∷ []) = and-false (eqb x 13)
+suffix-ends (x ∷ y ∷ rest) =
+    let line = x ∷ y ∷ rest in
+    let n = length line in
+    let a = drop-cons line (n - 2) 0 (omega arith) in
+    let b = drop-cons line (n - 1) 0 (omega arith) in
+    let c : drop (suc (n - 1)) line ≡ [] = drop_of_length-le line {i = suc (n - 1)} (omega arith) in
+    let s : suc (n - 2) ≡ n - 1 = omega arith in
+    let last : drop (n - 2) line ≡ get_or line (n - 2) 0 ∷ get_or line (n - 1) 0 ∷ [] = a ∙ rw (s, b, c) in
+    rw (last, le-leb 2 n (omega arith), and-true (eqb (get_or line (n - 1) 0) 10))
 
 module _ (text : List ℕ) where
   pub ended-length : length (text ++ cr_lf) ≡ length text + 2

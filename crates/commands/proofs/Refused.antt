@@ -10,10 +10,11 @@ use lib.Dec.{ltb}
 use lib.ListN.{length, take, replicate, length-append, length-replicate}
 use lib.Seq.{take_all}
 use Rattle.texts.specs.Text.{all, is_letter, is_printable, is_space, leading_count}
-use Rattle.commands.specs.Line.{line_limit, text_of, ends_in_cr_lf, verb_of, after_verb, has_verb, argument_start, argument_accepted, read_of, argument_of, refusal_number, verb}
+use Rattle.std.specs.Prelude.{Err}
+use Rattle.answers.specs.Refusal.{number_in}
+use Rattle.commands.specs.Line.{line_limit, text_of, ends_in_cr_lf, verb_of, after_verb, has_verb, argument_start, argument_accepted, read_of, argument_of, verb}
 use Rattle.commands.specs.Accepted.{Printable, TakesNoArgument}
 use Rattle.commands.specs.Refused.{BeginsWithVerb, RefusedBy, by_31, by_32, by_33, by_34, by_35_missing, by_35_present, Refusals}
-use Rattle.commands.specs.declared.line.Line.TheVariants.{Refused}
 use Rattle.commands.proofs.Spaces.{spaces-over, spaces-taken}
 use Rattle.commands.proofs.Printable.{unprintable-at, printable-at, each-printable, outside-unprintable}
 use Rattle.commands.proofs.LineParts.{cr_lf, ends_whole, ended-text, ended-ends}
@@ -39,11 +40,11 @@ present text word rest v b p h = rw (verb_is text word rest v b, no-argument-tru
 
 module _ (line : List ℕ) where
   abbrev Answer : ℕ → Type 0
-  Answer k = (refusal_number (read_of line) ≡ k) × (verb (read_of line) ≡ 0) × (argument_of (read_of line) line ≡ [])
+  Answer k = (number_in (read_of line) ≡ k) × (verb (read_of line) ≡ 0) × (argument_of (read_of line) line ≡ [])
 
-  answer : (k : ℕ) → read_of line ≡ Refused k → Answer k
-  unfolding refusal_number verb argument_of
-  answer k e = (ap refusal_number e, ap verb e, ap (λ a. argument_of a line) e)
+  answer : (k : ℕ) → read_of line ≡ Err k → Answer k
+  unfolding verb argument_of
+  answer k e = (ap number_in e, ap verb e, ap (λ a. argument_of a line) e)
 
   not-ended : ((text : List ℕ) → line ≢ text ++ cr_lf) → ends_in_cr_lf line ≡ false
   not-ended n = (not-eq-not {b = false}).0 (λ e. n (text_of line) (ends_whole line e))
@@ -80,7 +81,7 @@ module _ (line : List ℕ) where
   record Row : Type 0 where
     k : ℕ
     positive : 0 < k
-    reads : read_of line ≡ Refused k
+    reads : read_of line ≡ Err k
     row : RefusedBy line k
 
   module _ (l : length line ≤ 2048) (e : ends_in_cr_lf line ≡ true) (p : all is_printable (text_of line) ≡ true) where
@@ -137,15 +138,14 @@ module _ (line : List ℕ) where
       go false true true true false p q r s t = inr (row-35 (ltb-false line_limit (length line) p) q r s t)
       go false true true true true p q r s t = inl (record { short = ltb-false line_limit (length line) p; ended = q; printable = r; verb_is = s; argument_is = t })
 
-  refused_is : 0 < refusal_number (read_of line) → RefusedBy line (refusal_number (read_of line))
-  unfolding refusal_number
+  refused_is : 0 < number_in (read_of line) → RefusedBy line (number_in (read_of line))
   refused_is z = go judged
     where
-      go : Passed line ⊎ Row → RefusedBy line (refusal_number (read_of line))
-      go (inl p) = absurd (omega (arith, ap refusal_number (passed-accepted line p)))
+      go : Passed line ⊎ Row → RefusedBy line (number_in (read_of line))
+      go (inl p) = absurd (omega (arith, ap number_in (passed-accepted line p)))
       go (inr r) = rw (answer line r.k r.reads).0 r.row
 
-  pub accepted-passed : refusal_number (read_of line) ≡ 0 → Passed line
+  pub accepted-passed : number_in (read_of line) ≡ 0 → Passed line
   accepted-passed z = go judged
     where
       go : Passed line ⊎ Row → Passed line

@@ -1,50 +1,68 @@
--- Words compared letter by letter, and searched in the table of verbs; the verbs that take no argument.
+-- Words compared letter by letter, and searched in the table of verbs; the code's table; the verbs that take no argument.
 use Prim.Native.Nat.{ℕ, zero, suc, ◌+◌, ◌-◌, ◌≤◌, ◌<◌}
-use mathlib.Core.Path.{◌≡◌, refl, ap}
+use mathlib.Core.Path.{◌≡◌, refl, sym, ap, ◌∙◌}
 use mathlib.Core.Logic.{inl, inr, ⊎_elim}
-use mathlib.Core.Bool.{Bool, true, false, ◌&&◌, and-eq-true_iff, and-false}
+use mathlib.Core.Bool.{Bool, true, false, ◌&&◌, and-eq-true_iff, not-eq-not}
 use mathlib.Core.List.{List, [], ◌∷◌, map}
 use native.Mathlib.Omega.{arith}
 use native.Mathlib.Numerals.{add-one}
 use native.Mathlib.Decide.{ℕ_discrete}
 use borrow.Author.Tests.{eq-eqb, ne_eqb, eqb-true}
 use lib.Dec.{eqb}
-use lib.ListN.{length, get_or, drop, drop_of_length-le}
+use lib.ListN.{length, get_or, drop}
 use lib.Seq.{drop-cons}
 use Rattle.texts.specs.Text.{is_letter, all}
-use Rattle.commands.specs.Line.{upper, verbs, takes_no_argument, equal_texts, verb_number_from}
+use Rattle.std.specs.List.{zip}
+use Rattle.std.specs.Char.{to_ascii_lowercase}
+use Rattle.std.proofs.lemmas.Bool.Decides.{nat_tests}
+use Rattle.commands.specs.Line.{upper, verbs, number_of, takes_no_argument, equal_texts, verb_number_from}
+use Rattle.commands.specs.declared.line.Verb.{Verb}
+use Rattle.commands.specs.declared.line.Verb.TheVariants.{Mode, Pasv, Port, Rest, Retr, Stor, Spas, Spor, Eret, Esto, Sbuf, Opts}
 use Rattle.commands.specs.Accepted.{TakesNoArgument}
 
 -- ---- two words
 
-pub equal-goes : (x y : List ℕ) (k : ℕ) → k < length x → k < length y → get_or x k 0 ≡ get_or y k 0
-    → equal_texts (drop k x) (drop k y) ≡ equal_texts (drop (k + 1) x) (drop (k + 1) y)
+pub equal-same : (x y : List ℕ) → x ≡ y → equal_texts x y ≡ true
 unfolding equal_texts
-equal-goes x y k h g e = rw (drop-cons x k 0, drop-cons y k 0, eq-eqb _ _ e, add-one k)
-
-pub equal-stops : (x y : List ℕ) (k : ℕ) → k < length x → k < length y → (get_or x k 0 ≡ get_or y k 0 → ⊥) → equal_texts (drop k x) (drop k y) ≡ false
-unfolding equal_texts
-equal-stops x y k h g e = rw (drop-cons x k 0, drop-cons y k 0, ne_eqb _ _ e)
-
-pub equal-ends : (x y : List ℕ) (k : ℕ) → length x ≤ k → length y ≤ k → equal_texts (drop k x) (drop k y) ≡ true
-unfolding equal_texts
-equal-ends x y k h g = rw (drop_of_length-le x h, drop_of_length-le y g)
-
-pub equal-lengths : (x y : List ℕ) → (length x ≡ length y → ⊥) → equal_texts x y ≡ false
-unfolding equal_texts
-equal-lengths [] [] n = absurd (n refl)
-equal-lengths [] (b ∷ y) n = refl
-equal-lengths (a ∷ x) [] n = refl
-equal-lengths (a ∷ x) (b ∷ y) n = rw (equal-lengths x y (λ e. n (ap suc e))) (and-false (eqb a b))
+equal-same [] [] e = refl
+equal-same [] (b ∷ y) e = cc
+equal-same (a ∷ x) [] e = cc
+equal-same (a ∷ x) (b ∷ y) e =
+    let h : a ≡ b = cc in
+    let t : x ≡ y = cc in
+    rw (eq-eqb a b h, equal-same x y t)
 
 pub equal-texts : (x y : List ℕ) → equal_texts x y ≡ true → x ≡ y
 unfolding equal_texts
 equal-texts [] [] e = refl
-equal-texts [] (b ∷ y) e = absurd (let z : ◌≡◌ {A = ℕ} 0 1 = cc in omega arith)
-equal-texts (a ∷ x) [] e = absurd (let z : ◌≡◌ {A = ℕ} 0 1 = cc in omega arith)
+equal-texts [] (b ∷ y) e = cc
+equal-texts (a ∷ x) [] e = cc
 equal-texts (a ∷ x) (b ∷ y) e =
     let p = (and-eq-true_iff (eqb a b) (equal_texts x y)).0 e in
     rw (eqb-true a b p.0, equal-texts x y p.1)
+
+-- two words are the same in lower case where they are the same in upper case
+
+letter : (a b : ℕ) → (to_ascii_lowercase a ≡ to_ascii_lowercase b → upper a ≡ upper b) × (upper a ≡ upper b → to_ascii_lowercase a ≡ to_ascii_lowercase b)
+letter a b = (λ e. grind (arith, nat_tests), λ e. grind (arith, nat_tests))
+
+lower-upper : (x y : List ℕ) → map to_ascii_lowercase x ≡ map to_ascii_lowercase y → map upper x ≡ map upper y
+lower-upper [] [] e = refl
+lower-upper [] (b ∷ y) e = cc
+lower-upper (a ∷ x) [] e = cc
+lower-upper (a ∷ x) (b ∷ y) e =
+    let h = (letter a b).0 cc in
+    let t = lower-upper x y cc in
+    cc
+
+upper-lower : (x y : List ℕ) → map upper x ≡ map upper y → map to_ascii_lowercase x ≡ map to_ascii_lowercase y
+upper-lower [] [] e = refl
+upper-lower [] (b ∷ y) e = cc
+upper-lower (a ∷ x) [] e = cc
+upper-lower (a ∷ x) (b ∷ y) e =
+    let h = (letter a b).1 cc in
+    let t = upper-lower x y cc in
+    cc
 
 -- ---- the place in a table
 
@@ -111,6 +129,34 @@ own-letters v h = each_below (λ v. all is_letter (get_or verbs v [])) 12 refl v
 pub own-capitals : (v : ℕ) → v < 12 → map upper (get_or verbs v []) ≡ get_or verbs v []
 unfolding all_below equal_texts
 own-capitals v h = equal-texts (map upper (get_or verbs v [])) (get_or verbs v []) (each_below (λ v. equal_texts (map upper (get_or verbs v [])) (get_or verbs v [])) 12 refl v h)
+
+-- the code's table of verbs, and its entry v
+abbrev pub coded : List (List ℕ × Verb)
+coded = zip verbs (Mode ∷ Pasv ∷ Port ∷ Rest ∷ Retr ∷ Stor ∷ Spas ∷ Spor ∷ Eret ∷ Esto ∷ Sbuf ∷ Opts ∷ [])
+
+abbrev pub entry : ℕ → List ℕ × Verb
+entry v = get_or coded v ([], Mode)
+
+name_is : (v : ℕ) → v < 12 → (entry v).0 ≡ get_or verbs v []
+unfolding all_below equal_texts
+name_is v h = equal-texts (entry v).0 (get_or verbs v []) (each_below (λ v. equal_texts (entry v).0 (get_or verbs v [])) 12 refl v h)
+
+number_is : (v : ℕ) → v < 12 → number_of (entry v).1 ≡ v + 1
+unfolding all_below
+number_is v h = eqb-true (number_of (entry v).1) (v + 1) (each_below (λ v. eqb (number_of (entry v).1) (v + 1)) 12 refl v h)
+
+-- a word is compared with a verb in letters of either case
+module _ (word : List ℕ) (v : ℕ) (h : v < 12) where
+  same_case : map upper (entry v).0 ≡ get_or verbs v []
+  same_case = ap (map upper) (name_is v h) ∙ own-capitals v h
+
+  pub listed : map to_ascii_lowercase word ≡ map to_ascii_lowercase (entry v).0 → verb_number_from (v + 1) (drop v verbs) (map upper word) ≡ number_of (entry v).1
+  listed e = number-from-found verbs (map upper word) v h (equal-same (map upper word) (get_or verbs v []) (lower-upper word (entry v).0 e ∙ same_case)) ∙ sym (number_is v h)
+
+  pub not-listed : (map to_ascii_lowercase word ≡ map to_ascii_lowercase (entry v).0 → ⊥)
+      → verb_number_from (v + 1) (drop v verbs) (map upper word) ≡ verb_number_from (v + 1 + 1) (drop (v + 1) verbs) (map upper word)
+  not-listed n =
+      number-from-next verbs (map upper word) v h ((not-eq-not {b = false}).0 (λ e. n (upper-lower word (entry v).0 (equal-texts (map upper word) (get_or verbs v []) e ∙ sym same_case))))
 
 -- ---- PASV and SPAS
 

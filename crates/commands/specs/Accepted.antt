@@ -1,7 +1,8 @@
 -- Which command lines are accepted, with which verb and argument.
 use Rattle.std.specs.Prelude.{ℕ, ◌-◌, ◌≤◌, ◌<◌, ◌≡◌, ◌⊎◌, ◌≢◌, true, List, [], ◌∷◌, ◌++◌, map, length, get_or, replicate}
 use Rattle.texts.specs.Text.{is_letter, all}
-use Rattle.commands.specs.Line.{upper, verbs, read_of, argument_of, refusal_number, verb}
+use Rattle.answers.specs.Refusal.{number_in}
+use Rattle.commands.specs.Line.{upper, verbs, read_of, argument_of, verb}
 
 -- every byte is one of 32 to 126
 abbrev pub Printable : List ℕ → Type 0
@@ -31,8 +32,8 @@ pub record CommandLine (line word argument : List ℕ) (v spaces : ℕ) : Type 0
 
 pub record AcceptedLines : Type 0 where
   -- a line that is accepted is a command line, and its argument is what is handed back
-  pub accepted_is : (line : List ℕ) → refusal_number (read_of line) ≡ 0
+  pub accepted_is : (line : List ℕ) → number_in (read_of line) ≡ 0
       → (word : List ℕ) × (spaces : ℕ) × CommandLine line word (argument_of (read_of line) line) (verb (read_of line)) spaces
   -- a command line is accepted, with its verb and its argument
   pub command_line_accepted : (line word argument : List ℕ) (v spaces : ℕ) → CommandLine line word argument v spaces
-      → (refusal_number (read_of line) ≡ 0) × (verb (read_of line) ≡ v) × (argument_of (read_of line) line ≡ argument)
+      → (number_in (read_of line) ≡ 0) × (verb (read_of line) ≡ v) × (argument_of (read_of line) line ≡ argument)

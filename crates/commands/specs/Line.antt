@@ -1,8 +1,11 @@
 -- A command line (document 01, "Control lines"; RFC 959, 5.3): letters of either case, one or more spaces, an argument, CR LF.
-use Rattle.std.specs.Prelude.{ℕ, suc, ◌+◌, ◌-◌, Bool, true, false, cond, ◌&&◌, ◌||◌, not, List, [], ◌∷◌, map, leb, ltb, eqb, length, get_or, take, drop}
+use Rattle.std.specs.Prelude.{ℕ, suc, ◌+◌, ◌-◌, Bool, true, false, cond, ◌&&◌, ◌||◌, not, Option, Some, None, Result, Ok, Err, List, [], ◌∷◌, map, leb, ltb, eqb, length, get_or, take, drop}
 use Rattle.texts.specs.Text.{is_small, is_letter, is_space, is_printable, all, leading_count}
-use Rattle.commands.specs.declared.line.Line.{Line}
-use Rattle.commands.specs.declared.line.Line.TheVariants.{Command, Refused}
+use Rattle.answers.specs.Refusal.{number}
+use Rattle.answers.specs.declared.refusal.Refusal.{Refusal}
+use Rattle.commands.specs.declared.line.Verb.{Verb}
+use Rattle.commands.specs.declared.line.Verb.TheVariants.{Mode, Pasv, Port, Rest, Retr, Stor, Spas, Spor, Eret, Esto, Sbuf, Opts}
+use Rattle.commands.specs.declared.line.Command.{Command}
 
 -- the longest line, CR LF counted
 abbrev pub line_limit : ℕ
@@ -29,6 +32,26 @@ verbs =
     ∷ (83 ∷ 66 ∷ 85 ∷ 70 ∷ [])
     ∷ (79 ∷ 80 ∷ 84 ∷ 83 ∷ [])
     ∷ []
+
+-- a verb's place among them, from 1
+abbrev pub number_of : Verb → ℕ
+number_of Mode = 1
+number_of Pasv = 2
+number_of Port = 3
+number_of Rest = 4
+number_of Retr = 5
+number_of Stor = 6
+number_of Spas = 7
+number_of Spor = 8
+number_of Eret = 9
+number_of Esto = 10
+number_of Sbuf = 11
+number_of Opts = 12
+
+-- the number of a verb that was looked for, 0 where there is none
+abbrev pub found_number : Option Verb → ℕ
+found_number (Some v) = number_of v
+found_number None = 0
 
 -- PASV and SPAS, which take no argument
 abbrev pub takes_no_argument : ℕ → Bool
@@ -77,12 +100,21 @@ argument_start text = leading_count is_letter text + leading_count is_space (aft
 unfoldable pub argument_accepted : List ℕ → Bool
 argument_accepted text = cond (takes_no_argument (verb_of text)) (eqb (length (after_verb text)) 0) (ltb (argument_start text) (length text))
 
+-- what a line that is accepted says: the number of its verb, and the places of its argument in the line
+pub data Said : Type 0 where
+  Says : ℕ → ℕ → ℕ → Said
+
+-- a reader's answer in numbers
+abbrev pub said : Result Command Refusal → Result Said ℕ
+said (Ok c) = Ok (Says (number_of c.verb) c.from c.to)
+said (Err r) = Err (number r)
+
 -- what a text of printable bytes says
-unfoldable pub read_text_of : List ℕ → Line
+unfoldable pub read_text_of : List ℕ → Result Said ℕ
 read_text_of text =
-    cond (not (has_verb text)) (Refused 34)
-    (cond (not (argument_accepted text)) (Refused 35)
-    (Command (verb_of text) (argument_start text) (length text)))
+    cond (not (has_verb text)) (Err 34)
+    (cond (not (argument_accepted text)) (Err 35)
+    (Ok (Says (verb_of text) (argument_start text) (length text))))
 
 -- ---- the line's reading
 
@@ -95,21 +127,17 @@ refusal_of line =
     (cond (not (has_verb (text_of line))) 34
     (cond (not (argument_accepted (text_of line))) 35 0))))
 
-unfoldable pub read_of : List ℕ → Line
+unfoldable pub read_of : List ℕ → Result Said ℕ
 read_of line =
-    cond (ltb 0 (refusal_of line)) (Refused (refusal_of line))
-    (Command (verb_of (text_of line)) (argument_start (text_of line)) (length (text_of line)))
+    cond (ltb 0 (refusal_of line)) (Err (refusal_of line))
+    (Ok (Says (verb_of (text_of line)) (argument_start (text_of line)) (length (text_of line))))
 
 -- the argument that an answer names: the line from the first place up to the second, and none where it is refused
-unfoldable pub argument_of : Line → List ℕ → List ℕ
-argument_of (Command v from to) line = take (to - from) (drop from line)
-argument_of (Refused k) line = []
+unfoldable pub argument_of : Result Said ℕ → List ℕ → List ℕ
+argument_of (Ok (Says v from to)) line = take (to - from) (drop from line)
+argument_of (Err k) line = []
 
--- document 01's number for each case, 0 where nothing is refused, and the verb
-unfoldable pub refusal_number : Line → ℕ
-refusal_number (Command v from to) = 0
-refusal_number (Refused k) = k
-
-unfoldable pub verb : Line → ℕ
-verb (Command v from to) = v
-verb (Refused k) = 0
+-- the verb that an answer names, 0 where the line is refused
+unfoldable pub verb : Result Said ℕ → ℕ
+verb (Ok (Says v from to)) = v
+verb (Err k) = 0

@@ -1,6 +1,7 @@
 -- Which command lines are refused, and by which number (document 01, "Numbers the host sees", 31 to 35). The premises carry the order of the numbers.
 use Rattle.std.specs.Prelude.{ℕ, ◌≤◌, ◌<◌, ◌≡◌, ◌⊎◌, ◌≢◌, List, [], ◌∷◌, ◌++◌, length, get_or, replicate}
-use Rattle.commands.specs.Line.{read_of, argument_of, refusal_number, verb}
+use Rattle.answers.specs.Refusal.{number_in}
+use Rattle.commands.specs.Line.{read_of, argument_of, verb}
 use Rattle.commands.specs.Accepted.{Printable, IsVerb, TakesNoArgument}
 
 -- the text begins with the verb v; a space follows or nothing does, so the word is all the letters that the text begins with
@@ -29,6 +30,6 @@ pub data RefusedBy (line : List ℕ) : ℕ → Type 0 where
 
 pub record Refusals : Type 0 where
   -- a line is refused by no number but its row's; with `AcceptedLines` every line has a row or is accepted
-  pub refused_is : (line : List ℕ) → 0 < refusal_number (read_of line) → RefusedBy line (refusal_number (read_of line))
+  pub refused_is : (line : List ℕ) → 0 < number_in (read_of line) → RefusedBy line (number_in (read_of line))
   -- and by the number of its row, with no verb and no part of it handed back
-  pub refused_only : (line : List ℕ) (k : ℕ) → RefusedBy line k → (refusal_number (read_of line) ≡ k) × (verb (read_of line) ≡ 0) × (argument_of (read_of line) line ≡ [])
+  pub refused_only : (line : List ℕ) (k : ℕ) → RefusedBy line k → (number_in (read_of line) ≡ k) × (verb (read_of line) ≡ 0) × (argument_of (read_of line) line ≡ [])

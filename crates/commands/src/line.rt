@@ -1,148 +1,146 @@
 // Command lines.
-ghost use Rattle.std.specs.Prelude.{◌<◌, ◌≡◌, [], map, get_or};
-ghost use Rattle.commands.specs.Line.{upper, verbs, takes_no_argument, equal_texts, verb_number, ends_in_cr_lf, read_text_of, read_of, argument_of};
+ghost use Rattle.std.specs.Prelude.{◌≡◌, eqb, get_or};
+ghost use Rattle.commands.specs.Line.{takes_no_argument, verb_number, number_of, found_number, said, read_text_of, read_of, argument_of};
 
-use texts::text;
-use texts::text::ByteKind;
+use answers::refusal::Refusal;
+use texts::text::{ByteKind, leading};
 
 // The longest line, CR LF counted.
 pub const LINE_LIMIT: usize = 2048;
 
-const VERBS: [[u8; 4]; 12] = [
-    *b"MODE", *b"PASV", *b"PORT", *b"REST", *b"RETR", *b"STOR", *b"SPAS", *b"SPOR", *b"ERET",
-    *b"ESTO", *b"SBUF", *b"OPTS",
+#[derive(Clone, Copy, Debug, PartialEq, Eq)]
+pub enum Verb {
+    Mode,
+    Pasv,
+    Port,
+    Rest,
+    Retr,
+    Stor,
+    Spas,
+    Spor,
+    Eret,
+    Esto,
+    Sbuf,
+    Opts,
+}
+
+// The verb's place in the table, from 1.
+impl From<Verb> for u8 {
+    ghost from_gives = { λ v n. n ≡ number_of v };
+
+    fn from(verb: Verb) -> u8 {
+        match verb {
+            Verb::Mode => 1,
+            Verb::Pasv => 2,
+            Verb::Port => 3,
+            Verb::Rest => 4,
+            Verb::Retr => 5,
+            Verb::Stor => 6,
+            Verb::Spas => 7,
+            Verb::Spor => 8,
+            Verb::Eret => 9,
+            Verb::Esto => 10,
+            Verb::Sbuf => 11,
+            Verb::Opts => 12,
+        }
+    }
+}
+
+// The verbs by their names.
+const VERBS: [([u8; 4], Verb); 12] = [
+    (*b"MODE", Verb::Mode),
+    (*b"PASV", Verb::Pasv),
+    (*b"PORT", Verb::Port),
+    (*b"REST", Verb::Rest),
+    (*b"RETR", Verb::Retr),
+    (*b"STOR", Verb::Stor),
+    (*b"SPAS", Verb::Spas),
+    (*b"SPOR", Verb::Spor),
+    (*b"ERET", Verb::Eret),
+    (*b"ESTO", Verb::Esto),
+    (*b"SBUF", Verb::Sbuf),
+    (*b"OPTS", Verb::Opts),
 ];
 
-// The numbers of the verbs that take no argument.
-const PASV: u8 = 2;
-
-const SPAS: u8 = 7;
-
-// What a line says: the number of its verb, from 1, and the places of its argument in the line; or the number by which it is refused.
-#[derive(Clone, Copy)]
-pub enum Line {
-    Command { verb: u8, from: usize, to: usize },
-    Refused(u8),
+// What an accepted line says: its verb, and the places of its argument in the line.
+#[derive(Clone, Copy, Debug, PartialEq, Eq)]
+pub struct Command {
+    pub verb: Verb,
+    pub from: usize,
+    pub to: usize,
 }
 
-fn upper(b: u8) -> u8
-    ensures { result ≡ upper b }
+// The verb that the word is, in letters of either case.
+fn verb_of(word: &[u8]) -> Option<Verb>
+    ensures { found_number result ≡ verb_number word.now }
 {
-    if b < b'a' {
-        return b;
-    }
-    if b'z' < b {
-        return b;
-    }
-    b - 32
-}
-
-// The word is the entry v of the table, counted from 0, in letters of either case.
-fn is_verb(word: &[u8], v: usize) -> bool
-    requires { v < 12 }
-    ensures { result ≡ equal_texts (map upper word.now) (get_or verbs v []) }
-{
-    if word.len() != 4 {
-        return false;
-    }
-    let mut k = 0;
-    while k < 4 {
-        if upper(word[k]) != VERBS[v][k] {
-            return false;
+    for (name, verb) in VERBS {
+        if word.eq_ignore_ascii_case(&name) {
+            return Some(verb);
         }
-        k += 1;
     }
-    true
+    None
 }
 
-// The number of the verb that the word is, 0 where it is none.
-fn verb_number(word: &[u8]) -> u8
-    ensures { result ≡ verb_number word.now }
+fn takes_no_argument(verb: Verb) -> bool
+    ensures { result ≡ takes_no_argument (number_of verb) }
 {
-    let mut v: usize = 0;
-    while v < 12 {
-        if is_verb(word, v) {
-            return (v + 1) as u8;
-        }
-        v += 1;
-    }
-    0
+    matches!(verb, Verb::Pasv | Verb::Spas)
 }
 
-fn takes_no_argument(verb: u8) -> bool
-    ensures { result ≡ takes_no_argument verb }
+// Whether a word ends before this rest of a text: where a space follows it, or nothing does.
+fn ends_word(rest: &[u8]) -> bool
+    ensures { result ≡ eqb (get_or rest.now 0 32) 32 }
 {
-    if verb == PASV {
-        return true;
-    }
-    verb == SPAS
-}
-
-fn ends_in_cr_lf(line: &[u8]) -> bool
-    ensures { result ≡ ends_in_cr_lf line.now }
-{
-    let n = line.len();
-    if n < 2 {
-        return false;
-    }
-    if line[n - 2] != b'\r' {
-        return false;
-    }
-    line[n - 1] == b'\n'
+    rest.is_empty() || rest[0] == b' '
 }
 
 // What the bytes before CR LF say.
-fn read_text(text: &[u8]) -> Line
-    ensures { result ≡ read_text_of text.now }
+fn read_text(text: &[u8]) -> Result<Command, Refusal>
+    ensures { said result ≡ read_text_of text.now }
 {
     let to = text.len();
-    let n = text::leading(ByteKind::Letter, text);
-    let verb = verb_number(&text[..n]);
-    if verb == 0 {
-        return Line::Refused(34);
+    let end = leading(ByteKind::Letter, text);
+    let (word, rest) = text.split_at(end);
+    let Some(verb) = verb_of(word) else {
+        return Err(Refusal::NoSuchVerb);
+    };
+    if !ends_word(rest) {
+        return Err(Refusal::NoSuchVerb);
     }
-    if n == to {
-        if takes_no_argument(verb) {
-            return Line::Command { verb, from: n, to };
-        }
-        return Line::Refused(35);
+    let from = end + leading(ByteKind::Space, rest);
+    let accepted = if takes_no_argument(verb) {
+        rest.is_empty()
+    } else {
+        from < to
+    };
+    if !accepted {
+        return Err(Refusal::Argument);
     }
-    if text[n] != b' ' {
-        return Line::Refused(34);
-    }
-    if takes_no_argument(verb) {
-        return Line::Refused(35);
-    }
-    let from = n + text::leading(ByteKind::Space, &text[n..]);
-    if from == to {
-        return Line::Refused(35);
-    }
-    Line::Command { verb, from, to }
+    Ok(Command { verb, from, to })
 }
 
-pub fn read(line: &[u8]) -> Line
-    ensures { result ≡ read_of line.now }
+pub fn read(line: &[u8]) -> Result<Command, Refusal>
+    ensures { said result ≡ read_of line.now }
 {
-    let n = line.len();
-    if LINE_LIMIT < n {
-        return Line::Refused(31);
+    if LINE_LIMIT < line.len() {
+        return Err(Refusal::LineTooLong);
     }
-    if !ends_in_cr_lf(line) {
-        return Line::Refused(32);
+    let Some(text) = line.strip_suffix(b"\r\n") else {
+        return Err(Refusal::NoLineEnd);
+    };
+    if leading(ByteKind::Printable, text) < text.len() {
+        return Err(Refusal::UnprintableByte);
     }
-    let to = n - 2;
-    if text::leading(ByteKind::Printable, &line[..to]) < to {
-        return Line::Refused(33);
-    }
-    read_text(&line[..to])
+    read_text(text)
 }
 
 // The part of the line that is the argument; no byte where the line is refused or its verb takes none.
 pub fn argument(line: &[u8]) -> &[u8]
     ensures { result.now ≡ argument_of (read_of line.now) line.now }
 {
-    let Line::Command { verb: _, from, to } = read(line) else {
-        return &line[..0];
-    };
-    &line[from..to]
+    match read(line) {
+        Ok(Command { verb: _, from, to }) => &line[from..to],
+        Err(_) => &line[..0],
+    }
 }
