@@ -8,7 +8,7 @@ use ledger::rule;
 use transfer::state::Transfer;
 
 // The four words of the screen.
-#[derive(Clone, Copy)]
+#[derive(Clone, Copy, Debug, PartialEq, Eq)]
 pub enum Verdict {
     Guess,
     Result,
@@ -20,31 +20,14 @@ pub enum Verdict {
 pub fn count_reached(count: u64, n: u64) -> bool
     ensures { result ≡ count_reached count n }
 {
-    if count == 0 {
-        return false;
-    }
-    n == count
+    count != 0 && n == count
 }
 
 // Whether the verdict is GUESS.
 pub fn is_guess(fault: u64, count: u64, ended: u64) -> bool
     ensures { result ≡ not (ltb 0 fault || count_reached count ended) }
 {
-    if 0 < fault {
-        return false;
-    }
-    !count_reached(count, ended)
-}
-
-// How many channels other than this one have to have ended for RESULT or SUSPECT, this one being in that state.
-fn others_needed(count: u64, state: u8) -> u64
-    requires { 0 < count }
-    ensures { result + cond (eqb state 4) 1 0 ≡ count }
-{
-    if state == 4 {
-        return count - 1;
-    }
-    count
+    fault == 0 && !count_reached(count, ended)
 }
 
 // The last word, where something is doubtful or not.
@@ -52,25 +35,23 @@ fn last_word(doubted: bool) -> Verdict
     ensures { to_verdict result ≡ cond doubted suspect full_result }
 {
     if doubted {
-        return Verdict::Suspect;
+        Verdict::Suspect
+    } else {
+        Verdict::Result
     }
-    Verdict::Result
 }
 
 // The verdict by the fault, the count, how many channels have ended beside one in that state, and whether something is doubtful.
 pub fn of(fault: u64, count: u64, others: u64, state: u8, doubted: bool) -> Verdict
     ensures { to_verdict result ≡ cond (ltb 0 fault) broken (cond (count_reached count (others + cond (eqb state 4) 1 0)) (cond doubted suspect full_result) guess) }
 {
-    if 0 < fault {
-        return Verdict::Broken;
+    if fault != 0 {
+        Verdict::Broken
+    } else if count != 0 && others == count - u64::from(state == 4) {
+        last_word(doubted)
+    } else {
+        Verdict::Guess
     }
-    if count == 0 {
-        return Verdict::Guess;
-    }
-    if others == others_needed(count, state) {
-        return last_word(doubted);
-    }
-    Verdict::Guess
 }
 
 // The verdict of a transfer that is lent this doubtful ledger.

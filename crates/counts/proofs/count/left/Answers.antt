@@ -1,22 +1,17 @@
--- `count::left`: the channels passed, and those after them, are all.
+-- `count::left`: a fold that adds up to the largest number.
+use Prim.Native.Nat.{◌+◌, min}
 use native.Mathlib.Omega.{arith}
 use borrow.Author.Rules.{rules}
+use borrow.Author.Tests.{tests}
+use Rattle.std.proofs.lemmas.Iterator.{YieldsList-from_slice}
+use Rattle.std.proofs.lemmas.Iterator.Consumers.{fold_from_yields_List}
 use Rattle.transfer.specs.Transfer.{left_of}
-use Rattle.counts.proofs.Sum.{length-mapped, summed-none, summed-more, summed-all}
+use Rattle.counts.proofs.Sum.{fold-saturates}
 use Rattle.counts.proofs.count.left.Goals as goal
-use Rattle.counts.proofs.count.left.Invariants.{largest}
-
-pub loop-c-init : goal.loop-c-init
-loop-c-init c = (omega arith, summed-none largest (λ k. k.left) c.args.t.channels (search (length-mapped, rules)))
-
-pub loop-c-preserved : goal.loop-c-preserved
-loop-c-preserved c =
-    let s = c.loop-c in
-    let e = c.saturating_add-n.ensures in
-    (omega (arith, e), summed-more largest (λ k. k.left) c.args.t.channels s.n _ s.c s.invariant.1 (omega arith) e)
 
 pub returns : goal.returns
 unfolding left_of
 returns c =
-    let s = c.loop-c in
-    summed-all largest (λ k. k.left) c.args.t.channels s.n s.c s.invariant.1 c.loop-c-test.false s.invariant.0
+    let ks = c.args.t.channels in
+    let e = fold_from_yields_List _ (λ n k. min 18446744073709551615 (n + k.left)) 0 _ c.fold.ensures.ran (YieldsList-from_slice ks cc) (λ a x b q k. search (rules, tests)) in
+    omega (arith, fold-saturates 18446744073709551615 (λ k. k.left) ks 0 (omega arith))
