@@ -3,21 +3,16 @@ use Prim.Native.Nat.{ℕ, suc, ◌+◌, ◌*◌, ◌-◌, ◌/◌, ◌%◌, ◌�
 use mathlib.Core.Path.{◌≡◌, sym, ap, ◌∙◌}
 use mathlib.Core.List.{List, [], ◌∷◌, ◌++◌, append-nil}
 use native.Mathlib.Omega.{arith}
-use native.Mathlib.Nat.{sub-zero}
 use native.Mathlib.Numerals.{add-one}
 use borrow.Rule.Slice.PartMut.{put_mid, mid_of, mid_len}
-use lib.ListN.{length, set, take, drop, replicate, length-set, length-append, length-drop, drop_of_length-le}
-use lib.Seq.{length-take-le, drop-drop, take-suc-set, append_snoc, take_at, drop_at}
+use lib.ListN.{length, set, take, drop, replicate, length-set, length-append, length-take, length-drop, drop_of_length-le}
+use lib.Seq.{drop-drop, take-suc-set, append_snoc, take_at, drop_at}
 use Rattle.ledger.specs.Pairs.{Pairs, size}
 use Rattle.ledger.specs.Ledger.{capacity, laid_out}
 use Rattle.ledger.proofs.LedgerLayout.{length-laid_out}
 use Rattle.ledger.proofs.PairsAsNumbers.{flat, laid_out-flat}
 use Rattle.savedrecords.specs.Record.{start_in, end_in, pairs_in}
 use Rattle.savedrecords.specs.declared.kind.SecondNumber.{SecondNumber}
-
--- the part of the first n entries
-pub mid-all : (n : ℕ) (es : List ℕ) → n ≤ length es → length (take (n - 0) es) ≡ n
-mid-all n es h = rw (sub-zero n) (length-take-le n es h)
 
 -- two entries after the first i
 set-two : (es t : List ℕ) (i a e : ℕ) → i + 1 < length es → take (suc (suc i)) (set (set es i a) (suc i) e) ++ t ≡ take i es ++ (a ∷ e ∷ t)
@@ -40,21 +35,19 @@ fill-turn second bytes es n k a e h g s t =
 
 -- ys and zs are the two parts of the ledger, the pairs and the zeros
 pub load-placed : (ledger ys zs : List ℕ) (ps : Pairs) (n : ℕ) → length ledger % 2 ≡ 0 → n ≤ capacity ledger → size ps ≡ n
-    → ys ≡ laid_out (length (mid_of 0 (2 * n - 0) ledger) / 2) ps
-    → let o = put_mid 0 (2 * n - 0) ledger ys in zs ≡ replicate (length (mid_of (2 * n) (length o - 2 * n) o)) 0
+    → ys ≡ laid_out (length (take (2 * n) ledger) / 2) ps
+    → let o = ys ++ drop (2 * n) ledger in zs ≡ replicate (length (mid_of (2 * n) (length o - 2 * n) o)) 0
     → put_mid (2 * n) (length o - 2 * n) o zs ≡ laid_out (capacity ledger) ps
 load-placed ledger ys zs ps n h g k y w =
-    let o = put_mid 0 (2 * n - 0) ledger ys in
-    let s : 2 * n - 0 ≡ 2 * n = sub-zero (2 * n) in
     let t = drop (2 * n) ledger in
-    let o_is : o ≡ ys ++ t = ap (λ k. put_mid 0 k ledger ys) s in
-    let c : length (mid_of 0 (2 * n - 0) ledger) / 2 ≡ n = omega (arith, mid_len 0 (2 * n) ledger (omega arith), s) in
+    let o = ys ++ t in
+    let c : length (take (2 * n) ledger) / 2 ≡ n = simp length-take (omega arith) in
     let z : 2 * (n - size ps) ≡ 0 = omega arith in
     let e : ys ≡ flat ps = y ∙ rw c (laid_out-flat n ps (omega arith) ∙ rw z (append-nil (flat ps))) in
     let n₁ : length ys ≡ 2 * n = ap length y ∙ rw c (length-laid_out n ps) in
     let n₂ : length t ≡ length ledger - 2 * n = length-drop (2 * n) ledger in
-    let n₃ : length o - 2 * n ≡ 2 * (capacity ledger - n) = rw (o_is, length-append ys t) (omega arith) in
+    let n₃ : length o - 2 * n ≡ 2 * (capacity ledger - n) = rw (length-append ys t) (omega arith) in
     let zs-are : zs ≡ replicate (length o - 2 * n) 0 = w ∙ ap (λ (k : ℕ). replicate k 0) (mid_len (2 * n) (length o) o (omega arith)) in
     let b : length t ≤ 2 * (capacity ledger - n) = omega arith in
-    rw (n₃, o_is, take_at ys t (2 * n) n₁, drop_at ys t (2 * n) n₁, drop_of_length-le t b, append-nil zs, zs-are, n₃, e, ← k)
+    rw (n₃, take_at ys t (2 * n) n₁, drop_at ys t (2 * n) n₁, drop_of_length-le t b, append-nil zs, zs-are, n₃, e, ← k)
     (sym (laid_out-flat (capacity ledger) ps (omega arith)))

@@ -6,29 +6,28 @@ use mathlib.Core.List.{List}
 use native.Mathlib.Omega.{arith}
 use native.Mathlib.Decide.{dec_le, dec_lt, ℕ_discrete}
 use borrow.Author.Tests.{lt-ltb, le-ltb}
-use lib.Dec.{ltb}
+use lib.Dec.{leb, ltb}
 use lib.ListN.{length}
 use Rattle.octets.specs.Digits.{AllBelow}
 use Rattle.octets.proofs.Digits.{below-drop}
-use Rattle.answers.specs.declared.loaded.Loaded.TheVariants.{Done, Refused}
-use Rattle.answers.specs.Loaded.{loaded_number}
+use Rattle.std.specs.Prelude.{Ok, Err}
+use Rattle.answers.specs.Refusal.{number_in}
 use Rattle.answers.proofs.WrittenBy.{first_some, first-none}
 use Rattle.ledger.specs.Pairs.{ends_at_most}
 use Rattle.frames.specs.Frame.{body_of}
 use Rattle.ledger.specs.Ledger.{largest, length_wrong, capacity, laid_out}
 use Rattle.ledger.proofs.LedgerSizes.{length-right, length-fits}
 use Rattle.savedrecords.specs.Kind.{kind_one, kind_two, head_length, end_of}
-use Rattle.savedrecords.specs.Record.{pair_length, pair_part, file_length_of, saved_pairs, record_refusal, length_refusal}
+use Rattle.savedrecords.specs.Record.{pair_length, pair_part, file_length_of, saved_pairs, record_refusal, length_refusal, last_end}
 use Rattle.savedrecords.specs.declared.kind.Kind.{Kind}
 use Rattle.savedrecords.specs.declared.kind.SecondNumber.{SecondNumber}
 use Rattle.savedrecords.specs.declared.kind.SecondNumber.TheVariants.{End, Length}
-use Rattle.savedrecords.proofs.RecordPairs.{size-pairs_in, ends_at_most-more, eight-lt, ends-fit}
+use Rattle.savedrecords.proofs.RecordPairs.{size-pairs_in, ends_at_most-last, ends_at_most-more, eight-lt, ends-fit}
 use Rattle.savedrecords.proofs.RecordRefusal.{refusal-sound}
 use Rattle.savedrecords.specs.RecordCases.{RightRecord}
 use Rattle.savedrecords.proofs.RecordCases.{exceeds-not, exceeds-some, exceeds-none, exceeds-false, right-record, record-right, record-cases}
-use Rattle.savedledgers.specs.Saved.{read_refusal, read_after, read_saved, read_sized, loaded_for_number, loaded_for_length}
+use Rattle.savedledgers.specs.Saved.{read_refusal, read_after, read_saved, read_sized, loaded_for_length}
 use Rattle.savedledgers.specs.SavedReading.{RightLength, TooMany, Beyond, ReadingJudged, by_53, by_record, by_64, by_65, is_read, Reads, SavedReading, SavedAnswers}
-use Rattle.savedledgers.specs.declared.loaded_for.LoadedFor.TheVariants.{FileLength, Refused as NotLoaded}
 
 module _ (kind : Kind) (bytes ledger : List ℕ) where
   pub after-refused : 0 < read_refusal kind bytes ledger → read_after kind bytes ledger ≡ ledger
@@ -193,39 +192,41 @@ module _ (kind : Kind) (bytes ledger : List ℕ) where
   pub saved-reading : SavedReading kind bytes ledger
   saved-reading = record { judged_is = judged_is; judged_only = judged_only; unchanged = after-refused kind bytes ledger; reads = reads }
 
+-- the last end tells of all
+pub last_tells : (kind : Kind) (bytes : List ℕ) (f : ℕ) → record_refusal kind bytes ≡ 0 → ends_at_most f (saved_pairs kind bytes) ≡ leb (last_end (saved_pairs kind bytes)) f
+last_tells kind bytes f right = ends_at_most-last f 0 (saved_pairs kind bytes) (refusal-sound kind bytes right).ruled
+
 -- ---- the answers
 
 -- what an answer that is chosen by the number k is
 module _ (bytes ledger : List ℕ) where
-  pub saved-refused : 0 < read_refusal kind_one bytes ledger → read_saved bytes ledger ≡ Refused (read_refusal kind_one bytes ledger)
+  pub saved-refused : 0 < read_refusal kind_one bytes ledger → read_saved bytes ledger ≡ Err (read_refusal kind_one bytes ledger)
   unfolding read_saved
   saved-refused h = rw (lt-ltb 0 (read_refusal kind_one bytes ledger) h)
 
-  pub saved-done : read_refusal kind_one bytes ledger ≡ 0 → read_saved bytes ledger ≡ Done
+  pub saved-done : read_refusal kind_one bytes ledger ≡ 0 → read_saved bytes ledger ≡ Ok tt
   unfolding read_saved
   saved-done e = rw e
 
-  pub sized-refused : 0 < read_refusal kind_two bytes ledger → read_sized bytes ledger ≡ NotLoaded (read_refusal kind_two bytes ledger)
+  pub sized-refused : 0 < read_refusal kind_two bytes ledger → read_sized bytes ledger ≡ Err (read_refusal kind_two bytes ledger)
   unfolding read_sized
   sized-refused h = rw (lt-ltb 0 (read_refusal kind_two bytes ledger) h)
 
-  pub sized-done : read_refusal kind_two bytes ledger ≡ 0 → read_sized bytes ledger ≡ FileLength (file_length_of bytes)
+  pub sized-done : read_refusal kind_two bytes ledger ≡ 0 → read_sized bytes ledger ≡ Ok (file_length_of bytes)
   unfolding read_sized
   sized-done e = rw e
 
-  one_number : loaded_number (read_saved bytes ledger) ≡ read_refusal kind_one bytes ledger
-  unfolding loaded_number
+  one_number : number_in (read_saved bytes ledger) ≡ read_refusal kind_one bytes ledger
   one_number = go (ℕ_discrete (read_refusal kind_one bytes ledger) 0)
     where
-      go : Dec (read_refusal kind_one bytes ledger ≡ 0) → loaded_number (read_saved bytes ledger) ≡ read_refusal kind_one bytes ledger
+      go : Dec (read_refusal kind_one bytes ledger ≡ 0) → number_in (read_saved bytes ledger) ≡ read_refusal kind_one bytes ledger
       go (yes z) = rw (saved-done z) (sym z)
       go (no n) = rw (saved-refused (omega arith))
 
-  two_number : loaded_for_number (read_sized bytes ledger) ≡ read_refusal kind_two bytes ledger
-  unfolding loaded_for_number
+  two_number : number_in (read_sized bytes ledger) ≡ read_refusal kind_two bytes ledger
   two_number = go (ℕ_discrete (read_refusal kind_two bytes ledger) 0)
     where
-      go : Dec (read_refusal kind_two bytes ledger ≡ 0) → loaded_for_number (read_sized bytes ledger) ≡ read_refusal kind_two bytes ledger
+      go : Dec (read_refusal kind_two bytes ledger ≡ 0) → number_in (read_sized bytes ledger) ≡ read_refusal kind_two bytes ledger
       go (yes z) = rw (sized-done z) (sym z)
       go (no n) = rw (sized-refused (omega arith))
 

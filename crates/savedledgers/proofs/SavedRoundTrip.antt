@@ -7,8 +7,7 @@ use native.Mathlib.Omega.{arith}
 use lib.ListN.{length, take, drop}
 use lib.Seq.{take_at}
 use Rattle.octets.specs.Digits.{AllBelow, to_little_endian}
-use Rattle.answers.specs.declared.loaded.Loaded.TheVariants.{Done}
-use Rattle.answers.specs.declared.written.Written.TheVariants.{Bytes}
+use Rattle.std.specs.Prelude.{Ok}
 use Rattle.frames.specs.Frame.{framed}
 use Rattle.ledger.specs.Pairs.{Pairs, size, ObeyFrom, ends_at_most}
 use Rattle.ledger.specs.Ledger.{largest, length_wrong, capacity, obeys, pairs_of, laid_out}
@@ -37,7 +36,7 @@ pairs-back ps ruled ends m lengths few room =
     let n = size-record_of kind_one 0 ps in
     rw kept.1 at (reads kind_one h m (number-plain kind_one h m lengths kept.0 (omega (arith, n)) refl))
 
-module _ (l out m : List ℕ) (n : ℕ) (e : write_saved l out ≡ Bytes n) (ends : ends_at_most largest (pairs_of l) ≡ true) where
+module _ (l out m : List ℕ) (n : ℕ) (e : write_saved l out ≡ Ok n) (ends : ends_at_most largest (pairs_of l) ≡ true) where
   reads-saved : length_wrong m ≡ false → size (pairs_of l) ≤ capacity m → Reads kind_one (take n (write_saved_after l out)) m (pairs_of l)
   unfolding obeys
   reads-saved lengths room =
@@ -46,7 +45,7 @@ module _ (l out m : List ℕ) (n : ℕ) (e : write_saved l out ≡ Bytes n) (end
       let few : size (pairs_of l) ≤ 4096 = omega (arith, size-pairs_of l, length-fits l w.lengths) in
       rw (w.after, take_at saved (drop (length saved) out) n w.bytes) (pairs-back (pairs_of l) (rule-ruled 0 l w.ruled) ends m lengths few room)
 
-  reads_same : length m ≡ length l → (read_saved (take n (write_saved_after l out)) m ≡ Done) × (read_saved_after (take n (write_saved_after l out)) m ≡ l)
+  reads_same : length m ≡ length l → (read_saved (take n (write_saved_after l out)) m ≡ Ok tt) × (read_saved_after (take n (write_saved_after l out)) m ≡ l)
   unfolding obeys
   reads_same same =
       let w = accepted l out n e in

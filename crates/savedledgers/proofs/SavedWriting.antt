@@ -4,12 +4,11 @@ use mathlib.Core.Path.{◌≡◌, refl, sym, ◌∙◌}
 use mathlib.Core.Bool.{Bool, true, false, cond}
 use mathlib.Core.List.{List, [], ◌∷◌, ◌++◌, append_assoc}
 use native.Mathlib.Omega.{arith}
-use native.Mathlib.Nat.{sub-zero}
 use borrow.Rule.Slice.PartMut.{put_mid}
 use lib.Dec.{eqb}
 use lib.ListN.{length, take, drop}
 use lib.Seq.{take_at, drop_at, drop-drop}
-use Rattle.answers.specs.declared.written.Written.TheVariants.{Bytes}
+use Rattle.std.specs.Prelude.{Ok}
 use Rattle.answers.specs.Written.{room_refusal, Refuses}
 use Rattle.answers.proofs.WrittenBy.{first_some, first-none, first-zero, room-short, room-enough, written, written-only, refuses, writes}
 use Rattle.octets.specs.Digits.{to_little_endian}
@@ -81,7 +80,7 @@ module _ (ledger out : List ℕ) where
 -- ---- the answer and the lent bytes
 
 pub writes-saved : (ledger out : List ℕ) → write_saved_refusal ledger out ≡ 0 → let saved = saved_of (pairs_of ledger) in
-    (write_saved ledger out ≡ Bytes (length saved)) × (write_saved_after ledger out ≡ saved ++ drop (length saved) out)
+    (write_saved ledger out ≡ Ok (length saved)) × (write_saved_after ledger out ≡ saved ++ drop (length saved) out)
 unfolding write_saved write_saved_after
 writes-saved ledger out e =
     let w = written _ _ (saved_of (pairs_of ledger)) out e in
@@ -94,7 +93,7 @@ pub record Accepted (ledger out : List ℕ) (n : ℕ) : Type 0 where
   pub bytes : length (saved_of (pairs_of ledger)) ≡ n
   pub after : write_saved_after ledger out ≡ saved_of (pairs_of ledger) ++ drop (length (saved_of (pairs_of ledger))) out
 
-pub accepted : (ledger out : List ℕ) (n : ℕ) → write_saved ledger out ≡ Bytes n → Accepted ledger out n
+pub accepted : (ledger out : List ℕ) (n : ℕ) → write_saved ledger out ≡ Ok n → Accepted ledger out n
 unfolding write_saved write_saved_refusal
 accepted ledger out n e =
     let w = written-only (write_saved_refusal ledger out) _ n e in
@@ -105,15 +104,14 @@ accepted ledger out n e =
 
 -- o is the lent bytes after the frame, and zs the part of them that has the pairs
 pub save-placed : (ledger out o zs : List ℕ) (used : ℕ) → used ≡ size (pairs_of ledger)
-    → o ≡ frame_of 1 (16 * used) ++ drop frame_length out → zs ≡ number_bytes (take (2 * used - 0) ledger)
+    → o ≡ frame_of 1 (16 * used) ++ drop frame_length out → zs ≡ number_bytes (take (2 * used) ledger)
     → let saved = saved_of (pairs_of ledger) in put_mid 6 (6 + 16 * used - 6) o zs ≡ saved ++ drop (length saved) out
 save-placed ledger out o zs used u e z =
     let ps = pairs_of ledger in
-    let s : 2 * used - 0 ≡ 2 * used = sub-zero (2 * used) in
     let q : 6 + 16 * used - 6 ≡ 16 * used = omega arith in
     let f = frame_of 1 (16 * used) in
     let n : length f ≡ 6 = length-frame_of 1 (16 * used) in
-    let zs-is : zs ≡ pair_bytes End ps = z ∙ rw (s, u, ← flat-used ledger) (sym (pair_bytes-flat ps)) in
+    let zs-is : zs ≡ pair_bytes End ps = z ∙ rw (u, ← flat-used ledger) (sym (pair_bytes-flat ps)) in
     rw (q, e, take_at f (drop 6 out) 6 n, drop_at f (drop 6 out) 6 n, drop-drop (16 * used) 6 out, length-saved_of ps, saved_of-is ps, zs-is, u)
     (sym (append_assoc (frame_of 1 (16 * size ps)) (pair_bytes End ps) (drop (6 + 16 * size ps) out)))
 

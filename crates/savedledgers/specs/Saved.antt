@@ -1,16 +1,12 @@
 -- Saved ledgers (document 01, "Saved ledger, kind 1"; document 02, Item 7): a record of kind 1 or 2 read into a ledger, and a ledger written as one of kind 1.
-use Rattle.std.specs.Prelude.{ℕ, cond, List, ltb, length}
-use Rattle.answers.specs.Written.{first_refusal, room_refusal, written_by, written_after}
-use Rattle.answers.specs.declared.loaded.Loaded.{Loaded}
-use Rattle.answers.specs.declared.loaded.Loaded.TheVariants.{Done, Refused}
-use Rattle.answers.specs.declared.written.Written.{Written}
+use Rattle.std.specs.Prelude.{ℕ, cond, Result, Ok, Err, List, ltb, length}
+use Rattle.answers.specs.Written.{first_refusal, room_refusal, Written, written_by, written_after}
+use Rattle.answers.specs.Loaded.{Loaded}
 use Rattle.ledger.specs.Pairs.{Pairs, size}
 use Rattle.ledger.specs.Ledger.{length_wrong, ledger_refusal, pairs_of, laid_out, capacity}
 use Rattle.savedrecords.specs.Kind.{kind_one, kind_two}
 use Rattle.savedrecords.specs.Record.{file_length_of, saved_pairs, record_refusal, length_refusal, record_of}
 use Rattle.savedrecords.specs.declared.kind.Kind.{Kind}
-use Rattle.savedledgers.specs.declared.loaded_for.LoadedFor.{LoadedFor}
-use Rattle.savedledgers.specs.declared.loaded_for.LoadedFor.TheVariants.{FileLength, Refused as NotLoaded}
 
 -- ---- the reader of each kind: 53, 61, 62, 63; 64 where there are more pairs than the ledger has; 65 where an end is above the file length that the
 -- record has; 0 where it reads
@@ -27,26 +23,22 @@ read_after kind bytes ledger = cond (ltb 0 (read_refusal kind bytes ledger)) led
 
 -- kind 1 answers that it was read
 unfoldable pub read_saved : List ℕ → List ℕ → Loaded
-read_saved bytes ledger = cond (ltb 0 (read_refusal kind_one bytes ledger)) (Refused (read_refusal kind_one bytes ledger)) Done
+read_saved bytes ledger = cond (ltb 0 (read_refusal kind_one bytes ledger)) (Err (read_refusal kind_one bytes ledger)) (Ok tt)
 
 abbrev pub read_saved_after : List ℕ → List ℕ → List ℕ
 read_saved_after = read_after kind_one
 
 -- kind 2 answers the file length
-unfoldable pub read_sized : List ℕ → List ℕ → LoadedFor
-read_sized bytes ledger = cond (ltb 0 (read_refusal kind_two bytes ledger)) (NotLoaded (read_refusal kind_two bytes ledger)) (FileLength (file_length_of bytes))
+unfoldable pub read_sized : List ℕ → List ℕ → Result ℕ ℕ
+read_sized bytes ledger = cond (ltb 0 (read_refusal kind_two bytes ledger)) (Err (read_refusal kind_two bytes ledger)) (Ok (file_length_of bytes))
 
 abbrev pub read_sized_after : List ℕ → List ℕ → List ℕ
 read_sized_after = read_after kind_two
 
--- document 02's number of its answer, 0 where nothing is refused, and the file length, 0 where it is refused
-unfoldable pub loaded_for_number : LoadedFor → ℕ
-loaded_for_number (FileLength f) = 0
-loaded_for_number (NotLoaded k) = k
-
-unfoldable pub loaded_for_length : LoadedFor → ℕ
-loaded_for_length (FileLength f) = f
-loaded_for_length (NotLoaded k) = 0
+-- the file length in its answer, 0 where it is refused
+unfoldable pub loaded_for_length : Result ℕ ℕ → ℕ
+loaded_for_length (Ok f) = f
+loaded_for_length (Err k) = 0
 
 -- ---- the writer, of kind 1: 53, 1, 55; 0 where it writes
 

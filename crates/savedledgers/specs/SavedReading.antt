@@ -1,15 +1,13 @@
 -- What the readers of saved ledgers answer and leave, case by case (documents 01 and 02: 53, 61, 62, 63, 64, 65).
-use Rattle.std.specs.Prelude.{ℕ, ◌/◌, ◌%◌, ◌≤◌, ◌<◌, ◌≡◌, true, List, length, drop}
-use Rattle.answers.specs.Loaded.{loaded_number}
-use Rattle.answers.specs.declared.loaded.Loaded.TheVariants.{Done}
+use Rattle.std.specs.Prelude.{ℕ, ◌/◌, ◌%◌, ◌≤◌, ◌<◌, ◌≡◌, true, Ok, List, length, drop}
+use Rattle.answers.specs.Refusal.{number_in}
 use Rattle.ledger.specs.Pairs.{Pairs}
 use Rattle.ledger.specs.Ledger.{laid_out}
 use Rattle.savedrecords.specs.Kind.{kind_one, kind_two, head_length}
 use Rattle.savedrecords.specs.Record.{file_length_of, saved_pairs}
 use Rattle.savedrecords.specs.RecordCases.{RightRecord, RecordJudged, Exceeds}
 use Rattle.savedrecords.specs.declared.kind.Kind.{Kind}
-use Rattle.savedledgers.specs.Saved.{read_refusal, read_after, read_saved, read_sized, loaded_for_number, loaded_for_length}
-use Rattle.savedledgers.specs.declared.loaded_for.LoadedFor.TheVariants.{FileLength}
+use Rattle.savedledgers.specs.Saved.{read_refusal, read_after, read_saved, read_sized, loaded_for_length}
 
 -- the length of a ledger that is not refused
 pub record RightLength (ledger : List ℕ) : Type 0 where
@@ -49,8 +47,8 @@ pub record SavedReading (kind : Kind) (bytes ledger : List ℕ) : Type 0 where
 
 -- what is answered: the number, and of kind 2 the file length
 pub record SavedAnswers (bytes ledger : List ℕ) : Type 0 where
-  pub one_number : loaded_number (read_saved bytes ledger) ≡ read_refusal kind_one bytes ledger
-  pub one_read : read_refusal kind_one bytes ledger ≡ 0 → read_saved bytes ledger ≡ Done
-  pub two_number : loaded_for_number (read_sized bytes ledger) ≡ read_refusal kind_two bytes ledger
-  pub two_read : read_refusal kind_two bytes ledger ≡ 0 → (read_sized bytes ledger ≡ FileLength (file_length_of bytes)) × (loaded_for_length (read_sized bytes ledger) ≡ file_length_of bytes)
+  pub one_number : number_in (read_saved bytes ledger) ≡ read_refusal kind_one bytes ledger
+  pub one_read : read_refusal kind_one bytes ledger ≡ 0 → read_saved bytes ledger ≡ Ok tt
+  pub two_number : number_in (read_sized bytes ledger) ≡ read_refusal kind_two bytes ledger
+  pub two_read : read_refusal kind_two bytes ledger ≡ 0 → (read_sized bytes ledger ≡ Ok (file_length_of bytes)) × (loaded_for_length (read_sized bytes ledger) ≡ file_length_of bytes)
   pub two_refused : 0 < read_refusal kind_two bytes ledger → loaded_for_length (read_sized bytes ledger) ≡ 0

@@ -1,5 +1,4 @@
 // Ledgers as saved bytes (document 01, "Saved ledger, kind 1"; document 02, Item 7).
 #![tactic(auto)]
 
-pub mod loaded_for;
 pub mod saved;

@@ -1,59 +1,46 @@
 -- `saved::fill`: the entries that have their pairs, with the pairs still to come after them, are the whole.
-use Prim.Native.Nat.{◌*◌, ◌-◌, ◌/◌}
-use mathlib.Core.Path.{◌≡◌, refl, sym, ◌∙◌}
+use Prim.Native.Nat.{◌*◌, ◌-◌, ◌/◌, ◌<◌}
+use mathlib.Core.Path.{◌≡◌, sym, ap, ◌∙◌}
 use mathlib.Core.List.{append-nil}
 use native.Mathlib.Omega.{arith}
-use native.Mathlib.Nat.{sub-zero}
-use lib.ListN.{length, drop, length-set}
+use lib.ListN.{length, drop, length-set, length-drop}
 use lib.Seq.{take-length}
-use Rattle.octets.proofs.Rest.{rest_is}
 use Rattle.ledger.specs.Ledger.{laid_out}
-use Rattle.savedrecords.specs.Record.{start_in, end_in, pairs_in}
-use Rattle.savedrecords.proofs.RecordPairs.{pair-at}
+use Rattle.savedrecords.specs.Record.{pairs_in, end_in}
+use Rattle.savedrecords.proofs.RecordPairs.{chunk_within, rest_after, pair_is, pair-at}
 use Rattle.savedledgers.proofs.Entries.{fill-turn}
 use Rattle.savedledgers.proofs.saved.fill.Goals as goal
-use Rattle.savedledgers.proofs.saved.fill.Goals.{After-saturating_add}
-
--- start and end of the pair that is next
-next-is : (c : After-saturating_add) → let x = c.args in
-    let part = drop (16 * c.loop-k.k) x.pairs.now in
-    (c.first-next.result.start ≡ start_in part) × (c.saturating_add.result ≡ end_in x.second part)
-next-is c =
-    let x = c.args in
-    let n = length x.pairs.now / 16 in
-    let k = c.loop-k.k in
-    let e = rw (rest_is x.pairs.now (16 * k)) at c.first-next.ensures in
-    let at = pair-at x.second n k 18446744073709551615 _ _ x.pairs.now (omega arith) c.requires.1 c.requires.2 e.0 e.1 in
-    (e.0, omega (arith, c.saturating_add.ensures, at))
-
-pub loop-k-init : goal.loop-k-init
-loop-k-init c = (omega arith, refl, refl, omega arith, rw (sub-zero (length c.args.pairs.now / 16)))
-
-pub bounds-entries-i-in-loop-k : goal.bounds-entries-i-in-loop-k
-bounds-entries-i-in-loop-k c = simp length-set (omega arith)
 
 pub loop-k-preserved : goal.loop-k-preserved
 loop-k-preserved c =
     let x = c.args in
+    let i = c.loop-k.invariant in
+    let steps = c.in-Some.ensures.steps in
     let n = length x.pairs.now / 16 in
-    let e = next-is c in (
+    let k = c.loop-k.k-iterator.count in
+    let sixteen = steps.0.1.1 ∙ i.1 in
+    let within : k < n = chunk_within x.second x.pairs.now _ _ _ k i.2 steps.0.1.0 sixteen in
+    let e = pair_is x.second x.pairs.now _ _ _ k i.2 steps.0.1.0 sixteen _ _ c.first-next.ensures.0 c.first-next.ensures.1 in
+    let at = pair-at x.second n k 18446744073709551615 _ _ x.pairs.now within c.requires.1 c.requires.2 e.0 e.1 in
+    let end : c.saturating_add.result ≡ end_in x.second (drop (16 * k) x.pairs.now) = omega (arith, c.saturating_add.ensures, at) in
+    rw (steps.2, steps.1) (
       omega arith,
-      refl,
-      simp length-set c.loop-k.invariant.2,
-      c.loop-k.invariant.3,
-      fill-turn x.second x.pairs.now c.loop-k.entries n c.loop-k.k _ _ (omega arith) (omega arith) e.0 e.1 ∙ c.loop-k.invariant.4,
+      steps.0.0 ∙ i.1,
+      rest_after x.second x.pairs.now _ _ _ k i.2 steps.0.1.0 sixteen,
+      simp length-set i.3,
+      fill-turn x.second x.pairs.now c.loop-k.entries n k _ _ within (omega arith) e.0 end ∙ i.4,
     )
-
-pub shape_of-entries : goal.shape_of-entries
-shape_of-entries c = c.loop-k.invariant.2
 
 pub returns : goal.returns
 unfolding laid_out pairs_in
 returns c =
     let x = c.args in
+    let i = c.loop-k.invariant in
     let n = length x.pairs.now / 16 in
-    let e : c.loop-k.k ≡ n = omega arith in
+    let steps = c.in-None.ensures.steps in
+    let k = c.loop-k.k-iterator.count in
+    let e : k ≡ n = omega (arith, steps.0.1.0, i.1, ap length i.2, length-drop (16 * k) x.pairs.now) in
     let z : n - n ≡ 0 = omega arith in
     let w : 2 * n ≡ length c.loop-k.entries = omega arith in
     let r : length x.entries.now / 2 ≡ n = omega arith in
-    sym (append-nil c.loop-k.entries) ∙ (rw (e, z, w, take-length c.loop-k.entries) at c.loop-k.invariant.4) ∙ rw r
+    sym (append-nil c.loop-k.entries) ∙ (rw (e, z, w, take-length c.loop-k.entries) at i.4) ∙ rw r

@@ -9,8 +9,7 @@ use Rattle.savedledgers.proofs.saved.fill.Given as goal
 
 abbrev pub invariant-loop-k : goal.invariant-loop-k
 invariant-loop-k l =
-    (l.k ≤ l.n) × (l.n ≡ length l.pairs / 16) × (length l.entries ≡ length l.initial.entries) × (length l.initial.entries ≡ 2 * l.n)
-    × (take (2 * l.k) l.entries ++ laid_out (l.n - l.k) (pairs_in l.second (l.n - l.k) (drop (16 * l.k) l.pairs)) ≡ laid_out l.n (pairs_in l.second l.n l.pairs))
-
-abbrev pub decreases-loop-k : goal.decreases-loop-k
-decreases-loop-k l = l.n - l.k
+    let n = length l.pairs / 16 in
+    let k = l.k-iterator.count in
+    (k ≤ n) × (l.k-iterator.iter.size ≡ 16) × (l.k-iterator.iter.rest.now ≡ drop (16 * k) l.pairs) × (length l.entries ≡ length l.initial.entries)
+    × (take (2 * k) l.entries ++ laid_out (n - k) (pairs_in l.second (n - k) (drop (16 * k) l.pairs)) ≡ laid_out n (pairs_in l.second n l.pairs))

@@ -1,14 +1,13 @@
--- `saved::used_pairs`: the pairs passed, with those in use from there on, are all in use.
-use Prim.Native.Nat.{◌+◌, ◌*◌, ◌-◌, ◌≤◌}
+-- `saved::used_pairs`: the pairs passed and those that are left are all.
+use Prim.Native.Nat.{◌+◌, ◌≤◌}
 use mathlib.Core.Path.{◌≡◌}
-use lib.ListN.{length, drop}
+use lib.ListN.{length}
 use Rattle.ledger.specs.Pairs.{size}
 use Rattle.ledger.specs.Ledger.{pairs_of}
 use Rattle.savedledgers.proofs.saved.used_pairs.Given as goal
 
-abbrev pub invariant-loop-k : goal.invariant-loop-k
-invariant-loop-k l =
-    (2 * l.k ≤ length l.ledger) × (l.k + size (pairs_of (drop (2 * l.k) l.ledger)) ≡ size (pairs_of l.ledger))
+abbrev pub invariant-loop-after : goal.invariant-loop-after
+invariant-loop-after l = (l.used + length l.rest ≤ length l.ledger) × (l.used + size (pairs_of l.rest) ≡ size (pairs_of l.ledger))
 
-abbrev pub decreases-loop-k : goal.decreases-loop-k
-decreases-loop-k l = length l.ledger - 2 * l.k
+abbrev pub decreases-loop-after : goal.decreases-loop-after
+decreases-loop-after l = length l.rest
