@@ -7,14 +7,16 @@ use mathlib.Core.List.{List, [], ◌∷◌, map}
 use native.Mathlib.Omega.{arith}
 use native.Mathlib.Numerals.{add-one}
 use native.Mathlib.Decide.{ℕ_discrete}
-use borrow.Author.Tests.{eq-eqb, ne_eqb, eqb-true}
+use borrow.Author.Tests.{ne_eqb, eqb-true}
 use lib.Dec.{eqb}
 use lib.ListN.{length, get_or, drop}
 use lib.Seq.{drop-cons}
 use Rattle.texts.specs.Text.{is_letter, all}
+use Rattle.std.specs.Bool.{Decides}
 use Rattle.std.specs.List.{zip}
 use Rattle.std.specs.Char.{to_ascii_lowercase}
 use Rattle.std.proofs.lemmas.Bool.Decides.{nat_tests}
+use Rattle.std.proofs.lemmas.Slice.Eq.{compares_Decides}
 use Rattle.commands.specs.Line.{upper, verbs, number_of, takes_no_argument, equal_texts, verb_number_from}
 use Rattle.commands.specs.declared.line.Verb.{Verb}
 use Rattle.commands.specs.declared.line.Verb.TheVariants.{Mode, Pasv, Port, Rest, Retr, Stor, Spas, Spor, Eret, Esto, Sbuf, Opts}
@@ -22,24 +24,9 @@ use Rattle.commands.specs.Accepted.{TakesNoArgument}
 
 -- ---- two words
 
-pub equal-same : (x y : List ℕ) → x ≡ y → equal_texts x y ≡ true
+equal_is : (x y : List ℕ) → Decides (equal_texts x y) (x ≡ y)
 unfolding equal_texts
-equal-same [] [] e = refl
-equal-same [] (b ∷ y) e = cc
-equal-same (a ∷ x) [] e = cc
-equal-same (a ∷ x) (b ∷ y) e =
-    let h : a ≡ b = cc in
-    let t : x ≡ y = cc in
-    rw (eq-eqb a b h, equal-same x y t)
-
-pub equal-texts : (x y : List ℕ) → equal_texts x y ≡ true → x ≡ y
-unfolding equal_texts
-equal-texts [] [] e = refl
-equal-texts [] (b ∷ y) e = cc
-equal-texts (a ∷ x) [] e = cc
-equal-texts (a ∷ x) (b ∷ y) e =
-    let p = (and-eq-true_iff (eqb a b) (equal_texts x y)).0 e in
-    rw (eqb-true a b p.0, equal-texts x y p.1)
+equal_is = compares_Decides equal_texts (record { empty = refl; shorter = λ y ys. refl; longer = λ x xs. refl; heads = λ x y xs ys. refl })
 
 -- two words are the same in lower case where they are the same in upper case
 
@@ -89,7 +76,7 @@ number-from-is n (v ∷ vs) word h = go (equal_texts word v) refl (number-from-i
     go : (b : Bool) → equal_texts word v ≡ b → (0 < verb_number_from (suc n) vs word → Named (suc n) vs (verb_number_from (suc n) vs word)) → Named n (v ∷ vs) (verb_number_from n (v ∷ vs) word)
     go true e ih =
         let z : n - n ≡ 0 = omega arith in
-        rw (e, z) (omega arith, omega arith, equal-texts word v e)
+        rw (e, z) (omega arith, omega arith, (equal_is word v).0 e)
     go false e ih =
         let k = verb_number_from (suc n) vs word in
         let r = ih (rw e at h) in
@@ -128,7 +115,7 @@ own-letters v h = each_below (λ v. all is_letter (get_or verbs v [])) 12 refl v
 
 pub own-capitals : (v : ℕ) → v < 12 → map upper (get_or verbs v []) ≡ get_or verbs v []
 unfolding all_below equal_texts
-own-capitals v h = equal-texts (map upper (get_or verbs v [])) (get_or verbs v []) (each_below (λ v. equal_texts (map upper (get_or verbs v [])) (get_or verbs v [])) 12 refl v h)
+own-capitals v h = (equal_is (map upper (get_or verbs v [])) (get_or verbs v [])).0 (each_below (λ v. equal_texts (map upper (get_or verbs v [])) (get_or verbs v [])) 12 refl v h)
 
 -- the code's table of verbs, and its entry v
 abbrev pub coded : List (List ℕ × Verb)
@@ -139,7 +126,7 @@ entry v = get_or coded v ([], Mode)
 
 name_is : (v : ℕ) → v < 12 → (entry v).0 ≡ get_or verbs v []
 unfolding all_below equal_texts
-name_is v h = equal-texts (entry v).0 (get_or verbs v []) (each_below (λ v. equal_texts (entry v).0 (get_or verbs v [])) 12 refl v h)
+name_is v h = (equal_is (entry v).0 (get_or verbs v [])).0 (each_below (λ v. equal_texts (entry v).0 (get_or verbs v [])) 12 refl v h)
 
 number_is : (v : ℕ) → v < 12 → number_of (entry v).1 ≡ v + 1
 unfolding all_below
@@ -151,12 +138,12 @@ module _ (word : List ℕ) (v : ℕ) (h : v < 12) where
   same_case = ap (map upper) (name_is v h) ∙ own-capitals v h
 
   pub listed : map to_ascii_lowercase word ≡ map to_ascii_lowercase (entry v).0 → verb_number_from (v + 1) (drop v verbs) (map upper word) ≡ number_of (entry v).1
-  listed e = number-from-found verbs (map upper word) v h (equal-same (map upper word) (get_or verbs v []) (lower-upper word (entry v).0 e ∙ same_case)) ∙ sym (number_is v h)
+  listed e = number-from-found verbs (map upper word) v h ((equal_is (map upper word) (get_or verbs v [])).1 (lower-upper word (entry v).0 e ∙ same_case)) ∙ sym (number_is v h)
 
   pub not-listed : (map to_ascii_lowercase word ≡ map to_ascii_lowercase (entry v).0 → ⊥)
       → verb_number_from (v + 1) (drop v verbs) (map upper word) ≡ verb_number_from (v + 1 + 1) (drop (v + 1) verbs) (map upper word)
   not-listed n =
-      number-from-next verbs (map upper word) v h ((not-eq-not {b = false}).0 (λ e. n (upper-lower word (entry v).0 (equal-texts (map upper word) (get_or verbs v []) e ∙ sym same_case))))
+      number-from-next verbs (map upper word) v h ((not-eq-not {b = false}).0 (λ e. n (upper-lower word (entry v).0 ((equal_is (map upper word) (get_or verbs v [])).0 e ∙ sym same_case))))
 
 -- ---- PASV and SPAS
 

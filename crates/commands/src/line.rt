@@ -24,6 +24,14 @@ pub enum Verb {
     Opts,
 }
 
+impl Verb {
+    fn takes_no_argument(self) -> bool
+        ensures { result ≡ takes_no_argument (number_of self) }
+    {
+        matches!(self, Verb::Pasv | Verb::Spas)
+    }
+}
+
 // The verb's place in the table, from 1.
 impl From<Verb> for u8 {
     ghost from_gives = { λ v n. n ≡ number_of v };
@@ -82,12 +90,6 @@ fn verb_of(word: &[u8]) -> Option<Verb>
     None
 }
 
-fn takes_no_argument(verb: Verb) -> bool
-    ensures { result ≡ takes_no_argument (number_of verb) }
-{
-    matches!(verb, Verb::Pasv | Verb::Spas)
-}
-
 // Whether a word ends before this rest of a text: where a space follows it, or nothing does.
 fn ends_word(rest: &[u8]) -> bool
     ensures { result ≡ eqb (get_or rest.now 0 32) 32 }
@@ -109,7 +111,7 @@ fn read_text(text: &[u8]) -> Result<Command, Refusal>
         return Err(Refusal::NoSuchVerb);
     }
     let from = end + leading(ByteKind::Space, rest);
-    let accepted = if takes_no_argument(verb) {
+    let accepted = if verb.takes_no_argument() {
         rest.is_empty()
     } else {
         from < to

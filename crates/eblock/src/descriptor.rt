@@ -5,6 +5,8 @@ ghost use Rattle.eblock.specs.Descriptor.{has, closes_early, suspects_count, fau
 
 use answers::refusal::Refusal;
 
+// The six bits that have a meaning.
+// Stays: bits of a byte and no enum, since the contract of `has` and the theorem `Table` speak of every byte.
 pub const END_OF_RECORD: u8 = 128;
 
 pub const EODC: u8 = 64;
