@@ -29,11 +29,11 @@ pub pairs-used : (l : List ℕ) (i : ℕ) → i + 1 < length l → (get_or l (i 
 unfolding pairs_of
 pairs-used l i h n = rw (two-of l i h, ne_eqb (get_or l (i + 1) 0) 0 n)
 
-pub first-unused : (l : List ℕ) → get_or l 1 0 ≡ 0 → pairs_of l ≡ none
+pub first_unused : (l : List ℕ) → get_or l 1 0 ≡ 0 → pairs_of l ≡ none
 unfolding pairs_of
-first-unused [] e = refl
-first-unused (a ∷ []) e = refl
-first-unused (a ∷ b ∷ r) e = rw e
+first_unused [] e = refl
+first_unused (a ∷ []) e = refl
+first_unused (a ∷ b ∷ r) e = rw e
 
 -- fewer than two entries are no pair
 pub pairs-over : (l : List ℕ) (i : ℕ) → length l ≤ i + 1 → pairs_of (drop i l) ≡ none

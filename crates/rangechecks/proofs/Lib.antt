@@ -1,5 +1,4 @@
 pub mod Ranges
 pub mod RangeInside
 pub mod Reaching
-pub mod PairNumbered
 pub mod NestedWalk

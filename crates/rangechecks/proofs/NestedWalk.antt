@@ -1,18 +1,20 @@
 -- A walk over two ledgers at once: the pairs that are left of both decide whether each inner one lies inside an outer one.
-use Prim.Native.Nat.{ℕ, suc, ◌+◌, ◌*◌, ◌≤◌, ◌<◌}
-use mathlib.Core.Path.{◌≡◌, sym, ap, ◌∙◌}
+use Prim.Native.Nat.{ℕ, suc, ◌≤◌, ◌<◌}
+use mathlib.Core.Path.{◌≡◌, sym, ◌∙◌}
 use mathlib.Core.Bool.{Bool, true, false, ◌&&◌}
-use mathlib.Core.List.{List}
+use mathlib.Core.List.{List, ◌∷◌}
 use native.Mathlib.Omega.{arith}
-use lib.Dec.{leb, ltb}
+use borrow.Author.Tests.{lt-ltb, ne_eqb, le-leb, lt-leb}
+use lib.Dec.{leb}
 use lib.ListN.{get_or}
 use Rattle.ledger.specs.Pairs.{Pairs, none, pair, ObeyFrom, all_inside}
-use Rattle.ledger.specs.Ledger.{capacity}
+use Rattle.ledger.specs.Ledger.{pairs_of}
+use Rattle.ledger.proofs.LedgerPairAt.{first_unused}
+use Rattle.ledger.proofs.PairsJoinSlot.{start_at, end_at}
 use Rattle.ledger.proofs.PairsPlaces.{ruled-down}
 use Rattle.ledger.proofs.PairsAtPlace.{starts_by}
 use Rattle.rangechecks.specs.Nested.{reaching}
-use Rattle.rangechecks.proofs.Reaching.{reaching-ruled, reaching-all, reaching-first}
-use Rattle.rangechecks.proofs.PairNumbered.{pairs_from, from-used, from-unused, from-over, starts_first}
+use Rattle.rangechecks.proofs.Reaching.{passes, stays, none_reach, reaching-ruled, reaching-all, reaching-first}
 
 -- ---- in pairs
 
@@ -32,27 +34,42 @@ module _ (a b : ℕ) (ds ps : Pairs) (answer : Bool) (w : Left (pair a b ds) ps 
   first-left : starts_by a 0 (reaching b ps) ≡ true → Left ds (reaching b ps) answer
   first-left e = (ruled-down 0 (suc b) ds (omega arith) w.0.2, reaching-ruled b 0 ps w.1, rw e at first-decides)
 
--- ---- in entries: the walk stands at the pair i of the inner ledger d and at the pair k of the outer ledger l
+-- ---- in entries
 
-module _ (d l : List ℕ) (i k : ℕ) (answer : Bool) (w : Left (pairs_from i d) (pairs_from k l) answer) where
+pub first_used : (l r : List ℕ) (a b : ℕ) → 0 < b → l ≡ a ∷ b ∷ r → pairs_of l ≡ pair a b (pairs_of r)
+unfolding pairs_of
+first_used l r a b h e = rw (e, ne_eqb b 0 (λ z. omega arith))
+
+-- the walk stands at d of the inner ledger and l of the outer one
+module _ (d l : List ℕ) (answer : Bool) (w : Left (pairs_of d) (pairs_of l) answer) where
   -- no pair of the inner ledger is left
-  pub walk-unused : get_or d (2 * i + 1) 0 ≡ 0 → true ≡ answer
-  walk-unused e = nothing_left (pairs_from k l) answer (rw (from-unused d i e) at w)
+  pub walk-over : get_or d 1 0 ≡ 0 → true ≡ answer
+  walk-over e = nothing_left (pairs_of l) answer (rw (first_unused d e) at w)
 
-  pub walk-over : capacity d ≤ i → true ≡ answer
-  walk-over h = nothing_left (pairs_from k l) answer (rw (from-over d i h) at w)
+  -- one is, and m is the outer ledger from the first pair on that does not end below its end
+  module _ (a b : ℕ) (e m : List ℕ) (h : 0 < b) (is : d ≡ a ∷ b ∷ e) (to : pairs_of m ≡ reaching b (pairs_of l)) where
+    now-used : Left (pair a b (pairs_of e)) (pairs_of l) answer
+    now-used = rw (first_used d e a b h is) at w
 
-  -- one is: n is the first pair of the outer ledger that does not end below its end, and t tells whether that one starts by its start
-  module _ (n : ℕ) (t : Bool) (u : 0 < get_or d (2 * i + 1) 0) (e : pairs_from n l ≡ reaching (get_or d (2 * i + 1) 0) (pairs_from k l))
-      (h : t ≡ (ltb 0 (get_or l (2 * n + 1) 0) && leb (get_or l (2 * n) 0) (get_or d (2 * i) 0))) where
-    told : t ≡ starts_by (get_or d (2 * i) 0) 0 (reaching (get_or d (2 * i + 1) 0) (pairs_from k l))
-    told = h ∙ starts_first (get_or d (2 * i) 0) l n ∙ ap (starts_by (get_or d (2 * i) 0) 0) e
+    -- none of the outer ones is left
+    pub walk-lacks : get_or m 1 0 ≡ 0 → false ≡ answer
+    unfolding start_at end_at
+    walk-lacks z =
+        let n : reaching b (pairs_of l) ≡ none = sym to ∙ first_unused m z in
+        rw n at (first-decides a b (pairs_of e) (pairs_of l) answer now-used)
 
-    now-used : Left (pair (get_or d (2 * i) 0) (get_or d (2 * i + 1) 0) (pairs_from (i + 1) d)) (pairs_from k l) answer
-    now-used = rw (from-used d i u) at w
+    -- one is, from x up to y
+    module _ (x y : ℕ) (k : List ℕ) (g : 0 < y) (at : m ≡ x ∷ y ∷ k) where
+      next_is : starts_by a 0 (reaching b (pairs_of l)) ≡ leb x a
+      unfolding start_at end_at
+      next_is = rw (← to, first_used m k x y g at, lt-ltb 0 y g)
 
-    pub walk-stops : t ≡ false → false ≡ answer
-    walk-stops f = rw (sym told ∙ f) at (first-decides (get_or d (2 * i) 0) (get_or d (2 * i + 1) 0) (pairs_from (i + 1) d) (pairs_from k l) answer now-used)
+      pub walk-stops : a < x → false ≡ answer
+      walk-stops f = rw (next_is, lt-leb x a f) at (first-decides a b (pairs_of e) (pairs_of l) answer now-used)
 
-    pub walk-goes-on : t ≡ true → Left (pairs_from (i + 1) d) (pairs_from n l) answer
-    walk-goes-on f = rw e (first-left (get_or d (2 * i) 0) (get_or d (2 * i + 1) 0) (pairs_from (i + 1) d) (pairs_from k l) answer now-used (sym told ∙ f))
+      pub walk-goes-on : x ≤ a → Left (pairs_of e) (pairs_of m) answer
+      walk-goes-on f = rw to (first-left a b (pairs_of e) (pairs_of l) answer now-used (next_is ∙ le-leb x a f))
+
+-- ---- one ledger, gone over pair by pair
+
+pub ruleset reaching_steps = (passes, stays, none_reach, first_used, first_unused)

@@ -1,37 +1,39 @@
 -- Ranges compared one by one.
-use Prim.Native.Nat.{ℕ, ◌+◌, ◌≤◌, ◌<◌}
-use mathlib.Core.Path.{◌≡◌, sym, ◌∙◌}
-use mathlib.Core.Bool.{Bool, true, false, ◌&&◌}
-use mathlib.Core.List.{List}
+use Prim.Native.Nat.{ℕ, ◌-◌, ◌≤◌, ◌<◌}
+use mathlib.Core.Path.{◌≡◌, refl, ap}
+use mathlib.Core.Bool.{Bool, true, ◌&&◌}
+use mathlib.Core.List.{List, [], ◌∷◌}
 use native.Mathlib.Omega.{arith}
-use native.Mathlib.Numerals.{add-one}
-use lib.ListN.{length, get_or, drop, drop_of_length-le}
-use lib.Seq.{drop-cons}
-use Rattle.rangechecks.specs.Ranges.{disjoint, disjoint_from, all_disjoint}
+use lib.ListN.{length, get_or, take, drop}
+use lib.Seq.{take_all}
+use Rattle.std.specs.List.{list_all}
+use Rattle.rangechecks.specs.Ranges.{disjoint, disjoint_from, all_disjoint, starts, lengths}
+use Rattle.rangechecks.specs.declared.disjoint.Range.{Range}
 
-module _ (bs ys : List ℕ) (i : ℕ) where
-  pub from_more : (a x : ℕ) → i < length bs → length ys ≡ length bs
-      → disjoint_from a x (drop i bs) (drop i ys) ≡ (disjoint a x (get_or bs i 0) (get_or ys i 0) && disjoint_from a x (drop (i + 1) bs) (drop (i + 1) ys))
-  unfolding disjoint_from
-  from_more a x h n = let k : i < length ys = omega arith in rw (drop-cons bs i 0 h, drop-cons ys i 0 k, add-one i)
+-- a range and x places from a on
+abbrev pub apart : ℕ → ℕ → Range → Bool
+apart a x r = disjoint a x r.start r.length
 
-  pub all_more : i < length bs → length ys ≡ length bs
-      → all_disjoint (drop i bs) (drop i ys) ≡ (disjoint_from (get_or bs i 0) (get_or ys i 0) (drop (i + 1) bs) (drop (i + 1) ys) && all_disjoint (drop (i + 1) bs) (drop (i + 1) ys))
-  unfolding all_disjoint
-  all_more h n = let k : i < length ys = omega arith in rw (drop-cons bs i 0 h, drop-cons ys i 0 k, add-one i)
+pub all-apart : (a x : ℕ) (rs : List Range) → list_all (apart a x) rs ≡ disjoint_from a x (starts rs) (lengths rs)
+unfolding disjoint_from
+all-apart a x [] = refl
+all-apart a x (r ∷ rs) = ap (λ b. apart a x r && b) (all-apart a x rs)
 
-  pub from-over : (a x : ℕ) → length bs ≤ i → disjoint_from a x (drop i bs) (drop i ys) ≡ true
-  unfolding disjoint_from
-  from-over a x h = rw (drop_of_length-le bs h)
+-- any two of the ranges
+abbrev pub any_two : List Range → Bool
+any_two rs = all_disjoint (starts rs) (lengths rs)
 
-  pub all-over : length bs ≤ i → all_disjoint (drop i bs) (drop i ys) ≡ true
-  unfolding all_disjoint
-  all-over h = rw (drop_of_length-le bs h)
+-- those after the first
+abbrev pub after : List Range → List Range
+after l = take (length l - 1) (drop 1 l)
 
--- a loop that stops at the first test that fails: what is left from i on decides, and the test at i comes first
-module _ (left-from : ℕ → Bool) (i : ℕ) (all test : Bool) (inv : left-from i ≡ all) (more : left-from i ≡ (test && left-from (i + 1))) where
-  pub stops : test ≡ false → false ≡ all
-  stops e = sym (sym inv ∙ more ∙ rw e)
+pub first-and-rest : (d : Range) (l : List Range) → 1 ≤ length l
+    → any_two l ≡ (disjoint_from (get_or l 0 d).start (get_or l 0 d).length (starts (after l)) (lengths (after l)) && any_two (after l))
+unfolding all_disjoint
+first-and-rest d [] h = absurd (omega arith)
+first-and-rest d (r ∷ rs) h = let e : after (r ∷ rs) ≡ rs = take_all (length (r ∷ rs) - 1) rs (omega arith) in rw e
 
-  pub goes_on : test ≡ true → left-from (i + 1) ≡ all
-  goes_on e = sym (sym inv ∙ more ∙ rw e)
+pub none-left : (l : List Range) → length l < 1 → true ≡ any_two l
+unfolding all_disjoint
+none-left [] h = refl
+none-left (r ∷ rs) h = absurd (omega arith)

@@ -22,14 +22,14 @@ pub stays : (e a b : ℕ) (ps : Pairs) → e ≤ b → reaching e (pair a b ps) 
 unfolding reaching
 stays e a b ps h = rw (le-ltb b e h)
 
-pub none-reach : (e : ℕ) → reaching e none ≡ none
+pub none_reach : (e : ℕ) → reaching e none ≡ none
 unfolding reaching
-none-reach e = refl
+none_reach e = refl
 
 -- ---- what they keep
 
 pub reaching-ruled : (e lo : ℕ) (ps : Pairs) → ObeyFrom lo ps → ObeyFrom lo (reaching e ps)
-reaching-ruled e lo none c = rw (none-reach e) tt
+reaching-ruled e lo none c = rw (none_reach e) tt
 reaching-ruled e lo (pair a b ps) c = go (dec_lt b e) (reaching-ruled e lo ps (ruled-down lo (suc b) ps (omega (arith, c.0, c.1)) c.2))
   where
     go : Dec (b < e) → ObeyFrom lo (reaching e ps) → ObeyFrom lo (reaching e (pair a b ps))
@@ -38,7 +38,7 @@ reaching-ruled e lo (pair a b ps) c = go (dec_lt b e) (reaching-ruled e lo ps (r
 
 reaching-inside : (s t e : ℕ) (ps : Pairs) → e ≤ t → inside s t (reaching e ps) ≡ inside s t ps
 unfolding inside
-reaching-inside s t e none h = rw (none-reach e)
+reaching-inside s t e none h = rw (none_reach e)
 reaching-inside s t e (pair a b ps) h = go (dec_lt b e) (reaching-inside s t e ps h)
   where
     go : Dec (b < e) → inside s t (reaching e ps) ≡ inside s t ps → inside s t (reaching e (pair a b ps)) ≡ inside s t (pair a b ps)
@@ -57,7 +57,7 @@ reaching-first s e lo ps h c =
     sym (reaching-inside s e e ps (omega arith)) ∙ inside-at s e lo (reaching e ps) h (reaching-ruled e lo ps c) ∙ rw (none_below ps)
   where
     none_below : (ps : Pairs) → count_ending_below e (reaching e ps) ≡ 0
-    none_below none = rw (none-reach e) (unfold count_ending_below in refl)
+    none_below none = rw (none_reach e) (unfold count_ending_below in refl)
     none_below (pair a b ps) = go (dec_lt b e) (none_below ps)
       where
         go : Dec (b < e) → count_ending_below e (reaching e ps) ≡ 0 → count_ending_below e (reaching e (pair a b ps)) ≡ 0

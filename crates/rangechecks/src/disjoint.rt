@@ -1,48 +1,43 @@
 // Ranges given by where they start and how long they are, compared with each other.
-ghost use Rattle.std.specs.Prelude.{◌≡◌, ◌&&◌, ◌+◌, ◌<◌, eqb, length, get_or, drop};
-ghost use Rattle.rangechecks.specs.Ranges.{disjoint, disjoint_from, all_disjoint};
+ghost use Rattle.std.specs.Prelude.{◌≡◌};
+ghost use Rattle.rangechecks.specs.Ranges.{disjoint, disjoint_from, all_disjoint, starts, lengths};
 
 use sums::sum;
 
-// Whether one of two ranges, x places from a on and y places from b on, ends at or before the start of the other: where neither is empty, they
-// share no place.
-fn two_disjoint(a: u64, x: u64, b: u64, y: u64) -> bool
-    ensures { result ≡ disjoint a x b y }
-{
-    if sum::sum_at_most(a, x, b) {
-        return true;
-    }
-    sum::sum_at_most(b, y, a)
+// So many places from start on.
+#[derive(Clone, Copy, Debug, PartialEq, Eq)]
+pub struct Range {
+    pub start: u64,
+    pub length: u64,
 }
 
-// The same of x places from a on and each of the ranges from the number `from` on.
-fn disjoint_from(a: u64, x: u64, starts: &[u64], lengths: &[u64], from: usize) -> bool
-    requires { length lengths.now ≡ length starts.now }
-    ensures { result ≡ disjoint_from a x (drop from starts.now) (drop from lengths.now) }
-{
-    let mut i = from;
-    while i < starts.len() {
-        if !two_disjoint(a, x, starts[i], lengths[i]) {
-            return false;
-        }
-        i += 1;
+impl Range {
+    // Whether one of the two ends at or before the start of the other: where neither is empty, they share no place.
+    fn is_apart(self, other: Range) -> bool
+        ensures { result ≡ disjoint self.start self.length other.start other.length }
+    {
+        sum::sum_at_most(self.start, self.length, other.start)
+            || sum::sum_at_most(other.start, other.length, self.start)
     }
-    true
+
+    // The same of this range and each of the others.
+    fn is_apart_from(self, others: &[Range]) -> bool
+        ensures { result ≡ disjoint_from self.start self.length (starts others.now) (lengths others.now) }
+    {
+        others.iter().all(|other| self.is_apart(*other))
+    }
 }
 
-// Whether there is a length for each start and any two of the ranges are so.
-pub fn all_disjoint(starts: &[u64], lengths: &[u64]) -> bool
-    ensures { result ≡ (eqb (length starts.now) (length lengths.now) && all_disjoint starts.now lengths.now) }
+// Whether any two of the ranges are so.
+pub fn all_disjoint(ranges: &[Range]) -> bool
+    ensures { result ≡ all_disjoint (starts ranges.now) (lengths ranges.now) }
 {
-    if starts.len() != lengths.len() {
-        return false;
-    }
-    let mut i = 0;
-    while i < starts.len() {
-        if !disjoint_from(starts[i], lengths[i], starts, lengths, i + 1) {
+    let mut rest = ranges;
+    while let [range, after @ ..] = rest {
+        if !range.is_apart_from(after) {
             return false;
         }
-        i += 1;
+        rest = after;
     }
     true
 }

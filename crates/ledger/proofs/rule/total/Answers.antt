@@ -6,7 +6,7 @@ use native.Mathlib.Omega.{arith}
 use borrow.Author.Tests.{ne_eqb}
 use Rattle.ledger.specs.Pairs.{total}
 use Rattle.ledger.specs.Ledger.{pairs_of}
-use Rattle.ledger.proofs.LedgerPairAt.{first-unused}
+use Rattle.ledger.proofs.LedgerPairAt.{first_unused}
 use Rattle.ledger.proofs.rule.total.Goals as goal
 
 one-more : (m n : ℕ) (s r : List ℕ) (a b k : ℕ) → 0 < b → s ≡ a ∷ b ∷ r → k ≡ min (n + (b - a)) m → min m (k + total (pairs_of r)) ≡ min m (n + total (pairs_of s))
@@ -23,5 +23,5 @@ loop-start-preserved c =
 pub returns : goal.returns
 unfolding total
 returns c =
-    let e : total (pairs_of c.loop-start.rest.now) ≡ 0 = rw (first-unused c.loop-start.rest.now c.in_default.ensures) in
+    let e : total (pairs_of c.loop-start.rest.now) ≡ 0 = rw (first_unused c.loop-start.rest.now c.in_default.ensures) in
     omega (arith, e)
