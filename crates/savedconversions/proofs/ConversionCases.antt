@@ -6,7 +6,8 @@ use mathlib.Core.List.{List}
 use native.Mathlib.Omega.{arith}
 use native.Mathlib.Decide.{dec_lt, ℕ_discrete}
 use lib.ListN.{length}
-use Rattle.answers.specs.Written.{written_number, Refuses, Writes}
+use Rattle.answers.specs.Refusal.{number_in}
+use Rattle.answers.specs.Written.{Refuses, Writes}
 use Rattle.answers.proofs.WrittenBy.{refuses, writes}
 use Rattle.ledger.specs.Pairs.{ends_at_most}
 use Rattle.savedrecords.specs.Record.{saved_pairs, record_refusal, record_of}
@@ -20,13 +21,12 @@ use Rattle.savedconversions.proofs.ConversionNumber.{number-record, number-65, n
 
 module _ (from to : Kind) (f : ℕ) (bytes out : List ℕ) where
   -- the number of the answer is that of the refusal
-  number_is : written_number (convert from to f bytes out) ≡ convert_refusal from to f bytes out
-  unfolding written_number
+  number_is : number_in (convert from to f bytes out) ≡ convert_refusal from to f bytes out
   number_is = go (ℕ_discrete (convert_refusal from to f bytes out) 0)
     where
-      go : Dec (convert_refusal from to f bytes out ≡ 0) → written_number (convert from to f bytes out) ≡ convert_refusal from to f bytes out
-      go (yes z) = sym (ap written_number (converts-written from to f bytes out z).0) ∙ sym z
-      go (no n) = sym (ap written_number (converts-refused from to f bytes out (convert_refusal from to f bytes out) refl (omega arith)).0)
+      go : Dec (convert_refusal from to f bytes out ≡ 0) → number_in (convert from to f bytes out) ≡ convert_refusal from to f bytes out
+      go (yes z) = sym (ap number_in (converts-written from to f bytes out z).0) ∙ sym z
+      go (no n) = sym (ap number_in (converts-refused from to f bytes out (convert_refusal from to f bytes out) refl (omega arith)).0)
 
   exceeds-65 : record_refusal from bytes ≡ 0 → Exceeds f (saved_pairs from bytes) → convert_refusal from to f bytes out ≡ 65
   exceeds-65 r x = number-65 from to f bytes out r (exceeds-false f (saved_pairs from bytes) x)
@@ -57,11 +57,11 @@ module _ (from to : Kind) (f : ℕ) (bytes out : List ℕ) where
       go (yes z) = go₂ (record-right from bytes z) (ends_at_most f (saved_pairs from bytes)) refl
       go (no n) = rw (number-record from to f bytes out (omega arith)) (by_record (record_refusal from bytes) (record-cases from bytes).judged_is (omega arith))
 
-  refused : 0 < written_number (convert from to f bytes out) → Refuses (convert from to f bytes out) (convert_after from to f bytes out) out (written_number (convert from to f bytes out))
+  refused : 0 < number_in (convert from to f bytes out) → Refuses (convert from to f bytes out) (convert_after from to f bytes out) out (number_in (convert from to f bytes out))
   unfolding convert convert_after
   refused h = refuses (convert_refusal from to f bytes out) _ (record_of to f (saved_pairs from bytes)) out _ (sym number_is) h
 
-  converted : written_number (convert from to f bytes out) ≡ 0 → Writes (convert from to f bytes out) (convert_after from to f bytes out) out (record_of to f (saved_pairs from bytes)) (length_as from to bytes)
+  converted : number_in (convert from to f bytes out) ≡ 0 → Writes (convert from to f bytes out) (convert_after from to f bytes out) out (record_of to f (saved_pairs from bytes)) (length_as from to bytes)
   unfolding convert convert_after
   converted z =
       let n = length-record_of to f (saved_pairs from bytes) in

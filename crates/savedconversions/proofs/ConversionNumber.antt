@@ -10,7 +10,7 @@ use Rattle.octets.specs.Digits.{AllBelow, to_little_endian}
 use Rattle.octets.proofs.Digits.{length-to_little}
 use Rattle.answers.specs.Written.{room_refusal}
 use Rattle.answers.proofs.WrittenBy.{first_some, first-none, first-zero, room-short, room-enough, room-zero, refused, written}
-use Rattle.answers.specs.declared.written.Written.TheVariants.{Bytes, Refused}
+use Rattle.std.specs.Prelude.{Ok, Err}
 use Rattle.frames.specs.Frame.{body_of, frame_of}
 use Rattle.frames.proofs.Framed.{framed_is, length-frame_of, length_field-lt}
 use Rattle.ledger.specs.Pairs.{Pairs, size, ends_at_most}
@@ -18,7 +18,7 @@ use Rattle.savedrecords.specs.Kind.{head_length}
 use Rattle.savedrecords.specs.Record.{pair_part, pair_bytes, saved_pairs, record_refusal, length_refusal, record_of}
 use Rattle.savedrecords.specs.declared.kind.Kind.{Kind}
 use Rattle.savedrecords.proofs.RecordPairs.{size-pairs_in}
-use Rattle.savedrecords.proofs.RecordFrame.{frame-sound}
+use Rattle.savedrecords.proofs.RecordFrame.{frame_sound}
 use Rattle.savedrecords.proofs.RecordRefusal.{refusal-sound}
 use Rattle.savedrecords.proofs.RecordBytes.{length-body}
 use Rattle.savedrecords.proofs.RecordRoundTrip.{length-record_of}
@@ -84,7 +84,7 @@ part_length kind bytes right =
 pub part-few : (kind : Kind) (bytes : List ℕ) → AllBelow 256 bytes → record_refusal kind bytes ≡ 0 → length (pair_part kind bytes) < 4294967286
 part-few kind bytes below right =
     let s = refusal-sound kind bytes right in
-    let f = frame-sound kind.number bytes s.frame in
+    let f = frame_sound kind.number bytes s.frame in
     omega (arith, s.parts, f, length_field-lt bytes below, length-drop 6 bytes, length-drop (head_length kind) (body_of bytes))
 
 pub record_of-is : (kind : Kind) (f : ℕ) (ps : Pairs)
@@ -112,11 +112,11 @@ record-placed kind f ps out o zs n e front z =
 -- ---- the answer and the lent bytes
 
 module _ (from to : Kind) (f : ℕ) (bytes out : List ℕ) where
-  pub converts-refused : (k : ℕ) → convert_refusal from to f bytes out ≡ k → 0 < k → (Refused k ≡ convert from to f bytes out) × (out ≡ convert_after from to f bytes out)
+  pub converts-refused : (k : ℕ) → convert_refusal from to f bytes out ≡ k → 0 < k → (Err k ≡ convert from to f bytes out) × (out ≡ convert_after from to f bytes out)
   unfolding convert convert_after
   converts-refused k e h = refused (convert_refusal from to f bytes out) _ (record_of to f (saved_pairs from bytes)) out k e h
 
   pub converts-written : convert_refusal from to f bytes out ≡ 0 → let text = record_of to f (saved_pairs from bytes) in
-      (Bytes (length text) ≡ convert from to f bytes out) × (text ++ drop (length text) out ≡ convert_after from to f bytes out)
+      (Ok (length text) ≡ convert from to f bytes out) × (text ++ drop (length text) out ≡ convert_after from to f bytes out)
   unfolding convert convert_after
   converts-written e = written (convert_refusal from to f bytes out) _ (record_of to f (saved_pairs from bytes)) out e

@@ -7,7 +7,7 @@ use native.Mathlib.Omega.{arith}
 use lib.ListN.{length, take, drop}
 use lib.Seq.{take_at}
 use Rattle.octets.specs.Digits.{AllBelow, to_little_endian}
-use Rattle.answers.specs.declared.written.Written.TheVariants.{Bytes}
+use Rattle.std.specs.Prelude.{Ok}
 use Rattle.answers.proofs.WrittenBy.{written-only}
 use Rattle.frames.specs.Frame.{body_of}
 use Rattle.ledger.specs.Pairs.{size, ObeyFrom, ends_at_most}
@@ -27,7 +27,7 @@ pub record Converted (from to : Kind) (f : ℕ) (bytes out : List ℕ) (n : ℕ)
   pub sound : Sound from to f bytes out
   pub written : take n (convert_after from to f bytes out) ≡ record_of to f (saved_pairs from bytes)
 
-pub converted : (from to : Kind) (f : ℕ) (bytes out : List ℕ) (n : ℕ) → convert from to f bytes out ≡ Bytes n → Converted from to f bytes out n
+pub converted : (from to : Kind) (f : ℕ) (bytes out : List ℕ) (n : ℕ) → convert from to f bytes out ≡ Ok n → Converted from to f bytes out n
 unfolding convert
 converted from to f bytes out n e =
     let text = record_of to f (saved_pairs from bytes) in
@@ -58,7 +58,7 @@ module _ (from to : Kind) (f : ℕ) (bytes : List ℕ) (below : AllBelow 256 byt
   -- converted back, by the same file length
   pub there_and_back : to_little_endian 256 (head_length from) f ≡ take (head_length from) (body_of bytes) → (back : List ℕ) → length bytes ≤ length back
       → let other = record_of to f (saved_pairs from bytes) in
-      (convert to from f other back ≡ Bytes (length bytes)) × (convert_after to from f other back ≡ bytes ++ drop (length bytes) back)
+      (convert to from f other back ≡ Ok (length bytes)) × (convert_after to from f other back ≡ bytes ++ drop (length bytes) back)
   there_and_back head back room =
       let ps = saved_pairs from bytes in
       let other = record_of to f ps in

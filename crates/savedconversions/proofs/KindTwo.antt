@@ -10,8 +10,7 @@ use lib.Seq.{drop-drop}
 use Rattle.octets.specs.Digits.{AllBelow, from_little_endian, to_little_endian}
 use Rattle.octets.proofs.Digits.{below-drop}
 use Rattle.answers.specs.Written.{first_refusal, room_refusal, written_after}
-use Rattle.answers.specs.declared.loaded.Loaded.TheVariants.{Refused}
-use Rattle.answers.specs.declared.written.Written.TheVariants.{Bytes}
+use Rattle.std.specs.Prelude.{Ok, Err}
 use Rattle.frames.specs.Frame.{length_field, kind_of, framed}
 use Rattle.ledger.specs.Pairs.{Pairs, none, size, ObeyFrom, obey_from, ends_at_most}
 use Rattle.ledger.specs.Ledger.{largest, length_wrong, capacity}
@@ -81,11 +80,11 @@ other_kind kind bytes e = go (record_refusal kind bytes) (record-cases kind byte
 
 -- ---- the old reader
 
-old_refuses : (bytes ledger : List ℕ) → RightLength ledger → RightFrame bytes → kind_in bytes ≡ 2 → (read_saved bytes ledger ≡ Refused 62) × (read_saved_after bytes ledger ≡ ledger)
+old_refuses : (bytes ledger : List ℕ) → RightLength ledger → RightFrame bytes → kind_in bytes ≡ 2 → (read_saved bytes ledger ≡ Err 62) × (read_saved_after bytes ledger ≡ ledger)
 old_refuses bytes ledger l f i =
     let r : read_refusal kind_one bytes ledger ≡ 62 =
     sym ((saved-reading kind_one bytes ledger).judged_only 62 (by_record 62 l (by_62 f (λ e. omega (arith, i, e))) (omega arith))) in
-    (saved-refused bytes ledger (omega arith) ∙ ap Refused r, after-refused kind_one bytes ledger (omega arith))
+    (saved-refused bytes ledger (omega arith) ∙ ap Err r, after-refused kind_one bytes ledger (omega arith))
 
 -- ---- converted
 
@@ -93,9 +92,9 @@ old_refuses bytes ledger l f i =
 abbrev two_of : ℕ → List ℕ → List ℕ → ℕ → List ℕ
 two_of f bytes out n = take n (to_two_after f bytes out)
 
-module _ (f : ℕ) (bytes out : List ℕ) (n : ℕ) (whole : f ≤ 18446744073709551615) (below : AllBelow 256 bytes) (e : to_two f bytes out ≡ Bytes n) where
+module _ (f : ℕ) (bytes out : List ℕ) (n : ℕ) (whole : f ≤ 18446744073709551615) (below : AllBelow 256 bytes) (e : to_two f bytes out ≡ Ok n) where
   one_two_one : (back : List ℕ) → length bytes ≤ length back → let two = take n (to_two_after f bytes out) in
-      (to_one two back ≡ Bytes (length bytes)) × (to_one_after two back ≡ bytes ++ drop (length bytes) back)
+      (to_one two back ≡ Ok (length bytes)) × (to_one_after two back ≡ bytes ++ drop (length bytes) back)
   unfolding to_little_endian
   one_two_one back room =
       let c = converted kind_one kind_two f bytes out n e in
@@ -142,9 +141,9 @@ module _ (f : ℕ) (bytes out : List ℕ) (n : ℕ) (whole : f ≤ 1844674407370
   unfolding read_after
   same_after ledger = rw (same_number ledger, two-pairs)
 
-two_one_two : (bytes out : List ℕ) (n : ℕ) → AllBelow 256 bytes → to_one bytes out ≡ Bytes n → (back : List ℕ) → length bytes ≤ length back
+two_one_two : (bytes out : List ℕ) (n : ℕ) → AllBelow 256 bytes → to_one bytes out ≡ Ok n → (back : List ℕ) → length bytes ≤ length back
     → let one = take n (to_one_after bytes out) in
-    (to_two (length_in bytes) one back ≡ Bytes (length bytes)) × (to_two_after (length_in bytes) one back ≡ bytes ++ drop (length bytes) back)
+    (to_two (length_in bytes) one back ≡ Ok (length bytes)) × (to_two_after (length_in bytes) one back ≡ bytes ++ drop (length bytes) back)
 unfolding file_length_of
 two_one_two bytes out n below e back room =
     let f = length_in bytes in
@@ -154,7 +153,7 @@ two_one_two bytes out n below e back room =
     (there_and_back kind_two kind_one f bytes below (omega arith) whole c.sound.right c.sound.ends (head-same kind_two bytes below c.sound.right) back room)
 
 any_size : (f : ℕ) (ps : Pairs) (out : List ℕ) → size ps ≤ 268435455 → ObeyFrom 0 ps → f ≤ 18446744073709551615 → ends_at_most f ps ≡ true
-    → 14 + 16 * size ps ≤ length out → to_two f (record_of kind_one 0 ps) out ≡ Bytes (14 + 16 * size ps)
+    → 14 + 16 * size ps ≤ length out → to_two f (record_of kind_one 0 ps) out ≡ Ok (14 + 16 * size ps)
 any_size f ps out few ruled whole ends room =
     let one = record_of kind_one 0 ps in
     let most = ends_at_most-more f largest 0 ps ruled whole ends in

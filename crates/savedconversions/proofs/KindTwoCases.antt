@@ -9,8 +9,9 @@ use borrow.Author.Tests.{le-leb}
 use lib.ListN.{length, take, replicate}
 use Rattle.octets.specs.Digits.{AllBelow, from_little_endian, to_little_endian}
 use Rattle.octets.proofs.Digits.{below-append, below-to_little}
-use Rattle.answers.specs.Written.{written_number, first_refusal, room_refusal, written_by, written_after}
-use Rattle.answers.specs.declared.written.Written.TheVariants.{Bytes}
+use Rattle.answers.specs.Refusal.{number_in}
+use Rattle.answers.specs.Written.{first_refusal, room_refusal, written_by, written_after}
+use Rattle.std.specs.Prelude.{Ok}
 use Rattle.frames.specs.Frame.{length_field, kind_of, framed}
 use Rattle.ledger.specs.Pairs.{size, ObeyFrom, obey_from, ends_at_most}
 use Rattle.ledger.specs.Ledger.{length_wrong, laid_out}
@@ -51,7 +52,7 @@ last-right =
       body = record { head = omega arith; whole = refl; ruled = (omega arith, omega arith, tt) };
     }
 
-last-edge : (ledger out : List ℕ) → (RightLength ledger → 0 < length ledger / 2 → read_refusal kind_two last ledger ≡ 65) × (written_number (to_one last out) ≡ 65)
+last-edge : (ledger out : List ℕ) → (RightLength ledger → 0 < length ledger / 2 → read_refusal kind_two last ledger ≡ 65) × (number_in (to_one last out) ≡ 65)
 unfolding framed number_bytes to_little_endian from_little_endian
 last-edge ledger out = kind-two.end_last last ledger out 0 (below-framed 2 (top ∷ top ∷ 1 ∷ [])) last-right refl (omega arith)
 
@@ -68,22 +69,22 @@ ninety-right =
       body = record { head = omega arith; whole = refl; ruled = (omega arith, omega arith, tt) };
     }
 
-ninety-65 : (out : List ℕ) → written_number (to_two 89 ninety out) ≡ 65
+ninety-65 : (out : List ℕ) → number_in (to_two 89 ninety out) ≡ 65
 unfolding framed number_bytes to_little_endian from_little_endian pairs_in
 ninety-65 out = sym ((kind-two.to_2 89 ninety out).judged_only 65 (by_65 ninety-right (inl (omega arith))))
 
 -- ---- the longest file
 
-to_2 : to_two top longest_one (replicate 30 0xEE) ≡ Bytes 30
+to_2 : to_two top longest_one (replicate 30 0xEE) ≡ Ok 30
 unfolding convert written_by convert_refusal first_refusal room_refusal record_refusal frame_refusal body_wrong length_refusal length_field kind_of pairs_in obey_from ends_at_most record_of framed pair_bytes number_bytes to_little_endian from_little_endian
 to_2 = refl
 
-and_back : (to_one longest_two (replicate 22 0xEE) ≡ Bytes 22) × (to_one_after longest_two (replicate 22 0xEE) ≡ longest_one)
+and_back : (to_one longest_two (replicate 22 0xEE) ≡ Ok 22) × (to_one_after longest_two (replicate 22 0xEE) ≡ longest_one)
 unfolding framed number_bytes to_little_endian
 and_back = kind-two.one_two_one top longest_one (replicate 30 0xEE) (replicate 22 0xEE) 30 (omega arith) (below-framed 1 (0 ∷ top ∷ [])) to_2 (omega arith)
 
 and_again : let one = take 22 (to_one_after longest_two (replicate 22 0xEE)) in
-    (to_two (length_in longest_two) one (replicate 30 0xEE) ≡ Bytes 30) × (to_two_after (length_in longest_two) one (replicate 30 0xEE) ≡ longest_two)
+    (to_two (length_in longest_two) one (replicate 30 0xEE) ≡ Ok 30) × (to_two_after (length_in longest_two) one (replicate 30 0xEE) ≡ longest_two)
 unfolding convert_after written_after convert_refusal first_refusal room_refusal record_refusal frame_refusal body_wrong length_refusal length_field kind_of pairs_in obey_from ends_at_most record_of framed pair_bytes number_bytes to_little_endian from_little_endian
 and_again = kind-two.two_one_two longest_two (replicate 22 0xEE) (replicate 30 0xEE) 22 (below-framed 2 (top ∷ 0 ∷ top ∷ [])) and_back.0 (omega arith)
 
@@ -113,7 +114,7 @@ unfolding singles ends_at_most
 singles-end zero a f h = refl
 singles-end (suc n) a f h = rw (le-leb (a + 1) f (omega arith)) (singles-end n (a + 2) f (omega arith))
 
-most_pairs : (out : List ℕ) → length out ≡ 4294967294 → to_two top (record_of kind_one 0 (singles 268435455 0)) out ≡ Bytes 4294967294
+most_pairs : (out : List ℕ) → length out ≡ 4294967294 → to_two top (record_of kind_one 0 (singles 268435455 0)) out ≡ Ok 4294967294
 most_pairs out h =
     let n = size-singles 268435455 0 in
     let whole = kind-two.any_size top (singles 268435455 0) out (omega (arith, n)) (singles-obey 268435455 0 0 (omega arith)) (omega arith)

@@ -1,7 +1,6 @@
 -- A saved ledger of one kind as one of another (document 02, Item 7).
 use Rattle.std.specs.Prelude.{ℕ, List, length}
-use Rattle.answers.specs.Written.{first_refusal, room_refusal, written_by, written_after}
-use Rattle.answers.specs.declared.written.Written.{Written}
+use Rattle.answers.specs.Written.{first_refusal, room_refusal, Written, written_by, written_after}
 use Rattle.savedrecords.specs.Kind.{kind_one, kind_two}
 use Rattle.savedrecords.specs.Record.{file_length_of, saved_pairs, record_refusal, length_refusal, record_of}
 use Rattle.savedrecords.specs.declared.kind.Kind.{Kind}

@@ -1,7 +1,7 @@
 -- What a conversion answers and leaves, case by case (document 02, Item 7: 61, 62, 63, 65, 55), from any kind to any kind, for a file of length f.
 use Rattle.std.specs.Prelude.{ℕ, ◌+◌, ◌*◌, ◌≤◌, ◌<◌, ◌≡◌, List, length}
-use Rattle.answers.specs.Written.{written_number, Refuses, Writes}
-use Rattle.answers.specs.declared.written.Written.{Written}
+use Rattle.answers.specs.Refusal.{number_in}
+use Rattle.answers.specs.Written.{Written, Refuses, Writes}
 use Rattle.ledger.specs.Pairs.{size}
 use Rattle.savedrecords.specs.Kind.{head_length}
 use Rattle.savedrecords.specs.Record.{saved_pairs, record_of}
@@ -24,8 +24,8 @@ pub data ConversionJudged (from to : Kind) (f : ℕ) (bytes out : List ℕ) : �
 
 pub record ConversionCases (from to : Kind) (f : ℕ) (bytes out : List ℕ) (answer : Written) (after : List ℕ) : Type 0 where
   -- the number has its case, and no other number has one
-  pub judged_is : ConversionJudged from to f bytes out (written_number answer)
-  pub judged_only : (k : ℕ) → ConversionJudged from to f bytes out k → k ≡ written_number answer
+  pub judged_is : ConversionJudged from to f bytes out (number_in answer)
+  pub judged_only : (k : ℕ) → ConversionJudged from to f bytes out k → k ≡ number_in answer
   -- a refusal leaves the lent bytes as they are
-  pub refuses : 0 < written_number answer → Refuses answer after out (written_number answer)
-  pub converts : written_number answer ≡ 0 → Writes answer after out (record_of to f (saved_pairs from bytes)) (length_as from to bytes)
+  pub refuses : 0 < number_in answer → Refuses answer after out (number_in answer)
+  pub converts : number_in answer ≡ 0 → Writes answer after out (record_of to f (saved_pairs from bytes)) (length_as from to bytes)

@@ -1,8 +1,6 @@
 -- Cases at the edges of what `KindTwo` says, each led to by the field that says it.
-use Rattle.std.specs.Prelude.{ℕ, zero, suc, ◌+◌, ◌≡◌, List, [], ◌∷◌, length, take, replicate}
-use Rattle.answers.specs.Written.{written_number}
-use Rattle.answers.specs.declared.loaded.Loaded.TheVariants.{Refused}
-use Rattle.answers.specs.declared.written.Written.TheVariants.{Bytes}
+use Rattle.std.specs.Prelude.{ℕ, zero, suc, ◌+◌, ◌≡◌, Ok, Err, List, [], ◌∷◌, length, take, replicate}
+use Rattle.answers.specs.Refusal.{number_in}
 use Rattle.frames.specs.Frame.{framed}
 use Rattle.ledger.specs.Pairs.{Pairs, none, pair}
 use Rattle.savedrecords.specs.Kind.{kind_one, kind_two}
@@ -42,18 +40,18 @@ pub record KindTwoCases : Type 0 where
   pub end_then_pair : record_refusal kind_two (framed_numbers 2 (top ∷ top ∷ 1 ∷ 3 ∷ 4 ∷ [])) ≡ 63
   -- the same end last: read into one pair, and converted
   pub end_last : read_refusal kind_two (framed_numbers 2 (top ∷ top ∷ 1 ∷ [])) (7 ∷ 7 ∷ []) ≡ 65
-  pub end_last_back : (out : List ℕ) → written_number (to_one (framed_numbers 2 (top ∷ top ∷ 1 ∷ [])) out) ≡ 65
+  pub end_last_back : (out : List ℕ) → number_in (to_one (framed_numbers 2 (top ∷ top ∷ 1 ∷ [])) out) ≡ 65
   -- by 65 the lent entries and bytes stay
   pub reading_65 : read_sized_after (framed_numbers 2 (top ∷ top ∷ 1 ∷ [])) (7 ∷ 7 ∷ []) ≡ 7 ∷ 7 ∷ []
   pub back_65 : (out : List ℕ) → to_one_after (framed_numbers 2 (top ∷ top ∷ 1 ∷ [])) out ≡ out
   pub to_2_65 : (out : List ℕ) → to_two_after 89 (framed_numbers 1 (0 ∷ 90 ∷ [])) out ≡ out
   -- all bytes of the longest file, to kind 2, back, and to kind 2 again, with no byte lent too many
-  pub to_2 : to_two top longest_one (replicate 30 0xEE) ≡ Bytes 30
-  pub and_back : (to_one longest_two (replicate 22 0xEE) ≡ Bytes 22) × (to_one_after longest_two (replicate 22 0xEE) ≡ longest_one)
+  pub to_2 : to_two top longest_one (replicate 30 0xEE) ≡ Ok 30
+  pub and_back : (to_one longest_two (replicate 22 0xEE) ≡ Ok 22) × (to_one_after longest_two (replicate 22 0xEE) ≡ longest_one)
   pub and_again : let one = take 22 (to_one_after longest_two (replicate 22 0xEE)) in
-      (to_two (length_in longest_two) one (replicate 30 0xEE) ≡ Bytes 30) × (to_two_after (length_in longest_two) one (replicate 30 0xEE) ≡ longest_two)
+      (to_two (length_in longest_two) one (replicate 30 0xEE) ≡ Ok 30) × (to_two_after (length_in longest_two) one (replicate 30 0xEE) ≡ longest_two)
   -- it is read into one pair, and the old reader refuses it
   pub reads_it : (read_sized_after longest_two (7 ∷ 7 ∷ []) ≡ 0 ∷ top ∷ []) × (length_in longest_two ≡ top)
-  pub old_refuses_it : read_saved longest_two (7 ∷ 7 ∷ []) ≡ Refused 62
+  pub old_refuses_it : read_saved longest_two (7 ∷ 7 ∷ []) ≡ Err 62
   -- the most pairs that a record of kind 1 can have, and as many bytes as their record of kind 2 has
-  pub most_pairs : (out : List ℕ) → length out ≡ 4294967294 → to_two top (record_of kind_one 0 (singles 268435455 0)) out ≡ Bytes 4294967294
+  pub most_pairs : (out : List ℕ) → length out ≡ 4294967294 → to_two top (record_of kind_one 0 (singles 268435455 0)) out ≡ Ok 4294967294

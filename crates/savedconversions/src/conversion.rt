@@ -1,21 +1,21 @@
 // A saved ledger of kind 1 as one of kind 2, and back: from lent bytes into lent bytes.
 ghost use Rattle.std.specs.Prelude.{◌≡◌, true, ◌++◌, ◌+◌, ◌/◌, ◌%◌, ◌≤◌, ◌<◌, length, drop};
 ghost use Rattle.octets.specs.Digits.{to_little_endian};
+ghost use Rattle.answers.specs.Refusal.{numbered};
 ghost use Rattle.frames.specs.Frame.{frame_of};
 ghost use Rattle.ledger.specs.Pairs.{ObeyFrom, ends_at_most};
 ghost use Rattle.savedrecords.specs.Kind.{head_length, second_of};
 ghost use Rattle.savedrecords.specs.Record.{pairs_in, pair_bytes};
 ghost use Rattle.savedconversions.specs.Conversion.{convert, convert_after, to_two, to_two_after, to_one, to_one_after};
 
-use answers::written::Written;
+use answers::refusal::Refusal;
 use frames::frame;
 use frames::frame::FRAME_LENGTH;
 use octets::little;
 use savedrecords::kind::{Kind, SecondNumber};
 use savedrecords::pair::Pair;
+use savedrecords::record;
 use savedrecords::record::PAIR_LENGTH;
-use savedrecords::{kind, pair, record};
-use sums::sum;
 
 // The second number of a pair, whose end fits 64 bits.
 fn second_of(second: SecondNumber, pair: Pair) -> u64
@@ -23,7 +23,7 @@ fn second_of(second: SecondNumber, pair: Pair) -> u64
     ensures { result ≡ second_of second pair.start (pair.start + pair.length) }
 {
     match second {
-        SecondNumber::End => sum::saturating_add(pair.start, pair.length),
+        SecondNumber::End => pair.start + pair.length,
         SecondNumber::Length => pair.length,
     }
 }
@@ -34,22 +34,20 @@ fn write_pair(second: SecondNumber, pair: Pair, out: &mut [u8])
     ensures { out.new ≡ to_little_endian 256 8 pair.start ++ to_little_endian 256 8 (second_of second pair.start (pair.start + pair.length)) }
 {
     let number = second_of(second, pair);
-    little::write(pair.start, &mut out[0..8]);
+    little::write(pair.start, &mut out[..8]);
     little::write(number, &mut out[8..16]);
 }
 
 // Writes all pairs, read as those of one kind, as those of another.
+// Stays: the lent bytes by index, since after a loop over `chunks_exact_mut` nothing is known of them, so that `out.new` gets no proof.
 fn write_pairs(from: SecondNumber, to: SecondNumber, pairs: &[u8], out: &mut [u8])
     requires { (length pairs.now % 16 ≡ 0) × (length out.old ≡ length pairs.now) × ObeyFrom 0 (pairs_in from (length pairs.now / 16) pairs.now) × (ends_at_most 18446744073709551615 (pairs_in from (length pairs.now / 16) pairs.now) ≡ true) }
     ensures { out.new ≡ pair_bytes to (pairs_in from (length pairs.now / 16) pairs.now) }
 {
-    let n = pairs.len() / PAIR_LENGTH;
-    let mut k = 0;
-    while k < n {
+    for (k, bytes) in pairs.chunks_exact(PAIR_LENGTH).enumerate() {
         let at = PAIR_LENGTH * k;
-        let next = pair::first(from, &pairs[at..]);
+        let next = Pair::first(from, bytes);
         write_pair(to, next, &mut out[at..at + PAIR_LENGTH]);
-        k += 1;
     }
 }
 
@@ -58,54 +56,43 @@ fn write_head(kind: Kind, len: u64, n: usize, out: &mut [u8])
     requires { (6 + head_length kind ≤ length out.old) × (head_length kind + n < 4294967294) }
     ensures { out.new ≡ (frame_of kind.number (head_length kind + n) ++ to_little_endian 256 (head_length kind) len) ++ drop (6 + head_length kind) out.old }
 {
-    let head = kind::head_length(kind);
+    let head = kind.head_length();
     let body = head + n;
-    frame::write(kind.number, body as u32, out);
+    frame::write(kind.number, body as u32, out).unwrap();
     let start = FRAME_LENGTH + head;
     little::write(len, &mut out[FRAME_LENGTH..start]);
 }
 
 // A record of the kind `from`, for a file of this length, as one of the kind `to`. A refusal leaves the lent bytes as they are.
-fn convert(from: Kind, to: Kind, len: u64, bytes: &[u8], out: &mut [u8]) -> Written
-    ensures { (result ≡ convert from to len bytes.now out.old) × (out.new ≡ convert_after from to len bytes.now out.old) }
+fn convert(from: Kind, to: Kind, len: u64, bytes: &[u8], out: &mut [u8]) -> Result<usize, Refusal>
+    ensures { (numbered result ≡ convert from to len bytes.now out.old) × (out.new ≡ convert_after from to len bytes.now out.old) }
 {
-    let k = record::refusal(from, bytes);
-    if 0 < k {
-        return Written::Refused(k);
-    }
+    record::check(from, bytes)?;
     if !record::ends_by(from, bytes, len) {
-        return Written::Refused(65);
+        return Err(Refusal::PastFileLength);
     }
     let pairs = record::pair_part(from, bytes);
     let n = pairs.len();
-    let start = FRAME_LENGTH + kind::head_length(to);
+    let start = FRAME_LENGTH + to.head_length();
     let end = start + n;
     if out.len() < end {
-        return Written::Refused(55);
+        return Err(Refusal::TooFewBytes);
     }
     write_head(to, len, n, out);
-    let read_as = from.second;
-    let written_as = to.second;
-    write_pairs(read_as, written_as, pairs, &mut out[start..end]);
-    Written::Bytes(end)
+    write_pairs(from.second, to.second, pairs, &mut out[start..end]);
+    Ok(end)
 }
 
 // Kind 1 as kind 2, for a file of this length.
-pub fn to_two(len: u64, bytes: &[u8], out: &mut [u8]) -> Written
-    ensures { (result ≡ to_two len bytes.now out.old) × (out.new ≡ to_two_after len bytes.now out.old) }
+pub fn to_two(len: u64, bytes: &[u8], out: &mut [u8]) -> Result<usize, Refusal>
+    ensures { (numbered result ≡ to_two len bytes.now out.old) × (out.new ≡ to_two_after len bytes.now out.old) }
 {
-    convert(kind::one(), kind::two(), len, bytes, out)
+    convert(Kind::ONE, Kind::TWO, len, bytes, out)
 }
 
 // Kind 2 as kind 1, by the file length that it has.
-pub fn to_one(bytes: &[u8], out: &mut [u8]) -> Written
-    ensures { (result ≡ to_one bytes.now out.old) × (out.new ≡ to_one_after bytes.now out.old) }
+pub fn to_one(bytes: &[u8], out: &mut [u8]) -> Result<usize, Refusal>
+    ensures { (numbered result ≡ to_one bytes.now out.old) × (out.new ≡ to_one_after bytes.now out.old) }
 {
-    convert(
-        kind::two(),
-        kind::one(),
-        record::file_length(bytes),
-        bytes,
-        out,
-    )
+    convert(Kind::TWO, Kind::ONE, record::file_length(bytes), bytes, out)
 }

@@ -1,9 +1,10 @@
 -- `conversion::write_pair`.
 use Prim.Native.Nat.{◌+◌, ◌≤◌}
-use mathlib.Core.Path.{refl, ◌∙◌}
-use mathlib.Core.List.{[], append-nil}
+use mathlib.Core.Path.{◌≡◌, ◌∙◌}
+use mathlib.Core.List.{◌++◌, append-nil}
 use native.Mathlib.Omega.{arith}
-use lib.ListN.{length, drop_of_length-le}
+use lib.ListN.{length, take, drop, drop_of_length-le}
+use lib.Seq.{length-take-le}
 use Rattle.octets.specs.Digits.{to_little_endian}
 use Rattle.octets.proofs.Digits.{length-to_little}
 use Rattle.savedrecords.specs.Kind.{second_of}
@@ -14,9 +15,12 @@ pub returns : goal.returns
 returns c =
     let x = c.args in
     let out = x.out.now in
+    let start = to_little_endian 256 8 x.pair.start in
     let number = second_of x.second x.pair.start (x.pair.start + x.pair.length) in
     let none : length out ≤ 16 = omega arith in
-    let first = number_behind out out [] _ 0 8 refl refl x.pair.start (omega arith) c.write.ensures in
+    let eight : length (take 8 out) ≡ 8 = length-take-le 8 out (omega arith) in
+    let first : c.write.new.out ≡ start = rw eight at c.write.ensures in
+    let front : c.write.new.out ++ drop 8 out ≡ start ++ drop 8 out = rw first in
     let e = rw c.second_of-number.ensures at c.write-2.ensures in
-    number_behind out _ (to_little_endian 256 8 x.pair.start) _ 8 8 first (length-to_little 256 8 x.pair.start) number (omega arith) e
+    number_behind out _ start _ 8 8 front (length-to_little 256 8 x.pair.start) number (omega arith) e
     ∙ rw (drop_of_length-le out none) (append-nil _)

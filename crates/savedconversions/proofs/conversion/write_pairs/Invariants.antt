@@ -8,8 +8,7 @@ use Rattle.savedconversions.proofs.conversion.write_pairs.Given as goal
 
 abbrev pub invariant-loop-k : goal.invariant-loop-k
 invariant-loop-k l =
-    (l.k ≤ l.n) × (l.n ≡ length l.pairs / 16) × (length l.out ≡ length l.initial.out) × (length l.initial.out ≡ 16 * l.n)
-    × (take (16 * l.k) l.out ++ pair_bytes l.to (pairs_in l.from (l.n - l.k) (drop (16 * l.k) l.pairs)) ≡ pair_bytes l.to (pairs_in l.from l.n l.pairs))
-
-abbrev pub decreases-loop-k : goal.decreases-loop-k
-decreases-loop-k l = l.n - l.k
+    let n = length l.pairs / 16 in
+    let k = l.k-iterator.count in
+    (k ≤ n) × (l.k-iterator.iter.size ≡ 16) × (l.k-iterator.iter.rest.now ≡ drop (16 * k) l.pairs) × (length l.out ≡ length l.initial.out)
+    × (take (16 * k) l.out ++ pair_bytes l.to (pairs_in l.from (n - k) (drop (16 * k) l.pairs)) ≡ pair_bytes l.to (pairs_in l.from n l.pairs))
