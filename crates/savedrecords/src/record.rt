@@ -32,6 +32,7 @@ fn check_frame(number: u16, bytes: &[u8]) -> Result<(), Refusal>
 }
 
 // The bytes after the frame and the file length.
+// Stays: kind and bytes as two parameters, since of a struct with lent bytes each clause would say `self.entry.kind` and `self.entry.bytes.now`.
 pub fn pair_part(kind: Kind, bytes: &[u8]) -> &[u8]
     ensures { result.now ≡ pair_part kind bytes.now }
 {
