@@ -77,5 +77,5 @@ claim-laws =
       slot_inside = slot_inside;
       neighbours = λ s e l o h. judged_is l o s e h;
       joined = λ s e l m o h j. j.by_rule o h refl;
-      not_joined = λ s e l m j. j.unchanged refl;
+      not_joined = λ s e k l m j. j.unchanged k refl;
     }

@@ -81,3 +81,5 @@ module _ (l : List ℕ) (o : obeys l ≡ true) where
           go (no y) =
               rw (lt-ltb 0 (end_at (capacity l - 1) (pairs_of l)) (end_at-used (capacity l - 1) 0 (pairs_of l) ruled (omega (arith, fits))))
               (sym (lt-ltb (capacity l) (size (join s e (pairs_of l))) (omega (arith, size-joined, count_starting_by-le e (pairs_of l), fits))))
+
+pub ruleset slots = (at-past, at-is, past_is)

@@ -1,57 +1,33 @@
 -- The judgement of a range, case by case: its number, and its slot where it is accepted.
 use Prim.Native.Nat.{ℕ, ◌≤◌, ◌<◌}
-use mathlib.Core.Path.{◌≡◌, refl, sym, ap, ◌∙◌}
+use mathlib.Core.Path.{◌≡◌, refl, sym, ◌∙◌}
 use mathlib.Core.Logic.{◌↔◌}
-use mathlib.Core.Bool.{Bool, true, false, cond, true≢false, false≢true}
+use mathlib.Core.Bool.{Bool, true, false, cond, true≢false}
 use mathlib.Core.List.{List}
 use native.Mathlib.Omega.{arith}
 use borrow.Author.Tests.{ltb-true, ltb-false}
 use lib.Dec.{ltb}
 use Rattle.ledger.specs.Pairs.{Pairs, size, join, overlaps}
 use Rattle.ledger.specs.Ledger.{obeys, pairs_of, capacity}
-use Rattle.claims.specs.Claim.{slot_of, judged, claim_number, PutResult}
+use Rattle.answers.specs.Refusal.{number_in}
+use Rattle.claims.specs.Claim.{slot_of, judged, PutResult}
 use Rattle.claims.specs.declared.claim.Slot.{Slot}
-use Rattle.claims.specs.declared.claim.ClaimCheck.{ClaimCheck}
-use Rattle.claims.specs.declared.claim.ClaimCheck.TheVariants.{Overlaps, Full, Free}
+use Rattle.std.specs.Prelude.{Result, Ok, Err}
 use Rattle.ledger.proofs.PairsJoinSlot.{count_starting_by-le}
 use Rattle.claims.proofs.JoinRoom.{fits, at-past}
 
--- ---- the answers are not each other
-
-is_at : ClaimCheck → Bool
-is_at Overlaps = false
-is_at Full = false
-is_at (Free slot) = true
-
-pub shares-not-at : (slot : Slot) → Overlaps ≡ Free slot → ⊥
-unfolding is_at
-shares-not-at slot e = false≢true (ap is_at e)
-
-pub full-not-at : (slot : Slot) → Full ≡ Free slot → ⊥
-unfolding is_at
-full-not-at slot e = false≢true (ap is_at e)
-
-slot_in : Slot → ClaimCheck → Slot
-slot_in x Overlaps = x
-slot_in x Full = x
-slot_in x (Free slot) = slot
-
-pub same-slot : (x y : Slot) → Free x ≡ Free y → x ≡ y
-unfolding slot_in
-same-slot x y e = ap (slot_in x) e
-
 -- ---- the three cases
 
-pub data Case (r s e : ℕ) (ps : Pairs) : ClaimCheck → Type 0 where
-  shared : overlaps s e ps ≡ true → Case r s e ps Overlaps
-  full : overlaps s e ps ≡ false → r < size (join s e ps) → Case r s e ps Full
-  there : overlaps s e ps ≡ false → size (join s e ps) ≤ r → Case r s e ps (Free (slot_of s e ps))
+pub data Case (r s e : ℕ) (ps : Pairs) : Result Slot ℕ → Type 0 where
+  shared : overlaps s e ps ≡ true → Case r s e ps (Err 17)
+  full : overlaps s e ps ≡ false → r < size (join s e ps) → Case r s e ps (Err 18)
+  there : overlaps s e ps ≡ false → size (join s e ps) ≤ r → Case r s e ps (Ok (slot_of s e ps))
 
 pub by-case : (r s e : ℕ) (ps : Pairs) → Case r s e ps (judged r s e ps)
 unfolding judged
 by-case r s e ps = go (overlaps s e ps) (ltb r (size (join s e ps))) refl refl
   where
-    go : (t u : Bool) → overlaps s e ps ≡ t → ltb r (size (join s e ps)) ≡ u → Case r s e ps (cond t Overlaps (cond u Full (Free (slot_of s e ps))))
+    go : (t u : Bool) → overlaps s e ps ≡ t → ltb r (size (join s e ps)) ≡ u → Case r s e ps (cond t (Err 17) (cond u (Err 18) (Ok (slot_of s e ps))))
     go true u x y = shared x
     go false true x y = full x (ltb-true r (size (join s e ps)) y)
     go false false x y = there x (ltb-false r (size (join s e ps)) y)
@@ -59,18 +35,17 @@ by-case r s e ps = go (overlaps s e ps) (ltb r (size (join s e ps))) refl refl
 -- ---- the numbers
 
 module _ (r s e : ℕ) (ps : Pairs) where
-  abbrev pub Numbers : ClaimCheck → Type 0
+  abbrev pub Numbers : Result Slot ℕ → Type 0
   Numbers x =
-      ((claim_number x ≡ 17) ↔ (overlaps s e ps ≡ true))
-      × ((claim_number x ≡ 18) ↔ ((overlaps s e ps ≡ false) × (r < size (join s e ps))))
-      × ((claim_number x ≡ 0) ↔ ((overlaps s e ps ≡ false) × (size (join s e ps) ≤ r)))
-      × (claim_number x ≡ 0 → x ≡ Free (slot_of s e ps))
+      ((number_in x ≡ 17) ↔ (overlaps s e ps ≡ true))
+      × ((number_in x ≡ 18) ↔ ((overlaps s e ps ≡ false) × (r < size (join s e ps))))
+      × ((number_in x ≡ 0) ↔ ((overlaps s e ps ≡ false) × (size (join s e ps) ≤ r)))
+      × (number_in x ≡ 0 → x ≡ Ok (slot_of s e ps))
 
   pub numbers : Numbers (judged r s e ps)
-  unfolding claim_number
   numbers = go (by-case r s e ps)
     where
-      go : {x : ClaimCheck} → Case r s e ps x → Numbers x
+      go : {x : Result Slot ℕ} → Case r s e ps x → Numbers x
       go (shared a) = (
         (λ q. a, λ q. refl),
         (λ q. absurd (omega arith), λ q. absurd (true≢false (sym a ∙ q.0))),
@@ -92,13 +67,11 @@ module _ (r s e : ℕ) (ps : Pairs) where
 
 -- ---- the slot of a range that is accepted
 
-module _ (s e : ℕ) (l : List ℕ) (slot : Slot) (q : judged (capacity l) s e (pairs_of l) ≡ Free slot) where
+module _ (s e : ℕ) (l : List ℕ) (slot : Slot) (q : judged (capacity l) s e (pairs_of l) ≡ Ok slot) where
   pub slot_is : slot ≡ slot_of s e (pairs_of l)
-  unfolding claim_number
-  slot_is = same-slot slot (slot_of s e (pairs_of l)) (sym q ∙ (numbers (capacity l) s e (pairs_of l)).3 (rw q))
+  slot_is = let e : ◌≡◌ {A = Result Slot ℕ} (Ok slot) (Ok (slot_of s e (pairs_of l))) = sym q ∙ (numbers (capacity l) s e (pairs_of l)).3 (rw q) in cc
 
   pub slot-room : size (join s e (pairs_of l)) ≤ capacity l
-  unfolding claim_number
   slot-room = ((numbers (capacity l) s e (pairs_of l)).2.0 (rw q)).1
 
 -- a range's slot lies inside a ledger by the rule
@@ -111,3 +84,5 @@ module _ (s e : ℕ) (l : List ℕ) (o : obeys l ≡ true) (h : s < e) where
 pub puts-outside : (slot : Slot) (s e : ℕ) (l : List ℕ) → ((slot.at ≤ slot.past) × (slot.past ≤ capacity l) → ⊥) → PutResult slot s e l l
 puts-outside slot s e l n =
     record { by_rule = λ o h q. absurd (n (rw (slot_is s e l slot q) (slot_inside s e l o h))); same_length = refl }
+
+pub ruleset putting = (slot_is, slot-room)

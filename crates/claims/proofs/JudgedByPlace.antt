@@ -14,11 +14,10 @@ use Rattle.ledger.specs.Ledger.{obeys, pairs_of, capacity}
 use Rattle.claims.specs.Claim.{slot_of, judged}
 use Rattle.claims.specs.Neighbours.{Pair, pair_at, shared_by, starts_by, slot_by, lacks_pair, judged_by}
 use Rattle.claims.specs.declared.claim.Slot.{Slot}
-use Rattle.claims.specs.declared.claim.ClaimCheck.TheVariants.{Overlaps, Full, Free}
+use Rattle.std.specs.Prelude.{Result, Ok, Err}
 use Rattle.ledger.proofs.LedgerRule.{start_is, end_is}
 use Rattle.ledger.proofs.PairsAtPlace.{starting-at}
 use Rattle.claims.proofs.JoinRoom.{at-is, past_is, even, ruled, room-wide, room-none, room-last}
-use Rattle.claims.proofs.Judged.{shares-not-at, full-not-at, same-slot}
 use Rattle.claims.proofs.Neighbours.{numbered, two-share, two-touch}
 
 -- ---- in a ledger by the rule
@@ -62,8 +61,8 @@ module _ (l : List ℕ) (o : obeys l ≡ true) (s e : ℕ) (h : s < e) where
       at = count_ending_below s (pairs_of l)
 
       go : (t : Bool) → overlaps s e (pairs_of l) ≡ t
-          → cond t Overlaps (cond (ltb (capacity l) (size (join s e (pairs_of l)))) Full (Free (slot_of s e (pairs_of l))))
-          ≡ cond t Overlaps (cond (lacks_pair (capacity l) (slot_by e at (pair_at l at) (pair_at l (at + 1))) (pair_at l (capacity l - 1))) Full (Free (slot_by e at (pair_at l at) (pair_at l (at + 1)))))
+          → cond {A = Result Slot ℕ} t (Err 17) (cond (ltb (capacity l) (size (join s e (pairs_of l)))) (Err 18) (Ok (slot_of s e (pairs_of l))))
+          ≡ cond {A = Result Slot ℕ} t (Err 17) (cond (lacks_pair (capacity l) (slot_by e at (pair_at l at) (pair_at l (at + 1))) (pair_at l (capacity l - 1))) (Err 18) (Ok (slot_by e at (pair_at l at) (pair_at l (at + 1)))))
       go true x = refl
       go false x = rw (lacks-is (slot_by e at (pair_at l at) (pair_at l (at + 1))) (slot_is x), slot_is x)
 
@@ -89,14 +88,14 @@ slot_inside e at l h = go (starts_by e (pair_at l at)) (starts_by e (pair_at l (
     go true true x y = (omega arith, omega (arith, starts-inside e (at + 1) l y))
 
 -- a slot that was answered is the one by the place
-pub free-slot : (r s e at : ℕ) (here next last : Pair) (slot : Slot) → judged_by r s e at here next last ≡ Free slot → slot_by e at here next ≡ slot
+pub free-slot : (r s e at : ℕ) (here next last : Pair) (slot : Slot) → judged_by r s e at here next last ≡ Ok slot → slot_by e at here next ≡ slot
 unfolding judged_by
 free-slot r s e at here next last slot q = go (shared_by s e here || shared_by s e next) (lacks_pair r (slot_by e at here next) last) q
   where
-    go : (t u : Bool) → cond t Overlaps (cond u Full (Free (slot_by e at here next))) ≡ Free slot → slot_by e at here next ≡ slot
-    go true u k = absurd (shares-not-at slot k)
-    go false true k = absurd (full-not-at slot k)
-    go false false k = same-slot (slot_by e at here next) slot k
+    go : (t u : Bool) → cond {A = Result Slot ℕ} t (Err 17) (cond u (Err 18) (Ok (slot_by e at here next))) ≡ Ok slot → slot_by e at here next ≡ slot
+    go true u k = cc
+    go false true k = cc
+    go false false k = cc
 
 -- ---- the pairs that start by an end
 
@@ -104,3 +103,5 @@ pub starting-is : (e at : ℕ) (l : List ℕ) → obeys l ≡ true → at ≡ co
 unfolding starts_by
 starting-is e at l o a =
     rw (start_is (capacity l) l (even l o) o at, end_is (capacity l) l (even l o) o at, a) (sym (starting-at e 0 (pairs_of l) (ruled l o)))
+
+pub ruleset judging = (judged_is, slot_inside, free-slot)

@@ -1,4 +1,4 @@
-mod ShiftLoops
+mod Shifts
 mod ShiftedPairs
 mod JoinRoom
 mod Neighbours

@@ -2,26 +2,19 @@
 --
 --     pairs that end below its start   those it shares a place with or touches   pairs that start above its end
 --     0 .. at                          at .. past                                past ..
-use Rattle.std.specs.Prelude.{ℕ, ◌≤◌, ◌<◌, ◌≡◌, ◌↔◌, Bool, true, false, cond, List, ltb, length}
+use Rattle.std.specs.Prelude.{ℕ, ◌≤◌, ◌<◌, ◌≡◌, ◌↔◌, true, cond, Result, Ok, Err, List, ltb, length}
+use Rattle.answers.specs.Loaded.{Loaded}
 use Rattle.ledger.specs.Pairs.{Pairs, size, join, overlaps, count_ending_below, count_starting_by}
 use Rattle.ledger.specs.Ledger.{obeys, pairs_of, laid_out, capacity}
 use Rattle.claims.specs.declared.claim.Slot.{Slot}
-use Rattle.claims.specs.declared.claim.ClaimCheck.{ClaimCheck}
-use Rattle.claims.specs.declared.claim.ClaimCheck.TheVariants.{Overlaps, Full, Free}
 
 -- the pairs that the range from s to e becomes one with are those from `at` up to `past`
 unfoldable pub slot_of : ℕ → ℕ → Pairs → Slot
 slot_of s e ps = record { at = count_ending_below s ps; past = count_starting_by e ps }
 
 -- 17, then 18: the range shares a place with a claimed one; the ledger would need more pairs than it has
-unfoldable pub judged : ℕ → ℕ → ℕ → Pairs → ClaimCheck
-judged r s e ps = cond (overlaps s e ps) Overlaps (cond (ltb r (size (join s e ps))) Full (Free (slot_of s e ps)))
-
--- the fault of a header whose range is so judged, 0 where there is none
-unfoldable pub claim_number : ClaimCheck → ℕ
-claim_number Overlaps = 17
-claim_number Full = 18
-claim_number (Free slot) = 0
+unfoldable pub judged : ℕ → ℕ → ℕ → Pairs → Result Slot ℕ
+judged r s e ps = cond (overlaps s e ps) (Err 17) (cond (ltb r (size (join s e ps))) (Err 18) (Ok (slot_of s e ps)))
 
 -- ---- what the calls answer and leave
 --
@@ -29,20 +22,21 @@ claim_number (Free slot) = 0
 -- document 01 has no such call, since each of its entries has tested, zeroed or overwritten the ledger, and no range there is empty.
 
 -- whether the range from s to e can be claimed in the ledger is answered with r
-pub record JudgeResult (s e : ℕ) (ledger : List ℕ) (r : ClaimCheck) : Type 0 where
+pub record JudgeResult (s e : ℕ) (ledger : List ℕ) (r : Result Slot ℕ) : Type 0 where
   pub by_rule : obeys ledger ≡ true → s < e → r ≡ judged (capacity ledger) s e (pairs_of ledger)
   -- a slot lies inside any ledger
-  pub slot_inside : (slot : Slot) → r ≡ Free slot → (slot.at ≤ slot.past) × (slot.past ≤ capacity ledger)
+  pub slot_inside : (slot : Slot) → r ≡ Ok slot → (slot.at ≤ slot.past) × (slot.past ≤ capacity ledger)
 
 -- the ledger l is m once the range from s to e is put at the slot
 pub record PutResult (slot : Slot) (s e : ℕ) (l m : List ℕ) : Type 0 where
-  pub by_rule : obeys l ≡ true → s < e → judged (capacity l) s e (pairs_of l) ≡ Free slot → m ≡ laid_out (capacity l) (join s e (pairs_of l))
+  pub by_rule : obeys l ≡ true → s < e → judged (capacity l) s e (pairs_of l) ≡ Ok slot → m ≡ laid_out (capacity l) (join s e (pairs_of l))
   pub same_length : length m ≡ length l
 
 -- the range from s to e was joined to the ledger l, or it was not, and the ledger is m
-pub record JoinResult (s e : ℕ) (l : List ℕ) (done : Bool) (m : List ℕ) : Type 0 where
-  pub done_where : obeys l ≡ true → s < e → (done ≡ true) ↔ (size (join s e (pairs_of l)) ≤ capacity l)
-  pub by_rule : obeys l ≡ true → s < e → done ≡ true → m ≡ laid_out (capacity l) (join s e (pairs_of l))
-  -- what is not done changes nothing in any ledger
-  pub unchanged : done ≡ false → m ≡ l
+pub record JoinResult (s e : ℕ) (l : List ℕ) (answer : Loaded) (m : List ℕ) : Type 0 where
+  pub done_where : obeys l ≡ true → s < e → (answer ≡ Ok tt) ↔ (size (join s e (pairs_of l)) ≤ capacity l)
+  pub by_rule : obeys l ≡ true → s < e → answer ≡ Ok tt → m ≡ laid_out (capacity l) (join s e (pairs_of l))
+  -- what is not done is refused by 52, and changes nothing in any ledger
+  pub refused_by : (k : ℕ) → answer ≡ Err k → k ≡ 52
+  pub unchanged : (k : ℕ) → answer ≡ Err k → m ≡ l
   pub same_length : length m ≡ length l

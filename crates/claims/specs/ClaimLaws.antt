@@ -1,19 +1,19 @@
 -- What the judgement of a range and its slot mean, a field for each sentence.
-use Rattle.std.specs.Prelude.{ℕ, ◌+◌, ◌*◌, ◌-◌, ◌≤◌, ◌<◌, ◌≡◌, ◌↔◌, true, false, List, get_or}
+use Rattle.std.specs.Prelude.{ℕ, ◌+◌, ◌*◌, ◌-◌, ◌≤◌, ◌<◌, ◌≡◌, ◌↔◌, true, false, Ok, Err, List, get_or}
+use Rattle.answers.specs.Refusal.{number_in}
 use Rattle.ledger.specs.Pairs.{Pairs, size, join, overlaps, count_ending_below}
 use Rattle.ledger.specs.Ledger.{obeys, pairs_of, laid_out, capacity}
-use Rattle.claims.specs.Claim.{slot_of, judged, claim_number, JoinResult}
+use Rattle.claims.specs.Claim.{slot_of, judged, JoinResult}
 use Rattle.claims.specs.Neighbours.{pair_at, judged_by}
-use Rattle.claims.specs.declared.claim.ClaimCheck.TheVariants.{Free}
 
 pub record ClaimLaws : Type 0 where
   -- 17: the range shares a place with a claimed one
-  pub number_17 : (r s e : ℕ) (ps : Pairs) → (claim_number (judged r s e ps) ≡ 17) ↔ (overlaps s e ps ≡ true)
+  pub number_17 : (r s e : ℕ) (ps : Pairs) → (number_in (judged r s e ps) ≡ 17) ↔ (overlaps s e ps ≡ true)
   -- 18: it shares none, and the ledger with it would need more than r pairs
-  pub number_18 : (r s e : ℕ) (ps : Pairs) → (claim_number (judged r s e ps) ≡ 18) ↔ ((overlaps s e ps ≡ false) × (r < size (join s e ps)))
+  pub number_18 : (r s e : ℕ) (ps : Pairs) → (number_in (judged r s e ps) ≡ 18) ↔ ((overlaps s e ps ≡ false) × (r < size (join s e ps)))
   -- no fault: it shares none, and there are enough pairs; it goes to its slot
-  pub number_0 : (r s e : ℕ) (ps : Pairs) → (claim_number (judged r s e ps) ≡ 0) ↔ ((overlaps s e ps ≡ false) × (size (join s e ps) ≤ r))
-  pub accepted : (r s e : ℕ) (ps : Pairs) → claim_number (judged r s e ps) ≡ 0 → judged r s e ps ≡ Free (slot_of s e ps)
+  pub number_0 : (r s e : ℕ) (ps : Pairs) → (number_in (judged r s e ps) ≡ 0) ↔ ((overlaps s e ps ≡ false) × (size (join s e ps) ≤ r))
+  pub accepted : (r s e : ℕ) (ps : Pairs) → number_in (judged r s e ps) ≡ 0 → judged r s e ps ≡ Ok (slot_of s e ps)
   -- in a ledger that obeys the rule the pairs before the slot end below s
   pub before_slot : (s e i : ℕ) (l : List ℕ) → obeys l ≡ true → i < (slot_of s e (pairs_of l)).at → get_or l (2 * i + 1) 0 < s
   -- those of the slot share a place with the range or touch it
@@ -28,5 +28,5 @@ pub record ClaimLaws : Type 0 where
   pub neighbours : (s e : ℕ) (l : List ℕ) → obeys l ≡ true → s < e
       → judged (capacity l) s e (pairs_of l) ≡ judged_by (capacity l) s e (count_ending_below s (pairs_of l)) (pair_at l (count_ending_below s (pairs_of l))) (pair_at l (count_ending_below s (pairs_of l) + 1)) (pair_at l (capacity l - 1))
   -- a range joined to a ledger that obeys the rule leaves one ledger; one that was not joined leaves any ledger as it was
-  pub joined : (s e : ℕ) (l m : List ℕ) → obeys l ≡ true → s < e → JoinResult s e l true m → m ≡ laid_out (capacity l) (join s e (pairs_of l))
-  pub not_joined : (s e : ℕ) (l m : List ℕ) → JoinResult s e l false m → m ≡ l
+  pub joined : (s e : ℕ) (l m : List ℕ) → obeys l ≡ true → s < e → JoinResult s e l (Ok tt) m → m ≡ laid_out (capacity l) (join s e (pairs_of l))
+  pub not_joined : (s e k : ℕ) (l m : List ℕ) → JoinResult s e l (Err k) m → m ≡ l

@@ -1,8 +1,6 @@
 -- A range judged from its place (document 02, Item 2): by the pair there, the one after it and the ledger's last pair.
-use Rattle.std.specs.Prelude.{ℕ, ◌+◌, ◌*◌, Bool, cond, ◌&&◌, ◌||◌, List, leb, ltb, eqb, get_or}
+use Rattle.std.specs.Prelude.{ℕ, ◌+◌, ◌*◌, Bool, cond, Result, Ok, Err, ◌&&◌, ◌||◌, List, leb, ltb, eqb, get_or}
 use Rattle.claims.specs.declared.claim.Slot.{Slot}
-use Rattle.claims.specs.declared.claim.ClaimCheck.{ClaimCheck}
-use Rattle.claims.specs.declared.claim.ClaimCheck.TheVariants.{Overlaps, Full, Free}
 
 -- a pair as it is read: its two entries, 0 and 0 past the last pair
 pub record Pair : Type 0 where
@@ -29,7 +27,7 @@ unfoldable pub lacks_pair : ℕ → Slot → Pair → Bool
 lacks_pair r slot last = eqb slot.at slot.past && (eqb r 0 || ltb 0 last.end)
 
 -- 17, then 18, then where it goes
-unfoldable pub judged_by : ℕ → ℕ → ℕ → ℕ → Pair → Pair → Pair → ClaimCheck
+unfoldable pub judged_by : ℕ → ℕ → ℕ → ℕ → Pair → Pair → Pair → Result Slot ℕ
 judged_by r s e at here next last =
     let slot = slot_by e at here next in
-    cond (shared_by s e here || shared_by s e next) Overlaps (cond (lacks_pair r slot last) Full (Free slot))
+    cond (shared_by s e here || shared_by s e next) (Err 17) (cond (lacks_pair r slot last) (Err 18) (Ok slot))

@@ -1,13 +1,12 @@
 -- `claim::join`.
 use Prim.Native.Nat.{◌≤◌, ◌<◌}
 use mathlib.Core.Path.{◌≡◌, refl, sym, ◌∙◌}
-use mathlib.Core.Bool.{true, false≢true}
+use mathlib.Core.Bool.{true}
 use native.Mathlib.Omega.{arith}
 use borrow.Author.Tests.{ltb-true, ltb-false}
 use lib.Dec.{ltb}
 use Rattle.ledger.specs.Pairs.{size, join}
 use Rattle.ledger.specs.Ledger.{obeys, pairs_of, capacity}
-use Rattle.claims.proofs.JoinRoom.{at-is, past_is}
 use Rattle.claims.proofs.JudgedByPlace.{lacks-is}
 use Rattle.claims.proofs.claim.join.Goals as goal
 use Rattle.claims.proofs.claim.join.Goals.{After-full, Else-full, Then-full}
@@ -17,7 +16,7 @@ lacks : (c : After-full) → let x = c.args in let l = x.ledger.now in
     obeys l ≡ true → x.start < x.end → c.full.result ≡ ltb (capacity l) (size (join x.start x.end (pairs_of l)))
 lacks c o h =
     let x = c.args in
-    c.full.ensures ∙ lacks-is x.ledger.now o x.start x.end h c.locate-slot.result (c.locate-slot.ensures.2 o h)
+    c.full.ensures ∙ lacks-is x.ledger.now o x.start x.end h c.locate-found.result (c.locate-found.ensures.2 o h)
 
 no_room : (c : Then-full) → let x = c.args in let l = x.ledger.now in
     obeys l ≡ true → x.start < x.end → capacity l < size (join x.start x.end (pairs_of l))
@@ -34,9 +33,10 @@ some-room c o h =
 pub returns-then-full : goal.returns-then-full
 returns-then-full c =
     record {
-      done_where = λ o h. (λ e. absurd (false≢true e), λ g. absurd (omega (arith, no_room c o h)));
-      by_rule = λ o h e. absurd (false≢true e);
-      unchanged = λ e. refl;
+      done_where = λ o h. (λ e. absurd (cc), λ g. absurd (omega (arith, no_room c o h)));
+      by_rule = λ o h e. absurd (cc);
+      refused_by = λ k e. cc;
+      unchanged = λ k e. refl;
       same_length = refl;
     }
 
@@ -45,10 +45,8 @@ returns c =
     let x = c.args in
     record {
       done_where = λ o h. (λ e. some-room (goal.at.returns c).Else-full o h, λ g. refl);
-      by_rule = λ o h e.
-          let is = c.locate-slot.ensures.2 o h in
-          c.merge.ensures o h (at-is x.start x.end x.ledger.now c.locate-slot.result is) (past_is x.start x.end x.ledger.now c.locate-slot.result is)
-          (some-room (goal.at.returns c).Else-full o h);
-      unchanged = λ e. absurd (false≢true (sym e));
+      by_rule = λ o h e. c.merge.ensures o h (c.locate-found.ensures.2 o h) (some-room (goal.at.returns c).Else-full o h);
+      refused_by = λ k e. absurd (cc);
+      unchanged = λ k e. absurd (cc);
       same_length = c.merge.auto.ledger;
     }

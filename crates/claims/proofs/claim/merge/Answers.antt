@@ -9,7 +9,7 @@ use Rattle.ledger.specs.Pairs.{size, count_starting_by}
 use Rattle.ledger.specs.Ledger.{obeys, pairs_of, largest}
 use Rattle.ledger.proofs.LedgerSizes.{ends-fit}
 use Rattle.ledger.proofs.PairsJoinSlot.{count_starting_by-le}
-use Rattle.claims.proofs.JoinRoom.{size-joined}
+use Rattle.claims.proofs.JoinRoom.{at-is, past_is, size-joined}
 use Rattle.claims.proofs.JoinInPlace.{used-is, own-joined, wide-joined}
 use Rattle.claims.proofs.claim.merge.Goals as goal
 
@@ -20,18 +20,22 @@ used l end past n o fit p e =
     let u = used-is l o (ends-fit l fit) in
     e o (omega (arith, u, count_starting_by-le end (pairs_of l))) ∙ u
 
-pub returns-then-at-past : goal.returns-then-at-past
-returns-then-at-past c o h a p g =
+pub returns-else-slot : goal.returns-else-slot
+returns-else-slot c o h q g =
     let x = c.args in
     let l = x.ledger.now in
-    let u = used l x.end x.past c.first_pair_after-used.result o (λ i. omega (arith, c.slice_known-1.given i)) p c.first_pair_after-used.ensures.2 in
-    c.widen.ensures ∙ rw (a, p, u) (wide-joined l o x.start x.end h (λ z. c.if-at-past.true (a ∙ z ∙ sym p)))
+    let a = at-is x.start x.end l x.slot q in
+    let p = past_is x.start x.end l x.slot q in
+    let u = used l x.end x.slot.past c.first_pair_after-used.result o (λ i. omega (arith, c.slice_known-1.given i)) p c.first_pair_after-used.ensures.2 in
+    c.widen.ensures ∙ rw (a, p, u) (wide-joined l o x.start x.end h (λ z. c.if-slot.false (a ∙ z ∙ sym p)))
 
-pub returns : goal.returns
-returns c o h a p g =
+pub returns-then-slot : goal.returns-then-slot
+returns-then-slot c o h q g =
     let x = c.args in
     let l = x.ledger.now in
-    let u = used l x.end x.past c.first_pair_after-used.result o (λ i. omega (arith, c.slice_known-1.given i)) p c.first_pair_after-used.ensures.2 in
-    let m = sym a ∙ c.if-at-past.false ∙ p in
+    let a = at-is x.start x.end l x.slot q in
+    let p = past_is x.start x.end l x.slot q in
+    let u = used l x.end x.slot.past c.first_pair_after-used.result o (λ i. omega (arith, c.slice_known-1.given i)) p c.first_pair_after-used.ensures.2 in
+    let m = sym a ∙ c.if-slot.true ∙ p in
     c.put_own.ensures (omega (arith, u, m, g, size-joined l o x.start x.end h, count_starting_by-le x.end (pairs_of l)))
     ∙ rw (a, u) (own-joined l o x.start x.end h m g)
