@@ -1,16 +1,14 @@
--- The bytes left of the payloads as two lists of numbers, without the channels that have none left.
-use Rattle.std.specs.Prelude.{ℕ, cond, List, [], ◌∷◌, eqb}
+-- The bytes left of the payloads as ranges, without the channels that have none left.
+use Rattle.std.specs.Prelude.{cond, List, [], ◌∷◌, eqb}
+use Rattle.rangechecks.specs.declared.disjoint.Range.{Range}
 use Rattle.transfer.specs.declared.state.Channel.{Channel}
 
--- a number of each channel that has bytes left
-unfoldable pub of_payloads : (Channel → ℕ) → List Channel → List ℕ
-of_payloads f [] = []
-of_payloads f (k ∷ ks) =
-    let after = of_payloads f ks in
-    cond (eqb k.left 0) after (f k ∷ after)
+abbrev pub rest_of : Channel → Range
+rest_of k = record { start = k.next; length = k.left }
 
-abbrev pub nexts_of : List Channel → List ℕ
-nexts_of ks = of_payloads (λ k. k.next) ks
-
-abbrev pub lefts_of : List Channel → List ℕ
-lefts_of ks = of_payloads (λ k. k.left) ks
+-- of each channel that has bytes left
+unfoldable pub rests_of : List Channel → List Range
+rests_of [] = []
+rests_of (k ∷ ks) =
+    let after = rests_of ks in
+    cond (eqb k.left 0) after (rest_of k ∷ after)

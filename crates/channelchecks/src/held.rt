@@ -1,27 +1,28 @@
-// The held bytes of headers: whether those that are not in use are 0.
-ghost use Rattle.std.specs.Prelude.{◌≡◌, true, drop};
+// The held bytes of headers.
+ghost use Rattle.std.specs.Prelude.{◌≡◌, true, ◌≤◌, length, drop};
 ghost use Rattle.ledger.specs.Ledger.{all_zero};
 
-// Whether the held bytes from so many on are all 0. It reads them all, so that the compiler can make vector code of it.
-pub fn zero_from(held: &[u8], from: usize) -> bool
-    ensures { result ≡ all_zero (drop from held.now) }
+// Whether the bytes are all 0. It reads them all, so that the compiler can make vector code of it.
+pub fn all_zero(bytes: &[u8]) -> bool
+    ensures { result ≡ all_zero bytes.now }
 {
-    let mut any: u8 = 0;
-    let mut i = from;
-    while i < held.len() {
-        any = any | held[i];
-        i += 1;
-    }
-    any == 0
+    bytes.iter().fold(0, |any: u8, byte| any | *byte) == 0
 }
 
-// The same, with none read where clean says that all are known to be 0.
-pub fn zero_past(held: &[u8], from: usize, clean: bool) -> bool
-    requires { clean ≡ true → all_zero held.now ≡ true }
-    ensures { result ≡ all_zero (drop from held.now) }
-{
-    if clean {
-        return true;
+// The bytes that a channel can hold of a header, and whether all of them are known to be 0.
+#[derive(Drop)]
+pub struct Held<'a> {
+    pub bytes: &'a [u8],
+    pub clean: bool,
+    ghost known: { clean ≡ true → all_zero bytes.now ≡ true },
+}
+
+impl<'a> Held<'a> {
+    // Whether those from so many on are all 0; none is read where all are known to be.
+    pub fn zero_from(&self, from: usize) -> bool
+        requires { from ≤ length self.now.bytes.now }
+        ensures { result ≡ all_zero (drop from self.now.bytes.now) }
+    {
+        self.clean || all_zero(&self.bytes[from..])
     }
-    zero_from(held, from)
 }

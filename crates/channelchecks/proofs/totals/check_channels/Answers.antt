@@ -1,66 +1,52 @@
 -- `totals::check_channels`: the channels passed, and those that are left, are all.
-use mathlib.Core.Path.{◌≡◌, sym, ◌∙◌}
-use mathlib.Core.Bool.{Bool, true, false}
+use mathlib.Core.Path.{◌≡◌}
+use mathlib.Core.Logic.{inl, inr}
+use mathlib.Core.Bool.{true, false}
+use mathlib.Core.List.{◌∷◌, ◌++◌}
 use native.Mathlib.Omega.{arith}
 use borrow.Author.Rules.{rules}
-use borrow.Author.Tests.{not-true, not-false}
-use lib.ListN.{length, get_or}
+use lib.ListN.{length}
+use Rattle.std.proofs.lemmas.List.{nil_from_length}
+use Rattle.std.specs.Iterator.Adapters.{zip_first, zip_second}
+use Rattle.std.specs.Slice.Iter.{iter_rest, chunks_exact_rest}
 use Rattle.ledger.specs.Ledger.{pairs_of}
-use Rattle.transfer.specs.Channel.{channel_count, blank}
+use Rattle.transfer.specs.Channel.{held_limit}
 use Rattle.transfer.specs.Fit.{channel_fits}
-use Rattle.transfer.proofs.FitChannels.{bytes_at}
-use Rattle.counts.proofs.Sum.{length-mapped}
-use Rattle.channelchecks.proofs.ChannelTotals.{passed_none, fails, passes, passed-all, passed-unfit}
+use Rattle.channelchecks.proofs.ChannelTotals.{zero-parts, fails, passes, passed-all}
 use Rattle.channelchecks.proofs.totals.check_channels.Goals as goal
-use Rattle.channelchecks.proofs.totals.check_channels.Goals.{After-channel_fits_at}
 
--- the answer at the channel at hand
-tested : (c : After-channel_fits_at) (b : Bool) → c.channel_fits_at.result ≡ b → let x = c.args in
-    let k = get_or x.t.channels c.loop-c.c blank in
-    channel_fits (pairs_of x.ledger.now) k.state k (bytes_at x.t.heads c.loop-c.c) ≡ b
-tested c b e = sym c.channel_fits_at.ensures ∙ e
+pub invariant_of-held : goal.invariant_of-held
+invariant_of-held c =
+    let s : chunks_exact_rest (zip_second c.loop-k.k-iterator) ≡ c.in-Some.bytes.now ++ chunks_exact_rest (zip_second c.next.new.self) = search rules in
+    record { known = λ e. (zero-parts _ _ (rw s at (c.loop-k.invariant.2 e))).0 }
 
-pub loop-c-init : goal.loop-c-init
-loop-c-init c =
+pub returns-then-not-channel_fits : goal.returns-then-not-channel_fits
+returns-then-not-channel_fits c =
     let x = c.args in
-    let h : length x.t.channels ≡ channel_count = search (length-mapped, rules) in
-    let g : length x.t.heads ≡ 1024 = search rules in
-    (passed_none (pairs_of x.ledger.now) x.t.channels x.t.heads x.next.now x.left.now c.requires.1 c.requires.2, h, g)
+    let k = c.in-Some.k.now in
+    let held = c.in-Some.bytes.now in
+    let a : iter_rest (zip_first c.loop-k.k-iterator) ≡ k ∷ iter_rest (zip_first c.next.new.self) = search rules in
+    let s : chunks_exact_rest (zip_second c.loop-k.k-iterator) ≡ held ++ chunks_exact_rest (zip_second c.next.new.self) = search rules in
+    let h : length held ≡ held_limit = search rules in
+    let f : channel_fits (pairs_of x.ledger.entries.now) k.state k held ≡ false = search rules in
+    fails (pairs_of x.ledger.entries.now) x.t k _ held _ _ c.loop-k.totals s h (rw a at c.loop-k.invariant.0) f
 
-pub channel_fits_at-requires : goal.channel_fits_at-requires
-channel_fits_at-requires c =
-    (omega arith, c.loop-c.invariant.2, λ e. sym c.zero_from-clean.ensures ∙ e, c.requires.0)
-
-pub returns-then-not-channel_fits_at : goal.returns-then-not-channel_fits_at
-returns-then-not-channel_fits_at c =
-    let s = c.loop-c in
+pub loop-k-preserved : goal.loop-k-preserved
+loop-k-preserved c =
     let x = c.args in
-    let ps = pairs_of x.ledger.now in
-    let t = x.t in
-    let q = tested (goal.at.returns-then-not-channel_fits_at c).After-channel_fits_at false (not-true c.channel_fits_at.result c.if-not-channel_fits_at.true-raw) in
-    let n = fails ps t.channels t.heads s.c (omega (arith, s.invariant.1)) s.next s.left s.p s.invariant.0 q in
-    passed-unfit ps t s.next s.left s.p c.unfit.result s.c s.invariant.0 c.unfit.ensures.0 c.unfit.ensures.1 n
-
-pub add_channel-p-requires : goal.add_channel-p-requires
-add_channel-p-requires c =
-    let v = c.loop-c.invariant.0 in
-    (omega (arith, v.few_packed), omega (arith, v.few_used), omega (arith, v.few_ended))
-
-pub loop-c-preserved : goal.loop-c-preserved
-loop-c-preserved c =
-    let s = c.loop-c in
-    let v = s.invariant in
-    let x = c.args in
-    let t = x.t in
-    let w = c.add_channel-p.ensures in
-    let q = tested (goal.at.loop-c-preserved c).After-channel_fits_at true (not-false c.channel_fits_at.result c.if-not-channel_fits_at.false-raw) in (
-      rw (w.0, w.1, w.2) (passes (pairs_of x.ledger.now) t.channels t.heads s.c (omega (arith, v.1)) s.next s.left s.p v.0 q (omega arith)),
-      v.1,
-      v.2,
+    let k = c.in-Some.k.now in
+    let held = c.in-Some.bytes.now in
+    let a : iter_rest (zip_first c.loop-k.k-iterator) ≡ k ∷ iter_rest (zip_first c.next.new.self) = search rules in
+    let s : chunks_exact_rest (zip_second c.loop-k.k-iterator) ≡ held ++ chunks_exact_rest (zip_second c.next.new.self) = search rules in
+    let h : length held ≡ held_limit = search rules in
+    let f : channel_fits (pairs_of x.ledger.entries.now) k.state k held ≡ true = search rules in (
+      rw c.add.ensures (passes (pairs_of x.ledger.entries.now) x.t k _ held _ _ c.loop-k.totals s h (rw a at c.loop-k.invariant.0) f),
+      search rules,
+      λ e. (zero-parts _ _ (rw s at (c.loop-k.invariant.2 e))).1,
     )
 
 pub returns : goal.returns
 returns c =
-    let x = c.args in
-    let s = c.loop-c in
-    passed-all (pairs_of x.ledger.now) x.t s.next s.left s.p s.c s.invariant.0 (omega (arith, s.invariant.1, c.loop-c-test.false))
+    let v = c.loop-k.invariant in
+    let n : length (iter_rest (zip_first c.loop-k.k-iterator)) ≡ 0 = elim c.in-None.ensures.steps [ inl u ↦ u.1.0 | inr u ↦ omega (arith, u.1.1.0, v.0.heads_length, v.1) ] in
+    passed-all (pairs_of c.args.ledger.entries.now) c.args.t _ c.loop-k.totals (rw (nil_from_length _ n) at v.0)

@@ -1,15 +1,16 @@
 -- `totals::check_channels`: the channels passed, and those that are left, are all.
-use Prim.Native.Nat.{◌-◌}
 use mathlib.Core.Path.{◌≡◌}
-use lib.ListN.{length}
-use Rattle.ledger.specs.Ledger.{pairs_of}
-use Rattle.transfer.specs.Channel.{channel_count}
+use mathlib.Core.Bool.{true}
+use Rattle.std.specs.Iterator.Adapters.{zip_first, zip_second}
+use Rattle.std.specs.Slice.Iter.{iter_rest, chunks_exact_rest, chunks_exact_size}
+use Rattle.ledger.specs.Ledger.{all_zero, pairs_of}
+use Rattle.transfer.specs.Channel.{held_limit}
 use Rattle.channelchecks.proofs.ChannelTotals.{Passed}
 use Rattle.channelchecks.proofs.totals.check_channels.Given as goal
 
-abbrev pub invariant-loop-c : goal.invariant-loop-c
-invariant-loop-c l =
-    (Passed (pairs_of l.ledger) l.t.channels l.t.heads l.next l.left l.p l.c) × (length l.t.channels ≡ channel_count) × (length l.t.heads ≡ 1024)
-
-abbrev pub decreases-loop-c : goal.decreases-loop-c
-decreases-loop-c l = 64 - l.c
+abbrev pub invariant-loop-k : goal.invariant-loop-k
+invariant-loop-k l =
+    let heads = zip_second l.k-iterator in
+    (Passed (pairs_of l.ledger.entries.now) l.fn.t (iter_rest (zip_first l.k-iterator)) (chunks_exact_rest heads) l.totals)
+    × (chunks_exact_size heads ≡ held_limit)
+    × (l.clean ≡ true → all_zero (chunks_exact_rest heads) ≡ true)
