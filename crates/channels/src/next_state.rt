@@ -6,7 +6,6 @@ ghost use Rattle.transfer.specs.Receive.{expect_payload};
 ghost use Rattle.channels.specs.ChannelState.{HasChannel, write_back};
 ghost use Rattle.channels.specs.NextState.{continues_or_stops};
 
-use crate::channel_state;
 use crate::channel_state::ChannelState;
 
 // A channel after a whole header or a run of payload bytes, and whether the call continues.
@@ -20,10 +19,7 @@ pub struct NextState {
 fn payload_number(last: bool) -> u8
     ensures { result ≡ cond last 3 2 }
 {
-    if last {
-        return 3;
-    }
-    2
+    2 + u8::from(last)
 }
 
 // left payload bytes from the place next on are to come, after which the channel ends or not; a channel's end stops the call.
@@ -31,19 +27,19 @@ pub fn expect_payload(x: ChannelState, next: u64, left: u64, last: bool) -> Next
     ensures { (t : Transfer) (c : ℕ) (file claimed doubtful : List ℕ) → HasChannel t c → continues_or_stops result.continues (world (write_back t c result.channel) file claimed doubtful) ≡ expect_payload (world (write_back t c x) file claimed doubtful) c next left last }
 {
     if 0 < left {
-        return NextState {
-            channel: channel_state::with_state(x, payload_number(last), next, left),
+        NextState {
+            channel: x.with_state(payload_number(last), next, left),
             continues: true,
-        };
-    }
-    if last {
-        return NextState {
-            channel: channel_state::with_state(x, 4, 0, 0),
+        }
+    } else if last {
+        NextState {
+            channel: x.with_state(4, 0, 0),
             continues: false,
-        };
-    }
-    NextState {
-        channel: channel_state::with_state(x, 1, 0, 0),
-        continues: true,
+        }
+    } else {
+        NextState {
+            channel: x.with_state(1, 0, 0),
+            continues: true,
+        }
     }
 }

@@ -1,6 +1,6 @@
 -- FIT's parts, in the order in which they are tested.
 use Prim.Native.Nat.{ℕ, ◌*◌}
-use mathlib.Core.Path.{◌≡◌, refl, sym}
+use mathlib.Core.Path.{◌≡◌, refl, sym, ◌∙◌}
 use mathlib.Core.Bool.{Bool, true, false, ◌&&◌, and-true, and-false}
 use mathlib.Core.List.{List}
 use borrow.Author.Tests.{eq-eqb, eqb-true}
@@ -39,6 +39,19 @@ fits-by-parts t l h g =
     (rests_apart t.channels)
     (count_fits t)
     (fault_fits t))
+
+-- pairs and fault fit, so the channels decide, and then their count
+pub count-last : (t : Transfer) (l : List ℕ) → length t.channels ≡ channel_count → length t.heads ≡ held_limit * channel_count
+    → (leb t.pairs pair_limit && eqb (length l) (2 * t.pairs)) ≡ true → fault_fits t ≡ true → claimed_fits t l ≡ ((ledger_fits t l && channels_fit_together t l) && count_fits t)
+count-last t l h g p f = fits-by-parts t l h g ∙ rw (p, f)
+
+pub pairs-fail : (t : Transfer) (l : List ℕ) → (leb t.pairs pair_limit && eqb (length l) (2 * t.pairs)) ≡ false → claimed_fits t l ≡ false
+unfolding claimed_fits
+pairs-fail t l e = go (leb t.pairs pair_limit) (eqb (length l) (2 * t.pairs)) _ e
+  where
+    go : (a b r : Bool) → (a && b) ≡ false → (a && (b && r)) ≡ false
+    go true b r e = rw e
+    go false b r e = refl
 
 -- a claimed ledger that fits has 2R entries and obeys its rule
 pub claimed-ledger : (t : Transfer) (l : List ℕ) → claimed_fits t l ≡ true → (length l ≡ 2 * t.pairs) × (obeys l ≡ true)

@@ -13,23 +13,14 @@ use rangechecks::nested;
 use transfer::state::Transfer;
 
 // The transfer and the claimed ledger, with what is counted on the way.
-fn claimed_report(t: Transfer, claimed: &[u64]) -> FitReport
+fn claimed_report(t: Transfer, claimed: &[u64]) -> Option<FitReport>
     ensures { result ≡ report_if (claimed_fits t claimed.now) t }
 {
-    if !numbers::pairs_fit(t.pairs, claimed.len()) {
-        return report::unfit();
+    if !numbers::pairs_fit(t.pairs, claimed.len()) || !numbers::fault_fits(t.fault, t.on) {
+        return None;
     }
-    if !numbers::fault_fits(t.fault, t.on) {
-        return report::unfit();
-    }
-    let found = report::report_channels(t, claimed);
-    if !found.fits {
-        return report::unfit();
-    }
-    if !numbers::count_fits(t.count, found.used) {
-        return report::unfit();
-    }
-    found
+    let found = report::report_channels(t, claimed)?;
+    numbers::count_fits(t.count, found.used).then_some(found)
 }
 
 // The doubtful ledger beside a claimed one that obeys its rule. One without a pair is read once, all zeros.
@@ -37,35 +28,32 @@ fn doubtful_fits(claimed: &[u64], doubtful: &[u64]) -> bool
     requires { obeys claimed.now ≡ true }
     ensures { (R : ℕ) → length claimed.now ≡ 2 * R → result ≡ doubtful_fits R claimed.now doubtful.now }
 {
-    if doubtful.len() != claimed.len() {
-        return false;
-    }
-    if !rule::obeys(doubtful, rule::LARGEST) {
-        return false;
-    }
-    nested::all_inside(doubtful, claimed)
+    doubtful.len() == claimed.len()
+        && rule::obeys(doubtful, u64::MAX)
+        && nested::all_inside(doubtful, claimed)
 }
 
 // All but the file's length, with what is counted on the way.
-pub fn report(t: Transfer, claimed: &[u64], doubtful: &[u64]) -> FitReport
+pub fn report(t: Transfer, claimed: &[u64], doubtful: &[u64]) -> Option<FitReport>
     ensures { result ≡ report_of t claimed.now doubtful.now }
 {
-    let found = claimed_report(t, claimed);
-    if !found.fits {
-        return report::unfit();
-    }
-    if !doubtful_fits(claimed, doubtful) {
-        return report::unfit();
-    }
-    found
+    let found = claimed_report(t, claimed)?;
+    doubtful_fits(claimed, doubtful).then_some(found)
 }
 
 // The whole of it, for a file of so many bytes.
-pub fn report_with_file(t: Transfer, file: usize, claimed: &[u64], doubtful: &[u64]) -> FitReport
+#[tactic(auto, unfolding(crate::specs::ReportOf::report_with_file))]
+pub fn report_with_file(
+    t: Transfer,
+    file: usize,
+    claimed: &[u64],
+    doubtful: &[u64],
+) -> Option<FitReport>
     ensures { result ≡ report_with_file file t claimed.now doubtful.now }
 {
-    if file as u64 != t.len {
-        return report::unfit();
+    if file as u64 == t.len {
+        report(t, claimed, doubtful)
+    } else {
+        None
     }
-    report(t, claimed, doubtful)
 }

@@ -14,35 +14,23 @@ const PAIR_LIMIT: u64 = 4096;
 pub fn pairs_fit(pairs: u64, entries: usize) -> bool
     ensures { result ≡ (leb pairs pair_limit && eqb entries (2 * pairs)) }
 {
-    if PAIR_LIMIT < pairs {
-        return false;
-    }
-    entries as u64 == 2 * pairs
+    pairs <= PAIR_LIMIT && entries as u64 == 2 * pairs
 }
 
+#[tactic(auto, unfolding(transfer::specs::Fit::count_fits))]
 pub fn count_fits(count: u64, used: u64) -> bool
     ensures { (t : Transfer) → t.count ≡ count → used_of t ≡ used → result ≡ count_fits t }
 {
-    if count == 0 {
-        return true;
-    }
-    if header::COUNT_LIMIT < count {
-        return false;
-    }
-    used <= count
+    count == 0 || (count <= header::COUNT_LIMIT && used <= count)
 }
 
+#[tactic(auto, unfolding(transfer::specs::Fit::fault_fits))]
 pub fn fault_fits(fault: u64, on: u64) -> bool
     ensures { (t : Transfer) → t.fault ≡ fault → t.on ≡ on → result ≡ fault_fits t }
 {
-    if fault == 0 {
-        return on == 0;
+    match fault {
+        0 => on == 0,
+        11..=19 => on < count::CHANNELS as u64,
+        _ => false,
     }
-    if fault < 11 {
-        return false;
-    }
-    if 19 < fault {
-        return false;
-    }
-    on < count::CHANNELS as u64
 }

@@ -24,8 +24,8 @@ returns-then-last c t d file claimed doubtful a =
     ends (write_back t d x.x) (write_back t d c.with_state-then-last.result) d file claimed doubtful x.next x.left x.last (omega (arith, c.if-left-gt0.false)) c.if-last.true
     (ap (write_back t d) c.with_state-then-last.ensures ∙ write-back-ended t d a x.x (sixteen (goal.at.returns-then-last c).Start))
 
-pub returns : goal.returns
-returns c t d file claimed doubtful a =
+pub returns-else-last : goal.returns-else-last
+returns-else-last c t d file claimed doubtful a =
     let x = c.args in
-    opens-header (write_back t d x.x) (write_back t d c.with_state-2.result) d file claimed doubtful x.next x.left x.last (omega (arith, c.if-left-gt0.false)) c.if-last.false
-    (ap (write_back t d) c.with_state-2.ensures ∙ write-back-header t d a x.x (sixteen (goal.at.returns c).Start))
+    opens-header (write_back t d x.x) (write_back t d c.with_state-else-last.result) d file claimed doubtful x.next x.left x.last (omega (arith, c.if-left-gt0.false)) c.if-last.false
+    (ap (write_back t d) c.with_state-else-last.ensures ∙ write-back-header t d a x.x (sixteen (goal.at.returns-else-last c).Start))

@@ -1,73 +1,56 @@
 -- `fit::claimed_report`: a test that fails says so; the rest decide.
-use mathlib.Core.Path.{◌≡◌, refl, sym, ap, ◌∙◌}
-use mathlib.Core.Bool.{true, ◌&&◌}
+use mathlib.Core.Path.{◌≡◌, refl, sym, ◌∙◌}
+use mathlib.Core.Bool.{true, false, ◌&&◌, and-false}
+use mathlib.Core.List.{List}
 use borrow.Author.Rules.{rules}
-use borrow.Author.Tests.{not-true, not-false}
-use Rattle.transfer.specs.Fit.{count_fits, fault_fits, claimed_fits}
+use Rattle.std.specs.Prelude.{ℕ, ◌*◌, Some, None, leb, eqb, length}
+use Rattle.transfer.specs.declared.state.Transfer.{Transfer}
+use Rattle.transfer.specs.Channel.{channel_count, held_limit}
+use Rattle.transfer.specs.Fit.{pair_limit, count_fits, fault_fits, claimed_fits}
 use Rattle.counts.proofs.Sum.{length-mapped}
-use Rattle.channelchecks.specs.declared.report.FitReport.{FitReport}
-use Rattle.channelchecks.specs.FitReport.{channels_fit_together, ledger_fits}
-use Rattle.channelchecks.proofs.FitReportFields.{fits_where, used-where}
-use Rattle.checks.proofs.FitParts.{fits-by-parts}
+use Rattle.channelchecks.specs.FitReport.{report_if, channels_fit_together, ledger_fits}
+use Rattle.channelchecks.proofs.FitReportFields.{used-where, unfit-where, then-where}
+use Rattle.checks.proofs.FitParts.{fits-by-parts, count-last, pairs-fail}
 use Rattle.checks.proofs.fit.claimed_report.Goals as goal
-use Rattle.checks.proofs.fit.claimed_report.Goals.{After-count_fits, After-fault_fits, After-pairs_fit, After-report_channels-found, Else-not-fault_fits, Else-not-found}
+use Rattle.checks.proofs.fit.claimed_report.Goals.{After-pairs_fit, then-not-pairs_fit-via-then-not-pairs_fit, then-not-pairs_fit-via-else-not-pairs_fit+then-not-fault_fits}
 
--- the pairs, the fault, the channels with the ledger, and their count
-parts : (c : After-pairs_fit) → let x = c.args in
-    claimed_fits x.t x.claimed.now
-    ≡ (c.pairs_fit.result && (fault_fits x.t && ((ledger_fits x.t x.claimed.now && channels_fit_together x.t x.claimed.now) && count_fits x.t)))
-parts c =
-    let x = c.args in
-    fits-by-parts x.t x.claimed.now (search (length-mapped, rules)) (search rules) ∙ rw c.pairs_fit.ensures
+channels : (c : After-pairs_fit) → length c.args.t.channels ≡ channel_count
+channels c = search (length-mapped, rules)
 
--- the pairs fit, and the fault's test is FIT's
-fault-next : (c : After-fault_fits) → let x = c.args in
-    claimed_fits x.t x.claimed.now ≡ (c.fault_fits.result && ((ledger_fits x.t x.claimed.now && channels_fit_together x.t x.claimed.now) && count_fits x.t))
-fault-next c =
-    let t = c.args.t in
-    parts (goal.at.After-fault_fits c).After-pairs_fit ∙ rw (not-false c.pairs_fit.result c.if-not-pairs_fit.false-raw, c.fault_fits.ensures t refl refl)
+heads : (c : After-pairs_fit) → length c.args.t.heads ≡ held_limit * channel_count
+heads c = search rules
 
--- the fault fits too, so the channels decide, and then their count
-count-last : (c : Else-not-fault_fits) → let x = c.args in
-    claimed_fits x.t x.claimed.now ≡ ((ledger_fits x.t x.claimed.now && channels_fit_together x.t x.claimed.now) && count_fits x.t)
-count-last c = fault-next (goal.at.Else-not-fault_fits c).After-fault_fits ∙ rw (not-false c.fault_fits.result c.if-not-fault_fits.false-raw)
-
--- the survey's own test
-told : (c : After-report_channels-found) → let x = c.args in
-    (ledger_fits x.t x.claimed.now && channels_fit_together x.t x.claimed.now) ≡ c.report_channels-found.result.fits
-told c =
-    let x = c.args in
-    sym (ap (λ (v : FitReport). v.fits) c.report_channels-found.ensures ∙ fits_where (ledger_fits x.t x.claimed.now && channels_fit_together x.t x.claimed.now) x.t)
-
--- the channels fit, and the test of their count is FIT's
-all_fit : (c : Else-not-found) → let x = c.args in
-    (ledger_fits x.t x.claimed.now && channels_fit_together x.t x.claimed.now) ≡ true
-all_fit c = told (goal.at.Else-not-found c).After-report_channels-found ∙ not-false c.report_channels-found.result.fits c.if-not-found.false
-
-count-told : (c : After-count_fits) → c.count_fits.result ≡ count_fits c.args.t
-count-told c =
-    let x = c.args in
-    let b = ledger_fits x.t x.claimed.now && channels_fit_together x.t x.claimed.now in
-    c.count_fits.ensures x.t refl (sym (ap (λ (v : FitReport). v.used) c.report_channels-found.ensures ∙ used-where b x.t (all_fit (goal.at.After-count_fits c).Else-not-found)))
+fault-fails : (t : Transfer) (l : List ℕ) → length t.channels ≡ channel_count → length t.heads ≡ held_limit * channel_count → fault_fits t ≡ false → claimed_fits t l ≡ false
+fault-fails t l h g f = fits-by-parts t l h g ∙ rw f (and-false _)
 
 pub returns-then-not-pairs_fit : goal.returns-then-not-pairs_fit
 returns-then-not-pairs_fit c =
-    c.unfit.ensures ∙ rw (parts (goal.at.returns-then-not-pairs_fit c).After-pairs_fit, not-true c.pairs_fit.result c.if-not-pairs_fit.true-raw)
+    let x = c.args in
+    let a = (goal.at.returns-then-not-pairs_fit c).After-pairs_fit in
+    let z : claimed_fits x.t x.claimed.now ≡ false =
+    elim c.then-not-pairs_fit.branch [
+      | then-not-pairs_fit-via-then-not-pairs_fit w ↦ pairs-fail x.t x.claimed.now (search rules)
+      | then-not-pairs_fit-via-else-not-pairs_fit+then-not-fault_fits w ↦ fault-fails x.t x.claimed.now (channels a) (heads a) (sym (w.fault_fits.ensures x.t refl refl) ∙ search rules)
+    ] in
+    rw z
 
-pub returns-then-not-fault_fits : goal.returns-then-not-fault_fits
-returns-then-not-fault_fits c =
-    c.unfit-then-not-fault_fits.ensures ∙ rw (fault-next (goal.at.returns-then-not-fault_fits c).After-fault_fits, not-true c.fault_fits.result c.if-not-fault_fits.true-raw)
-
-pub returns-then-not-found : goal.returns-then-not-found
-returns-then-not-found c =
-    c.unfit-then-not-found.ensures ∙ rw (count-last (goal.at.returns-then-not-found c).Else-not-fault_fits, told (goal.at.returns-then-not-found c).After-report_channels-found, not-true c.report_channels-found.result.fits c.if-not-found.true)
-
-pub returns-then-not-count_fits : goal.returns-then-not-count_fits
-returns-then-not-count_fits c =
-    let z = sym (count-told (goal.at.returns-then-not-count_fits c).After-count_fits) ∙ not-true c.count_fits.result c.if-not-count_fits.true-raw in
-    c.unfit-then-not-count_fits.ensures ∙ rw (count-last (goal.at.returns-then-not-count_fits c).Else-not-fault_fits, all_fit (goal.at.returns-then-not-count_fits c).Else-not-found, z)
+pub returns-in_err-found : goal.returns-in_err-found
+returns-in_err-found c =
+    let x = c.args in
+    let a = (goal.at.returns-in_err-found c).After-pairs_fit in
+    let p : (leb x.t.pairs pair_limit && eqb (length x.claimed.now) (2 * x.t.pairs)) ≡ true = search rules in
+    let f : fault_fits x.t ≡ true = sym (c.fault_fits.ensures x.t refl refl) ∙ search rules in
+    let r : c.from_residual.result ≡ None = search rules in
+    let n : None ≡ report_if (ledger_fits x.t x.claimed.now && channels_fit_together x.t x.claimed.now) x.t = search rules in
+    r ∙ rw (count-last x.t x.claimed.now (channels a) (heads a) p f, unfit-where _ x.t n)
 
 pub returns : goal.returns
 returns c =
-    let y = sym (count-told (goal.at.returns c).After-count_fits) ∙ not-false c.count_fits.result c.if-not-count_fits.false-raw in
-    c.report_channels-found.ensures ∙ rw (count-last (goal.at.returns c).Else-not-fault_fits, all_fit (goal.at.returns c).Else-not-found, y)
+    let x = c.args in
+    let a = (goal.at.returns c).After-pairs_fit in
+    let b = ledger_fits x.t x.claimed.now && channels_fit_together x.t x.claimed.now in
+    let p : (leb x.t.pairs pair_limit && eqb (length x.claimed.now) (2 * x.t.pairs)) ≡ true = search rules in
+    let f : fault_fits x.t ≡ true = sym (c.fault_fits.ensures x.t refl refl) ∙ search rules in
+    let e : Some c.in_ok-found.found ≡ report_if b x.t = search rules in
+    let n : c.count_fits.result ≡ count_fits x.t = c.count_fits.ensures x.t refl (sym (used-where b x.t c.in_ok-found.found e)) in
+    c.then_some.ensures ∙ rw (n, count-last x.t x.claimed.now (channels a) (heads a) p f) (then-where b (count_fits x.t) x.t c.in_ok-found.found e)
