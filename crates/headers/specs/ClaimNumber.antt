@@ -2,8 +2,9 @@
 -- receiver's rules give.
 use Rattle.std.specs.Prelude.{ℕ, false, ◌≡◌}
 use Rattle.ledger.specs.Pairs.{Pairs}
-use Rattle.claims.specs.Claim.{judged, claim_number}
+use Rattle.answers.specs.Refusal.{number_in}
+use Rattle.claims.specs.Claim.{judged}
 use Rattle.transfer.specs.Header.{claim_fault}
 
 pub record ClaimNumber : Type 0 where
-  pub claim_number_is : (R : ℕ) (ps ds : Pairs) (s e : ℕ) → claim_number (judged R s e ps) ≡ claim_fault R ps ds s e false
+  pub claim_number_is : (R : ℕ) (ps ds : Pairs) (s e : ℕ) → number_in (judged R s e ps) ≡ claim_fault R ps ds s e false

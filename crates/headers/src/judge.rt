@@ -4,12 +4,12 @@ ghost use Rattle.eblock.specs.Header.{count_limit};
 ghost use Rattle.transfer.specs.Header.{counts, claims, nothing, faulty, request_of};
 ghost use Rattle.headers.specs.Request.{to_header_request};
 
+use answers::refusal::Refusal;
 use eblock::{descriptor, header};
 use octets::big;
-use sums::sum;
 
-// What a header asks for: a count, a range, doubtful or not, or neither; or the number of its fault.
-#[derive(Clone, Copy)]
+// What a header asks for: a count, a range, doubtful or not, or neither.
+#[derive(Clone, Copy, Debug, PartialEq, Eq)]
 pub enum Request {
     Counts(u64),
     Claims {
@@ -18,60 +18,55 @@ pub enum Request {
         doubtful: bool,
     },
     Nothing,
-    Faulty(u8),
 }
 
 // A count, where the known one or 0 and the other channels used are given; this one is used with them.
-fn judge_count(known: u64, others: u64, count: u64) -> Request
+fn judge_count(known: u64, others: u64, count: u64) -> Result<Request, Refusal>
     ensures { to_header_request result ≡ cond (ltb 0 known) (faulty 14) (cond (eqb count 0 || (ltb count_limit count || ltb count (others + 1))) (faulty 15) (counts count)) }
 {
-    if 0 < known {
-        return Request::Faulty(14);
+    if known != 0 {
+        return Err(Refusal::SecondCount);
     }
-    if count == 0 {
-        return Request::Faulty(15);
+    if count == 0 || header::COUNT_LIMIT < count || count <= others {
+        return Err(Refusal::CountOutOfRange);
     }
-    if header::COUNT_LIMIT < count {
-        return Request::Faulty(15);
-    }
-    if count <= others {
-        return Request::Faulty(15);
-    }
-    Request::Counts(count)
+    Ok(Request::Counts(count))
 }
 
 // A payload of length bytes from the place offset on, doubtful or not, in a file of len bytes.
-fn judge_payload(len: u64, length: u64, offset: u64, doubtful: bool) -> Request
+fn judge_payload(len: u64, length: u64, offset: u64, doubtful: bool) -> Result<Request, Refusal>
     ensures { to_header_request result ≡ cond (eqb length 0) nothing (cond (ltb len (offset + length)) (faulty 16) (claims offset (offset + length) doubtful)) }
 {
     if length == 0 {
-        return Request::Nothing;
+        return Ok(Request::Nothing);
     }
-    if !sum::sum_at_most(offset, length, len) {
-        return Request::Faulty(16);
-    }
-    Request::Claims {
-        start: offset,
-        end: offset + length,
-        doubtful: doubtful,
+    match offset.checked_add(length) {
+        Some(end) if end <= len => Ok(Request::Claims {
+            start: offset,
+            end,
+            doubtful,
+        }),
+        _ => Err(Refusal::PastFileEnd),
     }
 }
 
 // Judged by the transfer alone: a file of len bytes, the known count or 0, and the other channels used; this one is used with them.
-pub fn judge_header(len: u64, known: u64, others: u64, head: &[u8]) -> Request
+#[tactic(auto, unfolding(transfer::specs::Header::request_of, eblock::specs::Header::third_of, eblock::specs::Header::second_of))]
+pub fn judge_header(len: u64, known: u64, others: u64, head: &[u8]) -> Result<Request, Refusal>
     requires { length head.now ≡ 17 }
     ensures { to_header_request result ≡ request_of len known (others + 1) head.now }
 {
     let d = head[0];
-    let k = descriptor::fault(d);
-    if 0 < k {
-        return Request::Faulty(k);
-    }
+    descriptor::accept(d)?;
     let third = big::read(&head[9..17]);
     if descriptor::has(descriptor::EODC, d) {
         return judge_count(known, others, third);
     }
     let second = big::read(&head[1..9]);
-    let doubtful = descriptor::has(descriptor::SUSPECTED, d);
-    judge_payload(len, second, third, doubtful)
+    judge_payload(
+        len,
+        second,
+        third,
+        descriptor::has(descriptor::SUSPECTED, d),
+    )
 }
