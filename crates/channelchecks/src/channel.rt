@@ -35,8 +35,7 @@ pub fn channel_fits(k: Channel, held: &Held, ledger: Ruled) -> bool
     requires { length held.now.bytes.now ≡ 16 }
     ensures { result ≡ channel_fits (pairs_of ledger.entry.entries.now) k.state k held.now.bytes.now }
 {
-    let state = k.state;
-    match state {
+    match k.state {
         0 | 4 => k.held == 0 && header_fits(k, held),
         1 => header_fits(k, held),
         2 | 3 => payload_fits(k, held, ledger),

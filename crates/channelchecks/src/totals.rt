@@ -14,6 +14,7 @@ use transfer::state::{Channel, Transfer};
 #[derive(Drop)]
 pub struct ChannelTotals {
     // The bytes left of each channel that has some, at the front.
+    // Stays: fixed memory, no heap.
     pub rests: [Range; 64],
     // How many these are.
     pub payloads: usize,

@@ -16,6 +16,7 @@ pub struct ChannelState {
     pub held: u8,
     pub next: u64,
     pub left: u64,
+    // Stays: of these, `held` are held; fixed memory, as in the transfer's.
     pub bytes: [u8; 16],
 }
 

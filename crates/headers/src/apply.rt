@@ -30,6 +30,7 @@ fn faulty(x: ChannelState, c: usize, fault: Refusal) -> NextState
     }
 }
 
+// Stays: as at `claim_range`.
 // A range that a header asks for: its fault, or it is claimed, in both ledgers where it is doubtful, and its payload opened.
 fn claim_or_fault(
     x: ChannelState,
@@ -50,6 +51,7 @@ fn claim_or_fault(
     }
 }
 
+// Stays: docs/PROMISES.md names this function, so what it asks of the ledgers stands in its clause.
 // A header of 17 bytes judged and applied.
 pub fn apply_header(
     x: ChannelState,

@@ -1,6 +1,7 @@
 // The transfer, by value. Plain numbers and arrays, so that a host can hold it; what each value means is said in specs/.
 
 // One channel.
+// Stays: a C host holds it, so its state is a number.
 //
 //     unused --first byte--> header --17th byte--> payload --last byte--> header or, with bit 8, ended
 //
@@ -18,6 +19,7 @@ pub struct Channel {
     pub left: u64,
 }
 
+// Stays: a C host holds it by value, so its arrays have fixed lengths, and its fault is a number.
 #[repr(C)]
 #[derive(Clone, Copy)]
 pub struct Transfer {

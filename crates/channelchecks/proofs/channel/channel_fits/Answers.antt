@@ -69,9 +69,9 @@ pub returns-in-2 : goal.returns-in-2
 returns-in-2 c =
     let x = c.args in
     let d = c.in-2.in_default-own in
-    c.payload_fits.ensures ∙ storing (pairs_of x.ledger.entries.now) x.k x.held.now.bytes.now x.k.state d.rest.0.1 d.rest.1 c.in-2.if-state-lt4-own.true
+    c.payload_fits.ensures ∙ storing (pairs_of x.ledger.entries.now) x.k x.held.now.bytes.now x.k.state d.rest.0.1 d.rest.1 c.in-2.if-k-lt4-own.true
 
 pub returns-in_default : goal.returns-in_default
 returns-in_default c =
     let x = c.args in
-    no-state (pairs_of x.ledger.entries.now) x.k x.held.now.bytes.now x.k.state c.in_default.in_default-own.rest.0.1 c.in_default.if-state-lt4-own.false
+    no-state (pairs_of x.ledger.entries.now) x.k x.held.now.bytes.now x.k.state c.in_default.in_default-own.rest.0.1 c.in_default.if-k-lt4-own.false
