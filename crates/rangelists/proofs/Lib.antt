@@ -1,4 +1,5 @@
 pub mod RangeText
+mod UsedPairs
 mod PartsByComma
 pub mod Parts
 mod RangeParsing

@@ -7,10 +7,10 @@ use native.Mathlib.Omega.{arith}
 use borrow.Author.Tests.{le-ltb}
 use lib.ListN.{length, length-append}
 use lib.Seq.{append_snoc}
+use Rattle.std.specs.Prelude.{Option, Some, None, Ok, Err}
 use Rattle.octets.specs.Digits.{from_big_endian, from_little_endian}
 use Rattle.octets.specs.Decimal.{decimal_value}
 use Rattle.texts.specs.Text.{all, leading_count}
-use Rattle.answers.specs.declared.loaded.Loaded.TheVariants.{Done, Refused}
 use Rattle.ledger.specs.Pairs.{Pairs, none, size, join}
 use Rattle.ledger.specs.Ledger.{capacity}
 use Rattle.ledger.proofs.PairsJoin.{join-size}
@@ -19,14 +19,13 @@ use Rattle.rangelists.specs.RangeText.{is_position, range_of, prepend_to_first, 
 use Rattle.rangelists.specs.Parts.{with_commas}
 use Rattle.rangelists.specs.MalformedRanges.{HasMalformed, MalformedRanges}
 use Rattle.rangelists.specs.declared.ranges.Range.{Range}
-use Rattle.rangelists.specs.declared.ranges.Range.TheVariants.{Places, Malformed}
 use Rattle.rangelists.proofs.Parts.{parted}
 use Rattle.rangelists.proofs.OneRange.{one-range}
 use Rattle.rangelists.proofs.RangeReading.{answer_is}
 
 -- ---- the test
 
-malformed-among : (before after : List (List ℕ)) (t : List ℕ) → range_of t ≡ Malformed → some_malformed (before ++ (t ∷ after)) ≡ true
+malformed-among : (before after : List (List ℕ)) (t : List ℕ) → range_of t ≡ None → some_malformed (before ++ (t ∷ after)) ≡ true
 unfolding is_malformed some_malformed
 malformed-among [] after t e = rw e
 malformed-among (u ∷ before) after t e = rw (malformed-among before after t e, or-true (is_malformed (range_of u)))
@@ -41,8 +40,8 @@ unfolding is_malformed some_malformed
 first-malformed text before [] e h = absurd (false≢true h)
 first-malformed text before (t ∷ ts) e h = go (range_of t) refl h (first-malformed text (before ++ (t ∷ [])) ts (e ∙ sym (append_snoc before t ts)))
   where
-    go : (x : Range) → range_of t ≡ x → (is_malformed x || some_malformed ts) ≡ true → (some_malformed ts ≡ true → HasMalformed text) → HasMalformed text
-    go Malformed x k i =
+    go : (x : Option Range) → range_of t ≡ x → (is_malformed x || some_malformed ts) ≡ true → (some_malformed ts ≡ true → HasMalformed text) → HasMalformed text
+    go None x k i =
         record {
           before = before;
           malformed = t;
@@ -53,7 +52,7 @@ first-malformed text before (t ∷ ts) e h = go (range_of t) refl h (first-malfo
               let z : ◌≡◌ {A = ℕ} 0 1 = cc in
               omega arith;
         }
-    go (Places s f) x k i = i k
+    go (Some p) x k i = i k
 
 true_malformed : (text : List ℕ) → has_malformed text ≡ true → HasMalformed text
 unfolding has_malformed
@@ -62,19 +61,21 @@ true_malformed text h = first-malformed text [] (parts text) refl h
 -- ---- the reader
 
 -- with a pair for each range that is still to come, nothing but a malformed text stops it
-merged-answers : (r : ℕ) (ps : Pairs) (ts : List (List ℕ)) → size ps + ranges_among ts ≤ r → loaded (merged_from r ps ts) ≡ cond (some_malformed ts) (Refused 51) Done
+merged-answers : (r : ℕ) (ps : Pairs) (ts : List (List ℕ)) → size ps + ranges_among ts ≤ r → loaded (merged_from r ps ts) ≡ cond (some_malformed ts) (Err 51) (Ok tt)
 unfolding is_malformed some_malformed ranges_among merge_range merged_from loaded
 merged-answers r ps [] h = refl
 merged-answers r ps (t ∷ ts) h = go (range_of t) h (λ qs. merged-answers r qs ts)
   where
-    go : (x : Range) → size ps + (cond (is_malformed x) 0 1 + ranges_among ts) ≤ r
-        → ((qs : Pairs) → size qs + ranges_among ts ≤ r → loaded (merged_from r qs ts) ≡ cond (some_malformed ts) (Refused 51) Done)
-        → loaded (merge_range r ps x (λ qs. merged_from r qs ts)) ≡ cond (is_malformed x || some_malformed ts) (Refused 51) Done
-    go Malformed k i = refl
-    go (Places s e) k i = rw (le-ltb r (size (join s e ps)) (omega (arith, join-size s e ps))) (i (join s e ps) (omega (arith, join-size s e ps)))
+    go : (x : Option Range) → size ps + (cond (is_malformed x) 0 1 + ranges_among ts) ≤ r
+        → ((qs : Pairs) → size qs + ranges_among ts ≤ r → loaded (merged_from r qs ts) ≡ cond (some_malformed ts) (Err 51) (Ok tt))
+        → loaded (merge_range r ps x (λ qs. merged_from r qs ts)) ≡ cond (is_malformed x || some_malformed ts) (Err 51) (Ok tt)
+    go None k i = refl
+    go (Some p) k i =
+        let n = join-size p.start p.end ps in
+        rw (le-ltb r (size (join p.start p.end ps)) (omega (arith, n))) (i (join p.start p.end ps) (omega (arith, n)))
 
 by_the_text : (text ledger : List ℕ) → length ledger % 2 ≡ 0 → length ledger ≤ 8192 → 2 * range_count text ≤ length ledger
-    → read_ranges text ledger ≡ cond (has_malformed text) (Refused 51) Done
+    → read_ranges text ledger ≡ cond (has_malformed text) (Err 51) (Ok tt)
 unfolding size has_malformed range_count ranges_of
 by_the_text text ledger e l h = answer_is text ledger (length-right ledger e l) ∙ merged-answers (capacity ledger) none (parts text) (omega arith)
 
@@ -94,10 +95,10 @@ range-bytes : (t : List ℕ) → 4 * cond (is_malformed (range_of t)) 0 1 ≤ su
 unfolding is_malformed
 range-bytes t = go (range_of t) refl
   where
-    go : (x : Range) → range_of t ≡ x → 4 * cond (is_malformed x) 0 1 ≤ suc (length t)
-    go Malformed x = omega arith
-    go (Places s e) x =
-        let r = (one-range.range_only t s e x).2 in
+    go : (x : Option Range) → range_of t ≡ x → 4 * cond (is_malformed x) 0 1 ≤ suc (length t)
+    go None x = omega arith
+    go (Some p) x =
+        let r = (one-range.range_only t p.start p.end x).2 in
         omega (arith, ap length r.hyphen, length-append r.before (45 ∷ r.after), r.start.shortest, r.end.shortest)
 
 ranges-bytes : (ts : List (List ℕ)) → 4 * ranges_among ts ≤ suc (length (with_commas ts))

@@ -8,14 +8,14 @@ use native.Mathlib.Decide.{dec_lt}
 use native.Mathlib.Numerals.{add-one}
 use lib.ListN.{length, get_or, drop, take, get_or-eq_default}
 use lib.Seq.{take-append_seam, get_or-append_seam, drop-append-add, split_at}
+use Rattle.std.specs.Prelude.{Option, Some, None}
 use Rattle.octets.specs.Decimal.{decimal_value}
 use Rattle.texts.specs.Text.{is_digit, all, leading_count}
 use Rattle.octets.proofs.Reading.{digits-at}
 use Rattle.texts.proofs.Texts.{leading-append}
-use Rattle.rangelists.specs.RangeText.{range_of}
+use Rattle.rangelists.specs.RangeText.{places, range_of}
 use Rattle.rangelists.specs.OneRange.{Position, IsRange, OneRange}
 use Rattle.rangelists.specs.declared.ranges.Range.{Range}
-use Rattle.rangelists.specs.declared.ranges.Range.TheVariants.{Places, Malformed}
 use Rattle.rangelists.proofs.RangeParsing.{position-is, is-position, range-places, range-sound}
 
 -- the digits before a hyphen are those that the text begins with
@@ -36,12 +36,12 @@ module _ (text : List ℕ) (first last : ℕ) (r : IsRange text first last) wher
   after_is : drop (suc (leading_count is_digit text)) text ≡ r.after
   after_is = rw (run_is, r.hyphen, ← add-one (length r.before)) (drop-append-add r.before (45 ∷ r.after) 1)
 
-  pub range_reads : range_of text ≡ Places first (suc last)
+  pub range_reads : range_of text ≡ places first (suc last)
   range_reads =
       let p = range-places text (rw before-is (is-position r.before first r.start)) hyphen-is (rw after_is (is-position r.after last r.end)) in
       p (rw (before-is, after_is, r.start.value_is, r.end.value_is) r.rising) ∙ rw (before-is, after_is, r.start.value_is, r.end.value_is)
 
-range_only : (text : List ℕ) (s e : ℕ) → range_of text ≡ Places s e → (last : ℕ) × (e ≡ suc last) × IsRange text s last
+range_only : (text : List ℕ) (s e : ℕ) → range_of text ≡ places s e → (last : ℕ) × (e ≡ suc last) × IsRange text s last
 range_only text s e h =
     let r = range-sound text s e h in
     let k = leading_count is_digit text in
@@ -60,14 +60,14 @@ range_only text s e h =
         let g : length text ≤ leading_count is_digit text = omega arith in
         absurd (omega (arith, (range-sound text s e h).hyphen, get_or-eq_default text 0 g))
 
-else_malformed : (text : List ℕ) → ((first last : ℕ) → IsRange text first last → ⊥) → range_of text ≡ Malformed
+else_malformed : (text : List ℕ) → ((first last : ℕ) → IsRange text first last → ⊥) → range_of text ≡ None
 else_malformed text n = go (range_of text) refl
   where
-    go : (x : Range) → range_of text ≡ x → range_of text ≡ Malformed
-    go Malformed x = x
-    go (Places s e) x =
-        let r = range_only text s e x in
-        absurd (n s r.0 r.2)
+    go : (x : Option Range) → range_of text ≡ x → range_of text ≡ None
+    go None x = x
+    go (Some p) x =
+        let r = range_only text p.start p.end x in
+        absurd (n p.start r.0 r.2)
 
 pub one-range : OneRange
 one-range = record { range_reads = range_reads; range_only = range_only; else_malformed = else_malformed }

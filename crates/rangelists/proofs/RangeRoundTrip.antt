@@ -8,22 +8,20 @@ use borrow.Author.Tests.{lt-ltb, le-ltb, leb-true}
 use lib.Dec.{leb}
 use lib.ListN.{length, take, drop}
 use lib.Seq.{take_at}
+use Rattle.std.specs.Prelude.{Ok}
 use Rattle.octets.specs.Cases.{AllHold}
 use Rattle.octets.specs.Decimal.{digit_count, decimal}
 use Rattle.texts.specs.Text.{is_digit, all}
 use Rattle.octets.proofs.Decimals.{width_some, all-in_digits, decimal_reads_back, length-decimal, width-20}
 use Rattle.octets.proofs.Reading.{at-digits}
-use Rattle.answers.specs.declared.loaded.Loaded.TheVariants.{Done}
-use Rattle.answers.specs.declared.written.Written.TheVariants.{Bytes}
 use Rattle.ledger.specs.Pairs.{Pairs, none, pair, size, ObeyFrom, join, ends_at_most}
 use Rattle.ledger.specs.Ledger.{largest, length_wrong, obeys, pairs_of, capacity}
 use Rattle.ledger.proofs.LedgerLayout.{rule-ruled, laid_out-pairs_of, size-pairs_of}
 use Rattle.ledger.proofs.LedgerSizes.{length-right, length-fits}
-use Rattle.rangelists.specs.RangeText.{range_of, parts, merged, merge_range, merged_from, ranges_of, read_ranges, read_ranges_after, range_text, ranges_text, write_ranges, write_ranges_after}
+use Rattle.rangelists.specs.RangeText.{places, range_of, parts, merged, merge_range, merged_from, ranges_of, read_ranges, read_ranges_after, range_text, ranges_text, write_ranges, write_ranges_after}
 use Rattle.rangelists.specs.OneRange.{Position}
 use Rattle.rangelists.specs.Parts.{with_commas, NoComma}
 use Rattle.rangelists.specs.RangeReading.{Reads}
-use Rattle.rangelists.specs.declared.ranges.Range.TheVariants.{Places}
 use Rattle.rangelists.proofs.RangeWriting.{accepted}
 use Rattle.rangelists.proofs.OneRange.{range_reads}
 use Rattle.rangelists.proofs.RangeReading.{reads}
@@ -46,7 +44,7 @@ position-decimal n h =
       most = h;
     }
 
-pub range-reads-back : (a b : ℕ) → a < b → b ≤ largest → range_of (range_text a b) ≡ Places a b
+pub range-reads-back : (a b : ℕ) → a < b → b ≤ largest → range_of (range_text a b) ≡ places a b
 unfolding range_text
 range-reads-back a b h l =
     let e : suc (b - 1) ≡ b = omega arith in
@@ -148,7 +146,7 @@ unfolding ranges_of chain
 text-back ps m some ruled ends lengths room =
     reads (ranges_text ps) m lengths ps (rw (parts-texts ps some) (merged-chain (capacity m) none ps ruled room ends))
 
-pub reads-back : (l out m : List ℕ) (n : ℕ) → write_ranges l out ≡ Bytes n → ends_at_most largest (pairs_of l) ≡ true → length_wrong m ≡ false → size (pairs_of l) ≤ capacity m
+pub reads-back : (l out m : List ℕ) (n : ℕ) → write_ranges l out ≡ Ok n → ends_at_most largest (pairs_of l) ≡ true → length_wrong m ≡ false → size (pairs_of l) ≤ capacity m
     → Reads (take n (write_ranges_after l out)) m (pairs_of l)
 unfolding obeys
 reads-back l out m n e ends lengths room =
@@ -156,8 +154,8 @@ reads-back l out m n e ends lengths room =
     let text = ranges_text (pairs_of l) in
     rw (w.after, take_at text (drop (length text) out) n w.bytes) (text-back (pairs_of l) m w.some (rule-ruled 0 l w.ruled) ends lengths room)
 
-pub reads_same : (l out m : List ℕ) (n : ℕ) → write_ranges l out ≡ Bytes n → ends_at_most largest (pairs_of l) ≡ true → length m ≡ length l
-    → (read_ranges (take n (write_ranges_after l out)) m ≡ Done) × (read_ranges_after (take n (write_ranges_after l out)) m ≡ l)
+pub reads_same : (l out m : List ℕ) (n : ℕ) → write_ranges l out ≡ Ok n → ends_at_most largest (pairs_of l) ≡ true → length m ≡ length l
+    → (read_ranges (take n (write_ranges_after l out)) m ≡ Ok tt) × (read_ranges_after (take n (write_ranges_after l out)) m ≡ l)
 unfolding obeys
 reads_same l out m n e ends same =
     let w = accepted l out n e in

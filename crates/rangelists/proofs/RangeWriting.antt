@@ -7,8 +7,8 @@ use native.Mathlib.Omega.{arith}
 use native.Mathlib.Decide.{dec_lt}
 use borrow.Author.Tests.{eq-eqb, ne_eqb}
 use lib.ListN.{length, drop}
+use Rattle.std.specs.Prelude.{Ok}
 use Rattle.octets.specs.Decimal.{decimal}
-use Rattle.answers.specs.declared.written.Written.TheVariants.{Bytes}
 use Rattle.answers.specs.Written.{room_refusal, Refuses}
 use Rattle.answers.proofs.WrittenBy.{first_some, first-none, first-zero, room-short, room-enough, written, written-only, refuses, writes}
 use Rattle.ledger.specs.Pairs.{size}
@@ -51,7 +51,7 @@ pub record Accepted (ledger out : List ℕ) (n : ℕ) : Type 0 where
   pub bytes : length (ranges_text (pairs_of ledger)) ≡ n
   pub after : write_ranges_after ledger out ≡ ranges_text (pairs_of ledger) ++ drop (length (ranges_text (pairs_of ledger))) out
 
-pub accepted : (ledger out : List ℕ) (n : ℕ) → write_ranges ledger out ≡ Bytes n → Accepted ledger out n
+pub accepted : (ledger out : List ℕ) (n : ℕ) → write_ranges ledger out ≡ Ok n → Accepted ledger out n
 unfolding write_ranges write_ranges_after write_ranges_refusal
 accepted ledger out n e =
     let w = written-only (write_ranges_refusal ledger out) _ n e in

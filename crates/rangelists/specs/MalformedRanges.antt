@@ -1,6 +1,5 @@
 -- Whether a range of a text is malformed, and how many pairs the reader needs to say so: with fewer a 52 can come before the 51.
-use Rattle.std.specs.Prelude.{ℕ, ◌+◌, ◌*◌, ◌%◌, ◌≤◌, ◌≡◌, true, false, cond, List, [], ◌∷◌, ◌++◌, length}
-use Rattle.answers.specs.declared.loaded.Loaded.TheVariants.{Done, Refused}
+use Rattle.std.specs.Prelude.{ℕ, ◌+◌, ◌*◌, ◌%◌, ◌≤◌, ◌≡◌, true, false, cond, Ok, Err, List, [], ◌∷◌, ◌++◌, length}
 use Rattle.rangelists.specs.RangeText.{parts, has_malformed, range_count, read_ranges}
 use Rattle.rangelists.specs.OneRange.{IsRange}
 
@@ -18,7 +17,7 @@ pub record MalformedRanges : Type 0 where
   pub true_malformed : (text : List ℕ) → has_malformed text ≡ true → HasMalformed text
   -- into as many pairs as the text has ranges, those that are malformed not counted: 51 where one is malformed, else 0; never 52
   pub by_the_text : (text ledger : List ℕ) → length ledger % 2 ≡ 0 → length ledger ≤ 8192 → 2 * range_count text ≤ length ledger
-      → read_ranges text ledger ≡ cond (has_malformed text) (Refused 51) Done
+      → read_ranges text ledger ≡ cond (has_malformed text) (Err 51) (Ok tt)
   -- these are no more than the texts between the commas, nor than a range for every four bytes, the last one's comma counted
   pub at_most_parts : (text : List ℕ) → range_count text ≤ length (parts text)
   pub four_bytes_each : (text : List ℕ) → 4 * range_count text ≤ length text + 1

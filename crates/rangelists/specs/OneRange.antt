@@ -1,8 +1,7 @@
 -- One range as text, in both directions (document 01, "Control lines").
-use Rattle.std.specs.Prelude.{ℕ, suc, ◌≤◌, ◌<◌, ◌≡◌, List, ◌∷◌, ◌++◌, length, get_or}
+use Rattle.std.specs.Prelude.{ℕ, suc, ◌≤◌, ◌<◌, ◌≡◌, None, List, ◌∷◌, ◌++◌, length, get_or}
 use Rattle.octets.specs.Decimal.{decimal_value}
-use Rattle.rangelists.specs.RangeText.{range_of}
-use Rattle.rangelists.specs.declared.ranges.Range.TheVariants.{Places, Malformed}
+use Rattle.rangelists.specs.RangeText.{places, range_of}
 
 -- a number that a range may name: 1 to 20 digits, and at most 2 ^ 64 - 2
 pub record Position (text : List ℕ) (value : ℕ) : Type 0 where
@@ -23,8 +22,8 @@ pub record IsRange (text : List ℕ) (first last : ℕ) : Type 0 where
 
 pub record OneRange : Type 0 where
   -- a range is read as its places, both ends counted
-  pub range_reads : (text : List ℕ) (first last : ℕ) → IsRange text first last → range_of text ≡ Places first (suc last)
+  pub range_reads : (text : List ℕ) (first last : ℕ) → IsRange text first last → range_of text ≡ places first (suc last)
   -- whatever is read as places is a range
-  pub range_only : (text : List ℕ) (s e : ℕ) → range_of text ≡ Places s e → (last : ℕ) × (e ≡ suc last) × IsRange text s last
+  pub range_only : (text : List ℕ) (s e : ℕ) → range_of text ≡ places s e → (last : ℕ) × (e ≡ suc last) × IsRange text s last
   -- everything else is malformed
-  pub else_malformed : (text : List ℕ) → ((first last : ℕ) → IsRange text first last → ⊥) → range_of text ≡ Malformed
+  pub else_malformed : (text : List ℕ) → ((first last : ℕ) → IsRange text first last → ⊥) → range_of text ≡ None

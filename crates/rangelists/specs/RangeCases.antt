@@ -1,7 +1,6 @@
 -- Worked cases of range lists that are not in the proved set, as one statement over a list of cases.
-use Rattle.std.specs.Prelude.{ℕ, ◌*◌, ◌≡◌, List, [], ◌∷◌, replicate}
+use Rattle.std.specs.Prelude.{ℕ, ◌*◌, ◌≡◌, Ok, Err, List, [], ◌∷◌, replicate}
 use Rattle.octets.specs.Cases.{AllHold}
-use Rattle.answers.specs.declared.loaded.Loaded.TheVariants.{Done, Refused}
 use Rattle.rangelists.specs.RangeText.{read_ranges, read_ranges_after}
 
 pub data Case : Type 0 where
@@ -15,8 +14,8 @@ abbrev pub sevens : ℕ → List ℕ
 sevens r = replicate (2 * r) 7
 
 abbrev pub Holds : Case → Type 0
-Holds (gives r text ledger) = (read_ranges text (sevens r) ≡ Done) × (read_ranges_after text (sevens r) ≡ ledger)
-Holds (refused r text k) = (read_ranges text (sevens r) ≡ Refused k) × (read_ranges_after text (sevens r) ≡ replicate (2 * r) 0)
+Holds (gives r text ledger) = (read_ranges text (sevens r) ≡ Ok tt) × (read_ranges_after text (sevens r) ≡ ledger)
+Holds (refused r text k) = (read_ranges text (sevens r) ≡ Err k) × (read_ranges_after text (sevens r) ≡ replicate (2 * r) 0)
 
 -- in this order: none · 0-0,1-1,2-2 · 0-1,5-6x · 0-1,5-6,x · 0-0,2-2,1-1
 abbrev pub cases : List Case

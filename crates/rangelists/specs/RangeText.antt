@@ -1,17 +1,12 @@
 -- Restart range lists (document 01, "Control lines"): a-b with commas between, both ends counted, in any order, overlapping or repeated.
-use Rattle.std.specs.Prelude.{ℕ, suc, ◌+◌, ◌-◌, ◌<◌, max, ◌≡◌, Bool, true, false, cond, ◌&&◌, ◌||◌, List, [], ◌∷◌, ◌++◌, leb, ltb, eqb, length, get_or, take, drop, replicate}
+use Rattle.std.specs.Prelude.{ℕ, suc, ◌+◌, ◌-◌, ◌<◌, max, ◌≡◌, Bool, true, false, cond, ◌&&◌, ◌||◌, Option, Some, None, Ok, Err, List, [], ◌∷◌, ◌++◌, leb, ltb, eqb, length, get_or, take, drop, replicate}
 use Rattle.octets.specs.Decimal.{decimal_value, decimal}
 use Rattle.texts.specs.Text.{is_digit, all, leading_count}
-use Rattle.octets.specs.declared.decimal.Number.{Number}
-use Rattle.octets.specs.declared.decimal.Number.TheVariants.{Value, Nothing}
-use Rattle.answers.specs.declared.loaded.Loaded.{Loaded}
-use Rattle.answers.specs.declared.loaded.Loaded.TheVariants.{Done, Refused}
-use Rattle.answers.specs.declared.written.Written.{Written}
-use Rattle.answers.specs.Written.{first_refusal, room_refusal, written_by, written_after}
+use Rattle.answers.specs.Loaded.{Loaded}
+use Rattle.answers.specs.Written.{Written, first_refusal, room_refusal, written_by, written_after}
 use Rattle.ledger.specs.Pairs.{Pairs, none, pair, size, in_range, join}
 use Rattle.ledger.specs.Ledger.{length_wrong, obeys, ledger_refusal, pairs_of, laid_out, capacity}
 use Rattle.rangelists.specs.declared.ranges.Range.{Range}
-use Rattle.rangelists.specs.declared.ranges.Range.TheVariants.{Places, Malformed}
 
 -- the largest end, 2 ^ 64 - 2: the place after it is a 64-bit number
 abbrev pub last_limit : ℕ
@@ -28,16 +23,20 @@ unfoldable pub is_position : List ℕ → Bool
 is_position text = (leb 1 (length text) && leb (length text) digit_limit) && (all is_digit text && leb (decimal_value text) last_limit)
 
 -- what reading such a number answers
-unfoldable pub position_of : List ℕ → Number
-position_of text = cond (is_position text) (Value (decimal_value text)) Nothing
+unfoldable pub position_of : List ℕ → Option ℕ
+position_of text = cond (is_position text) (Some (decimal_value text)) None
+
+-- what is well formed: the places from start up to end
+abbrev pub places : ℕ → ℕ → Option Range
+places start end = Some (record { start = start; end = end })
 
 -- all the text between two commas: a number, a hyphen, and a number that is no less. It holds the places from the first up to the second.
-unfoldable pub range_of : List ℕ → Range
+unfoldable pub range_of : List ℕ → Option Range
 range_of text =
     let k = leading_count is_digit text in
     let a = take k text in
     let b = drop (suc k) text in
-    cond (is_position a && (eqb (get_or text k 0) 45 && (is_position b && leb (decimal_value a) (decimal_value b)))) (Places (decimal_value a) (suc (decimal_value b))) Malformed
+    cond (is_position a && (eqb (get_or text k 0) 45 && (is_position b && leb (decimal_value a) (decimal_value b)))) (places (decimal_value a) (suc (decimal_value b))) None
 
 -- ---- the list
 
@@ -51,9 +50,9 @@ unfoldable pub parts : List ℕ → List (List ℕ)
 parts [] = [] ∷ []
 parts (b ∷ bs) = cond (eqb b 44) ([] ∷ parts bs) (prepend_to_first b (parts bs))
 
-unfoldable pub is_malformed : Range → Bool
-is_malformed Malformed = true
-is_malformed (Places s e) = false
+unfoldable pub is_malformed : Option Range → Bool
+is_malformed None = true
+is_malformed (Some range) = false
 
 -- one of the texts is malformed
 unfoldable pub some_malformed : List (List ℕ) → Bool
@@ -78,9 +77,9 @@ pub data Merged : Type 0 where
   trouble : ℕ → Merged
 
 -- one range more: 51 where it is malformed, then 52 where the merged set so far needs more than r pairs
-unfoldable pub merge_range : ℕ → Pairs → Range → (Pairs → Merged) → Merged
-merge_range r ps Malformed on = trouble 51
-merge_range r ps (Places s e) on = cond (ltb r (size (join s e ps))) (trouble 52) (on (join s e ps))
+unfoldable pub merge_range : ℕ → Pairs → Option Range → (Pairs → Merged) → Merged
+merge_range r ps None on = trouble 51
+merge_range r ps (Some range) on = cond (ltb r (size (join range.start range.end ps))) (trouble 52) (on (join range.start range.end ps))
 
 unfoldable pub merged_from : ℕ → Pairs → List (List ℕ) → Merged
 merged_from r ps [] = merged ps
@@ -95,9 +94,9 @@ unfoldable pub ranges_of : ℕ → List ℕ → Merged
 ranges_of r text = merged_from r none (parts text)
 
 -- 1 where the range holds the place p, and 0 where it does not
-unfoldable pub range_contains : ℕ → Range → ℕ
-range_contains p Malformed = 0
-range_contains p (Places s e) = in_range s e p
+unfoldable pub range_contains : ℕ → Option Range → ℕ
+range_contains p None = 0
+range_contains p (Some range) = in_range range.start range.end p
 
 -- 1 where one of the texts is a range that holds the place p, and 0 where none is
 unfoldable pub list_contains : ℕ → List (List ℕ) → ℕ
@@ -107,20 +106,30 @@ list_contains p (t ∷ ts) = max (range_contains p (range_of t)) (list_contains 
 -- ---- the reader: 53, then the first trouble; what it leaves in the ledger
 
 unfoldable pub loaded : Merged → Loaded
-loaded (merged ps) = Done
-loaded (trouble k) = Refused k
+loaded (merged ps) = Ok tt
+loaded (trouble k) = Err k
 
 unfoldable pub entries_after : ℕ → ℕ → Merged → List ℕ
 entries_after n r (merged ps) = laid_out r ps
 entries_after n r (trouble k) = replicate n 0
 
 unfoldable pub read_ranges : List ℕ → List ℕ → Loaded
-read_ranges text ledger = cond (length_wrong ledger) (Refused 53) (loaded (ranges_of (capacity ledger) text))
+read_ranges text ledger = cond (length_wrong ledger) (Err 53) (loaded (ranges_of (capacity ledger) text))
 
 unfoldable pub read_ranges_after : List ℕ → List ℕ → List ℕ
 read_ranges_after text ledger = cond (length_wrong ledger) ledger (entries_after (length ledger) (capacity ledger) (ranges_of (capacity ledger) text))
 
 -- ---- the writer: ascending pairs without leading zeros
+
+-- pairs as the code holds them, a list of two numbers each
+unfoldable pub pairs_in : List (List ℕ) → Pairs
+pairs_in [] = none
+pairs_in (p ∷ ps) = pair (get_or p 0 0) (get_or p 1 0) (pairs_in ps)
+
+-- these are the used pairs, no end of which is 0
+pub record IsUsed (pairs : List (List ℕ)) (used : Pairs) : Type 0 where
+  pub are : pairs_in pairs ≡ used
+  pub ends : (i : ℕ) → i < length pairs → 0 < get_or (get_or pairs i []) 1 0
 
 unfoldable pub range_text : ℕ → ℕ → List ℕ
 range_text a b = decimal a ++ (45 ∷ decimal (b - 1))

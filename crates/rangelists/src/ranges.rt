@@ -1,24 +1,23 @@
 // Restart range lists, as text.
 ghost use Rattle.std.specs.Prelude.{◌≡◌, true, ◌+◌, ◌≤◌, ◌<◌, length};
 ghost use Rattle.std.proofs.lemmas.List.Edits.{sets};
+ghost use Rattle.answers.specs.Refusal.{numbered, refusal_number};
 ghost use Rattle.ledger.specs.Ledger.{entry_limit, largest, obeys, pairs_of, capacity};
-ghost use Rattle.rangelists.specs.RangeText.{position_of, range_of, merge_range, merged_from, Represents, merged, parts, read_ranges, read_ranges_after, separator_after, range_text, ranges_text, write_ranges, write_ranges_after};
+ghost use Rattle.rangelists.specs.RangeText.{position_of, range_of, merge_range, merged_from, Represents, merged, parts, IsUsed, read_ranges, read_ranges_after, separator_after, range_text, ranges_text, write_ranges, write_ranges_after};
 ghost use Rattle.answers.specs.WritesAt.{WritesAt};
 
-use answers::loaded::Loaded;
-use answers::written::Written;
+use answers::refusal::Refusal;
 use claims::claim;
 use ledger::rule;
-use octets::decimal::Number;
-use octets::{decimal, entries};
+use octets::decimal;
 use texts::text;
 use texts::text::ByteKind;
 
-// What the text between two commas says: the places from start up to end, end not counted, or nothing that is well formed.
-#[derive(Clone, Copy)]
-pub enum Range {
-    Places { start: u64, end: u64 },
-    Malformed,
+// The places from start up to end, end not counted.
+#[derive(Clone, Copy, Debug, PartialEq, Eq)]
+pub struct Range {
+    pub start: u64,
+    pub end: u64,
 }
 
 // The largest number that a range may name, 2 ^ 64 - 2: the place after it is a 64-bit number.
@@ -27,6 +26,15 @@ const LAST_LIMIT: u64 = 18446744073709551614;
 const DIGIT_LIMIT: usize = 20;
 
 // ---- the writer
+
+// The used pairs of a ledger: those before the first whose end is 0.
+fn used_pairs(ledger: &[u64]) -> &[[u64; 2]]
+    ensures { IsUsed result.now (pairs_of ledger.now) }
+{
+    let (pairs, _) = ledger.as_chunks::<2>();
+    let used = pairs.iter().take_while(|pair| pair[1] != 0).count();
+    &pairs[..used]
+}
 
 // The number of bytes of the range from a up to b.
 fn range_text_length(a: u64, b: u64) -> usize
@@ -56,10 +64,7 @@ fn after_comma(n: usize) -> usize
     requires { n < largest }
     ensures { result ≡ n + length (separator_after n) }
 {
-    if n == 0 {
-        return 0;
-    }
-    n + 1
+    if n == 0 { 0 } else { n + 1 }
 }
 
 // The number of bytes of a ledger's ranges.
@@ -67,16 +72,10 @@ fn list_text_length(ledger: &[u64]) -> usize
     requires { length ledger.now ≤ entry_limit }
     ensures { result ≡ length (ranges_text (pairs_of ledger.now)) }
 {
+    let pairs = used_pairs(ledger);
     let mut n = 0;
-    let mut i = 0;
-    while i + 1 < ledger.len() {
-        let a = ledger[i];
-        let b = ledger[i + 1];
-        if b == 0 {
-            return n;
-        }
+    for &[a, b] in pairs {
         n = after_comma(n) + range_text_length(a, b);
-        i += 2;
     }
     n
 }
@@ -86,11 +85,10 @@ fn put_comma(out: &mut [u8], n: usize) -> usize
     requires { n + length (separator_after n) ≤ length out.old }
     ensures { WritesAt out.old n (separator_after n) result out.new }
 {
-    if n == 0 {
-        return 0;
+    if n != 0 {
+        out[n] = b',';
     }
-    out[n] = b',';
-    n + 1
+    after_comma(n)
 }
 
 // Writes a ledger's ranges.
@@ -98,120 +96,90 @@ fn put_list(ledger: &[u64], out: &mut [u8])
     requires { length (ranges_text (pairs_of ledger.now)) ≤ length out.old }
     ensures { out.new ≡ sets out.old 0 (ranges_text (pairs_of ledger.now)) }
 {
+    let pairs = used_pairs(ledger);
     let mut n = 0;
-    let mut i = 0;
-    while i + 1 < ledger.len() {
-        let a = ledger[i];
-        let b = ledger[i + 1];
-        if b == 0 {
-            return;
-        }
+    for &[a, b] in pairs {
         let from = put_comma(out, n);
         n = put_range(out, from, a, b);
-        i += 2;
     }
 }
 
-pub fn write(ledger: &[u64], out: &mut [u8]) -> Written
-    ensures { (result ≡ write_ranges ledger.now out.old) × (out.new ≡ write_ranges_after ledger.now out.old) }
+pub fn write(ledger: &[u64], out: &mut [u8]) -> Result<usize, Refusal>
+    ensures { (numbered result ≡ write_ranges ledger.now out.old) × (out.new ≡ write_ranges_after ledger.now out.old) }
 {
-    let k = rule::refusal(ledger);
-    if 0 < k {
-        return Written::Refused(k);
-    }
+    rule::check(ledger)?;
     let n = list_text_length(ledger);
     if n == 0 {
-        return Written::Refused(54);
+        return Err(Refusal::EmptyLedger);
     }
     if out.len() < n {
-        return Written::Refused(55);
+        return Err(Refusal::TooFewBytes);
     }
     put_list(ledger, out);
-    Written::Bytes(n)
+    Ok(n)
 }
 
 // ---- the reader
 
 // A number of 1 to 20 digits, at most the largest that a range may name.
-fn read_position(text: &[u8]) -> Number
+fn read_position(text: &[u8]) -> Option<u64>
     ensures { result ≡ position_of text.now }
 {
     if DIGIT_LIMIT < text.len() {
-        return Number::Nothing;
+        return None;
     }
     decimal::read(text, LAST_LIMIT)
 }
 
 // What all of the text between two commas says.
-fn read_range(text: &[u8]) -> Range
+fn read_range(text: &[u8]) -> Option<Range>
     ensures { result ≡ range_of text.now }
 {
-    let k = text::leading(ByteKind::Digit, text);
-    if text.len() <= k {
-        return Range::Malformed;
+    let digits = text::leading(ByteKind::Digit, text);
+    if *text.get(digits)? != b'-' {
+        return None;
     }
-    if text[k] != b'-' {
-        return Range::Malformed;
+    let start = read_position(&text[..digits])?;
+    let last = read_position(&text[digits + 1..])?;
+    if last < start {
+        return None;
     }
-    let Number::Value(a) = read_position(&text[..k]) else {
-        return Range::Malformed;
-    };
-    let Number::Value(b) = read_position(&text[k + 1..]) else {
-        return Range::Malformed;
-    };
-    if b < a {
-        return Range::Malformed;
-    }
-    Range::Places {
-        start: a,
-        end: b + 1,
-    }
+    Some(Range {
+        start,
+        end: last + 1,
+    })
 }
 
-// Joins the range that a text says to the ledger: 0, or the number of the trouble.
-fn join_text(text: &[u8], ledger: &mut [u64]) -> u8
+// Joins the range that a text says to the ledger.
+fn join_text(text: &[u8], ledger: &mut [u64]) -> Result<(), Refusal>
     requires { obeys ledger.old ≡ true }
-    ensures { Represents (merge_range (capacity ledger.old) (pairs_of ledger.old) (range_of text.now) merged) result ledger.new }
+    ensures { Represents (merge_range (capacity ledger.old) (pairs_of ledger.old) (range_of text.now) merged) (refusal_number result) ledger.new }
 {
-    let Range::Places { start, end } = read_range(text) else {
-        return 51;
-    };
-    if claim::join(ledger, start, end) {
-        return 0;
-    }
-    52
+    let range = read_range(text).ok_or(Refusal::MalformedRanges)?;
+    claim::join(ledger, range.start, range.end)
 }
 
-// Joins the ranges of a list to the ledger, in reading order: 0, or the number of the first trouble.
-fn join_list(text: &[u8], ledger: &mut [u64]) -> u8
+// Joins the ranges of a list to the ledger, in reading order, up to the first trouble.
+fn join_list(text: &[u8], ledger: &mut [u64]) -> Result<(), Refusal>
     requires { obeys ledger.old ≡ true }
-    ensures { Represents (merged_from (capacity ledger.old) (pairs_of ledger.old) (parts text.now)) result ledger.new }
+    ensures { Represents (merged_from (capacity ledger.old) (pairs_of ledger.old) (parts text.now)) (refusal_number result) ledger.new }
 {
-    let mut at = 0;
-    loop {
-        let end = at + text::leading(ByteKind::NotComma, &text[at..]);
-        let k = join_text(&text[at..end], ledger);
-        if 0 < k {
-            return k;
-        }
-        if end == text.len() {
-            return 0;
-        }
-        at = end + 1;
+    for part in text.split(|b| *b == b',') {
+        join_text(part, ledger)?;
     }
+    Ok(())
 }
 
-pub fn read(text: &[u8], ledger: &mut [u64]) -> Loaded
-    ensures { (result ≡ read_ranges text.now ledger.old) × (ledger.new ≡ read_ranges_after text.now ledger.old) }
+pub fn read(text: &[u8], ledger: &mut [u64]) -> Result<(), Refusal>
+    ensures { (numbered result ≡ read_ranges text.now ledger.old) × (ledger.new ≡ read_ranges_after text.now ledger.old) }
 {
     if rule::length_wrong(ledger) {
-        return Loaded::Refused(53);
+        return Err(Refusal::LedgerLength);
     }
-    entries::clear(ledger);
-    let trouble = join_list(text, ledger);
-    if 0 < trouble {
-        entries::clear(ledger);
-        return Loaded::Refused(trouble);
+    ledger.fill(0);
+    let answer = join_list(text, ledger);
+    if answer.is_err() {
+        ledger.fill(0);
     }
-    Loaded::Done
+    answer
 }

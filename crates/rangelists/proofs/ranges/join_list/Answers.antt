@@ -1,96 +1,55 @@
 -- `ranges::join_list`: what is left of the list, joined to the ledger as it is, is the whole list joined to the ledger at entry.
-use Prim.Native.Nat.{ℕ, suc, ◌+◌, ◌-◌, ◌≤◌, ◌<◌}
-use mathlib.Core.Path.{◌≡◌, refl, sym, ap, ◌∙◌}
-use mathlib.Core.List.{List}
+use Prim.Native.Nat.{◌≤◌}
+use mathlib.Core.Path.{refl, sym, ap, ◌∙◌}
 use native.Mathlib.Omega.{arith}
-use lib.ListN.{length, take, drop, length-drop}
-use lib.Seq.{take_all, drop-drop}
+use denote.Param.Always.{mut_total}
+use lib.Dec.{eqb}
+use lib.ListN.{length, drop_of_length-le}
+use Rattle.std.proofs.Common.{rules, tests}
+use Rattle.std.proofs.lemmas.Iterator.Consumers.{YieldsList-turn, YieldsList-end}
+use Rattle.std.proofs.lemmas.Iterator.Splits.{YieldsList-from_slice_split}
+use Rattle.std.proofs.lemmas.List.{length_push}
+use Rattle.std.proofs.lemmas.Result.{err_from_is_err_and}
+use Rattle.answers.specs.Refusal.{refusal_number}
+use Rattle.answers.proofs.Numbers.{above_0}
 use Rattle.ledger.specs.Ledger.{pairs_of, capacity}
-use Rattle.rangelists.specs.RangeText.{merged, merge_range, range_of, merged_from, parts, Represents}
-use Rattle.texts.specs.Text.{is_not_comma, leading_count}
-use Rattle.texts.proofs.Texts.{leading_le}
-use Rattle.rangelists.proofs.RangeMerging.{represents-stopped, represents-done, walk-stop, walk-last, walk-next}
+use Rattle.rangelists.specs.RangeText.{merged, merge_range, range_of, merged_from, Represents}
+use Rattle.rangelists.proofs.PartsByComma.{pieces, parts-are, next_is}
+use Rattle.rangelists.proofs.RangeMerging.{represents-stopped, represents-done, walk-stop, walk-next, walk-end}
 use Rattle.rangelists.proofs.ranges.join_list.Goals as goal
-use Rattle.rangelists.proofs.ranges.join_list.Goals.{After-join_text-k, After-leading}
+use Rattle.rangelists.proofs.ranges.join_list.Goals.{After-join_text}
 
--- the comma that the code finds is the next one
-ends : (c : After-leading) → let s = c.args.text.now in
-    c.leading.result ≡ leading_count is_not_comma (drop c.loop-at.at s)
-ends c =
-    let s = c.args.text.now in
-    let h : length (drop c.loop-at.at s) ≤ length s - c.loop-at.at = simp length-drop (omega arith) in
-    c.leading.ensures ∙ ap (leading_count is_not_comma) (take_all (length s - c.loop-at.at) (drop c.loop-at.at s) h)
+-- the next text was joined to the ledger
+said : (c : After-join_text) → Represents (merge_range (capacity c.args.ledger.now) (pairs_of c.loop-part.ledger) (range_of c.in-Some.part.now) merged) (refusal_number c.join_text.result) c.join_text.new.ledger
+said c = rw c.loop-part.auto.ledger at c.join_text.ensures
 
-ends-le : (c : After-leading) → let s = c.args.text.now in
-    c.loop-at.at + c.leading.result ≤ length s
-ends-le c =
-    let s = c.args.text.now in
-    omega (arith, ends c, leading_le is_not_comma (drop c.loop-at.at s), length-drop c.loop-at.at s)
+pub loop-part-init : goal.loop-part-init
+loop-part-init c = (c.requires, rw (parts-are c.args.text.now), mut_total _ _ (λ s a. tt), tt)
 
--- what was joined is the text up to that comma
-said : (c : After-join_text-k) → let x = c.args in
-    let d = drop c.loop-at.at x.text.now in
-    Represents (merge_range (capacity x.ledger.now) (pairs_of c.loop-at.ledger) (range_of (take (leading_count is_not_comma d) d)) merged) c.join_text-k.result c.join_text-k.new.ledger
-said c =
-    let x = c.args in
-    let d = drop c.loop-at.at x.text.now in
-    let e : c.loop-at.at + c.leading.result - c.loop-at.at ≡ leading_count is_not_comma d = omega (arith, ends (goal.at.After-join_text-k c).After-leading) in
-    rw (e, c.loop-at.invariant.1) at c.join_text-k.ensures
+pub join_text-requires : goal.join_text-requires
+join_text-requires c = c.loop-part.invariant.0
 
-pub loop-at-init : goal.loop-at-init
-loop-at-init c =
-    (omega arith, refl, c.requires, refl)
+pub returns-in_err-join_text : goal.returns-in_err-join_text
+returns-in_err-join_text c =
+    let t = YieldsList-turn (YieldsList-from_slice_split _ (λ b. eqb b 44) c.args.text.now (cc) (cc) (cc) (λ x b q k. search (rules, tests))) c.loop-part.yielded _ c.loop-part.yielded_by _ _ c.in-Some.part c.in-Some.is c.next.ensures.steps in
+    let p = err_from_is_err_and c.from_residual.result c.from_residual.ensures.1 in
+    let q = rw c.in_err-join_text.was at (said (goal.at.returns-in_err-join_text c).After-join_text) in
+    let some = above_0 c.in_err-join_text.field-0.0 in
+    rw (p.1, p.2) (represents-stopped _ _ _ some (sym c.loop-part.invariant.1 ∙ ap (merged_from _ _) (next_is _ _ _ t) ∙ walk-stop _ _ _ _ _ _ q some))
 
-pub overflow_add-end : goal.overflow_add-end
-overflow_add-end c = omega (arith, ends-le c)
-
-pub slice_bounds-join_text-end : goal.slice_bounds-join_text-end
-slice_bounds-join_text-end c = omega (arith, ends-le c)
-
-pub join_text-k-requires : goal.join_text-k-requires
-join_text-k-requires c =
-    c.loop-at.invariant.2
-
-pub shape_of-ledger-then-k-gt0 : goal.shape_of-ledger-then-k-gt0
-shape_of-ledger-then-k-gt0 c =
-    c.join_text-k.auto.ledger ∙ c.loop-at.invariant.1
-
-pub returns-then-k-gt0 : goal.returns-then-k-gt0
-returns-then-k-gt0 c =
-    let s = c.args.text.now in
-    let h : 0 < c.join_text-k.result = omega arith in
-    represents-stopped _ _ _ h (sym c.loop-at.invariant.3 ∙ walk-stop _ _ _ (drop c.loop-at.at s) _ (said (goal.at.returns-then-k-gt0 c).After-join_text-k) h)
-
-pub shape_of-ledger-then-end-text : goal.shape_of-ledger-then-end-text
-shape_of-ledger-then-end-text c =
-    c.join_text-k.auto.ledger ∙ c.loop-at.invariant.1
-
-pub returns-then-end-text : goal.returns-then-end-text
-returns-then-end-text c =
-    let s = c.args.text.now in
-    let z : c.join_text-k.result ≡ 0 = omega arith in
-    let e : leading_count is_not_comma (drop c.loop-at.at s) ≡ length (drop c.loop-at.at s) = omega (arith, ends (goal.at.returns-then-end-text c).After-leading, length-drop c.loop-at.at s) in
-    represents-done _ _ ((said (goal.at.returns-then-end-text c).After-join_text-k).done z).0 (sym c.loop-at.invariant.3 ∙ walk-last _ _ _ (drop c.loop-at.at s) _ (said (goal.at.returns-then-end-text c).After-join_text-k) z e)
-
-pub overflow_add-at : goal.overflow_add-at
-overflow_add-at c = omega (arith, ends-le (goal.at.overflow_add-at c).After-leading)
-
-pub loop-at-smaller : goal.loop-at-smaller
-loop-at-smaller c = omega (arith, ends-le (goal.at.loop-at-smaller c).After-leading)
-
-pub loop-at-preserved : goal.loop-at-preserved
-loop-at-preserved c =
-    let x = c.args in
-    let s = x.text.now in
-    let d = drop c.loop-at.at s in
-    let z : c.join_text-k.result ≡ 0 = omega arith in
-    let h : leading_count is_not_comma d < length d = omega (arith, ends (goal.at.loop-at-preserved c).After-leading, ends-le (goal.at.loop-at-preserved c).After-leading, length-drop c.loop-at.at s) in
-    let e : c.loop-at.at + suc (leading_count is_not_comma d) ≡ c.loop-at.at + c.leading.result + 1 = omega (arith, ends (goal.at.loop-at-preserved c).After-leading) in (
-      omega (arith, ends-le (goal.at.loop-at-preserved c).After-leading),
-      c.join_text-k.auto.ledger ∙ c.loop-at.invariant.1,
-      ((said (goal.at.loop-at-preserved c).After-join_text-k).done z).0,
-      ap (λ (n : ℕ). merged_from (capacity x.ledger.now) (pairs_of c.join_text-k.new.ledger) (parts (drop n s))) (sym e)
-          ∙ ap (λ (t : List ℕ). merged_from (capacity x.ledger.now) (pairs_of c.join_text-k.new.ledger) (parts t)) (sym (drop-drop (suc (leading_count is_not_comma d)) c.loop-at.at s))
-          ∙ sym (walk-next _ _ _ d _ (said (goal.at.loop-at-preserved c).After-join_text-k) z h)
-          ∙ c.loop-at.invariant.3,
+pub loop-part-preserved : goal.loop-part-preserved
+loop-part-preserved c =
+    let t = YieldsList-turn (YieldsList-from_slice_split _ (λ b. eqb b 44) c.args.text.now (cc) (cc) (cc) (λ x b q k. search (rules, tests))) c.loop-part.yielded _ c.loop-part.yielded_by _ _ c.in-Some.part c.in-Some.is c.next.ensures.steps in
+    let q = rw c.in_ok-join_text.was at (said (goal.at.loop-part-preserved c).After-join_text) in (
+      (q.done refl).0,
+      rw (length_push c.loop-part.yielded c.in-Some.part) (sym (ap (merged_from _ _) (next_is _ _ _ t) ∙ walk-next _ _ _ _ _ _ q refl) ∙ c.loop-part.invariant.1),
+      search rules,
+      search rules,
     )
+
+pub returns : goal.returns
+returns c =
+    let t = YieldsList-end (YieldsList-from_slice_split _ (λ b. eqb b 44) c.args.text.now (cc) (cc) (cc) (λ x b q k. search (rules, tests))) c.loop-part.yielded _ c.loop-part.yielded_by _ _ c.in-None.is c.next.ensures.steps in
+    let past : length (pieces c.args.text.now) ≤ length c.loop-part.yielded = omega (arith, t.1) in
+    let over = drop_of_length-le (pieces c.args.text.now) past in
+    represents-done _ _ c.loop-part.invariant.0 (sym c.loop-part.invariant.1 ∙ ap (merged_from _ _) over ∙ walk-end _ _)

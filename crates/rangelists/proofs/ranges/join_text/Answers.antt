@@ -1,23 +1,28 @@
 -- `ranges::join_text`.
-use mathlib.Core.Path.{◌≡◌, sym, ◌∙◌}
+use mathlib.Core.Path.{◌≡◌}
+use native.Mathlib.Omega.{arith}
+use Rattle.std.specs.Prelude.{Some, None}
+use Rattle.std.proofs.lemmas.Result.{err_from_is_err_and}
+use Rattle.answers.specs.declared.refusal.Refusal.TheVariants.{MalformedRanges}
 use Rattle.rangelists.specs.RangeText.{range_of}
-use Rattle.rangelists.specs.declared.ranges.Range.TheVariants.{Places}
-use Rattle.rangelists.proofs.RangeMerging.{represents-51, represents-52, represents-joined}
+use Rattle.rangelists.proofs.RangeMerging.{represents-51, represents-join}
 use Rattle.rangelists.proofs.ranges.join_text.Goals as goal
-use Rattle.rangelists.proofs.ranges.join_text.Goals.{In-Places}
+use Rattle.rangelists.proofs.ranges.join_text.Goals.{In_ok-range}
 
-range-is : (c : In-Places) → range_of c.args.text.now ≡ Places c.in-Places.start c.in-Places.end
-range-is c = sym c.read_range.ensures ∙ c.in-Places.is
+range-is : (c : In_ok-range) → range_of c.args.text.now ≡ Some c.in_ok-range.range
+range-is c =
+    let h = c.ok_or.ensures.ok_part in
+    let w = c.in_ok-range.was in
+    let e = c.read_range.ensures in
+    grind arith
 
-pub returns-in_default : goal.returns-in_default
-returns-in_default c =
+pub returns-in_err-range : goal.returns-in_err-range
+returns-in_err-range c =
     let x = c.args in
-    represents-51 _ _ x.text.now x.ledger.now (sym c.read_range.ensures ∙ c.in_default.is)
-
-pub returns-then-join : goal.returns-then-join
-returns-then-join c =
-    represents-joined c.args.text.now c.args.ledger.now _ _ (range-is (goal.at.returns-then-join c).In-Places) c.requires _ _ c.join.ensures c.if-join.true
+    let p = err_from_is_err_and c.from_residual.result c.from_residual.ensures.1 in
+    let k : c.in_err-range.field-0.0 ≡ MalformedRanges = grind arith in
+    let e : range_of x.text.now ≡ None = grind arith in
+    rw (p.1, p.2, k) (represents-51 _ _ x.text.now x.ledger.now e)
 
 pub returns : goal.returns
-returns c =
-    represents-52 c.args.text.now c.args.ledger.now _ _ (range-is (goal.at.returns c).In-Places) c.requires _ _ c.join.ensures c.if-join.false
+returns c = represents-join c.args.text.now c.args.ledger.now _ _ (range-is (goal.at.returns c).In_ok-range) c.requires _ _ c.join.ensures
