@@ -1,5 +1,5 @@
 -- Numbers that are all 0: in every part, and in one OR over them.
-use Prim.Native.Nat.{ℕ, zero, suc, ◌+◌, ◌≤◌, ◌<◌}
+use Prim.Native.Nat.{ℕ, zero, suc, ◌+◌, ◌*◌, ◌≤◌, ◌<◌}
 use mathlib.Core.Path.{◌≡◌, refl, sym, ap, ◌∙◌}
 use mathlib.Core.Bool.{Bool, true, ◌&&◌, and-true, and_assoc, and-eq-true_iff}
 use mathlib.Core.List.{List, [], ◌∷◌}
@@ -9,8 +9,9 @@ use borrow.Author.Tests.{ne_eqb}
 use lib.Bits.{bit_or, or_zero_l, or_add_and, and_le_r}
 use lib.Dec.{eqb}
 use lib.ListN.{length, get_or, take, drop, drop_of_length-le}
-use lib.Seq.{drop-cons}
+use lib.Seq.{drop-cons, drop-drop}
 use Rattle.std.specs.List.{fold}
+use Rattle.std.specs.Simd.{first_chunks}
 use Rattle.ledger.specs.Ledger.{all_zero}
 
 -- ---- a part
@@ -41,6 +42,28 @@ pub fold-zeros : (any : ℕ) (l : List ℕ) → eqb (fold bit_or any l) 0 ≡ (e
 unfolding all_zero
 fold-zeros any [] = sym (and-true (eqb any 0))
 fold-zeros any (x ∷ xs) = fold-zeros (bit_or any x) xs ∙ rw (or-zero any x) (and_assoc (eqb any 0) (eqb x 0) (all_zero xs))
+
+-- ---- by blocks
+
+zeros-split : (n : ℕ) (l : List ℕ) → (all_zero (take n l) && all_zero (drop n l)) ≡ all_zero l
+unfolding all_zero
+zeros-split zero l = refl
+zeros-split (suc n) [] = refl
+zeros-split (suc n) (x ∷ xs) = and_assoc (eqb x 0) (all_zero (take n xs)) (all_zero (drop n xs)) ∙ ap (λ b. eqb x 0 && b) (zeros-split n xs)
+
+-- a block joined to what was gathered
+abbrev pub with_block : ℕ → List ℕ → ℕ
+with_block any block = bit_or any (fold bit_or 0 block)
+
+with_block-zero : (any : ℕ) (block : List ℕ) → eqb (with_block any block) 0 ≡ (eqb any 0 && all_zero block)
+with_block-zero any block = or-zero any (fold bit_or 0 block) ∙ ap (λ b. eqb any 0 && b) (fold-zeros 0 block)
+
+pub blocks-zero : (k any : ℕ) (l : List ℕ) → (eqb (fold with_block any (first_chunks 64 k l)) 0 && all_zero (drop (k * 64) l)) ≡ (eqb any 0 && all_zero l)
+blocks-zero zero any l = refl
+blocks-zero (suc k) any l =
+    let d : drop (suc k * 64) l ≡ drop (k * 64) (drop 64 l) = let n : suc k * 64 ≡ 64 + k * 64 = omega arith in rw n (sym (drop-drop (k * 64) 64 l)) in
+    rw d (blocks-zero k (with_block any (take 64 l)) (drop 64 l)
+    ∙ rw (with_block-zero any (take 64 l)) (and_assoc (eqb any 0) (all_zero (take 64 l)) (all_zero (drop 64 l)) ∙ ap (λ b. eqb any 0 && b) (zeros-split 64 l)))
 
 -- what a loop has gathered, and the numbers that are left, decide
 module _ (s : List ℕ) (i any : ℕ) (w : Bool) (v : (eqb any 0 && all_zero (drop i s)) ≡ w) where

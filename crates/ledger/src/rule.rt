@@ -1,5 +1,5 @@
 // The ledger rule, and how many bytes a ledger holds.
-ghost use Rattle.std.specs.Prelude.{◌≡◌, ◌&&◌, suc, ◌%◌, ◌<◌, min, ◌∷◌, leb, eqb, length, get_or, MatchOption};
+ghost use Rattle.std.specs.Prelude.{◌≡◌, ◌&&◌, suc, ◌%◌, ◌<◌, min, ◌∷◌, leb, eqb, length, get_or, fold, bit_or, MatchOption};
 ghost use Rattle.answers.specs.Refusal.{refusal_number};
 ghost use Rattle.ledger.specs.Pairs.{total, ends_at_most};
 ghost use Rattle.ledger.specs.Ledger.{length_wrong, all_zero, obeys_from, obeys, ledger_refusal, pairs_of, has_pair};
@@ -19,11 +19,20 @@ pub fn length_wrong(ledger: &[u64]) -> bool
     ledger.len() % 2 != 0 || ENTRY_LIMIT < ledger.len()
 }
 
-// Whether the entries are all 0. It reads them all, so that the compiler can make vector code of it.
+// The bits of all entries, joined.
+fn joined(entries: &[u64]) -> u64
+    ensures { result ≡ fold bit_or 0 entries.now }
+{
+    entries.iter().fold(0, |any: u64, entry| any | *entry)
+}
+
+// Whether the entries are all 0. It reads them all, by 64, so that the compiler can make vector code of it.
 fn all_zero(entries: &[u64]) -> bool
     ensures { result ≡ all_zero entries.now }
 {
-    entries.iter().fold(0, |any: u64, entry| any | *entry) == 0
+    let (blocks, rest) = entries.as_chunks::<64>();
+    let any = blocks.iter().fold(0, |any: u64, block| any | joined(block));
+    (any | joined(rest)) == 0
 }
 
 // Whether the entries are all 0 and make whole pairs.
