@@ -44,8 +44,7 @@ ends-fit (a ∷ b ∷ rest) h = go (eqb b 0) (ends-fit rest (λ i. h (suc (suc i
     go false i = rw (le-leb b largest (omega (arith, h 1)), i)
 
 -- only the rule is judged there
-pub obeys_fits : (l : List ℕ) → ((i : ℕ) → get_or l i 0 < 18446744073709551616) → (obeys l && ends_at_most largest (pairs_of l)) ≡ obeys l
-obeys_fits l h = rw (ends-fit l h) (and-true (obeys l))
-
 pub obeys-fits : (l : List ℕ) → ((i : ℕ) → get_or l i 0 < 18446744073709551616) → (obeys l && ends_at_most largest (pairs_of l)) ≡ obeys l
-obeys-fits = obeys_fits
+obeys-fits l h = rw (ends-fit l h) (and-true (obeys l))
+
+pub ruleset only_ruled = (obeys-fits)

@@ -1,15 +1,14 @@
 -- Numbers that are all 0: in every part, and in one OR over them.
-use Prim.Native.Nat.{ℕ, zero, suc, ◌+◌, ◌*◌, ◌≤◌, ◌<◌}
+use Prim.Native.Nat.{ℕ, zero, suc, ◌+◌, ◌*◌}
 use mathlib.Core.Path.{◌≡◌, refl, sym, ap, ◌∙◌}
-use mathlib.Core.Bool.{Bool, true, ◌&&◌, and-true, and_assoc, and-eq-true_iff}
+use mathlib.Core.Bool.{true, ◌&&◌, and-true, and_assoc, and-eq-true_iff}
 use mathlib.Core.List.{List, [], ◌∷◌}
 use native.Mathlib.Omega.{arith}
-use native.Mathlib.Numerals.{add-one}
 use borrow.Author.Tests.{ne_eqb}
 use lib.Bits.{bit_or, or_zero_l, or_add_and, and_le_r}
 use lib.Dec.{eqb}
-use lib.ListN.{length, get_or, take, drop, drop_of_length-le}
-use lib.Seq.{drop-cons, drop-drop}
+use lib.ListN.{take, drop}
+use lib.Seq.{drop-drop}
 use Rattle.std.specs.List.{fold}
 use Rattle.std.specs.Simd.{first_chunks}
 use Rattle.ledger.specs.Ledger.{all_zero}
@@ -64,15 +63,3 @@ blocks-zero (suc k) any l =
     let d : drop (suc k * 64) l ≡ drop (k * 64) (drop 64 l) = let n : suc k * 64 ≡ 64 + k * 64 = omega arith in rw n (sym (drop-drop (k * 64) 64 l)) in
     rw d (blocks-zero k (with_block any (take 64 l)) (drop 64 l)
     ∙ rw (with_block-zero any (take 64 l)) (and_assoc (eqb any 0) (all_zero (take 64 l)) (all_zero (drop 64 l)) ∙ ap (λ b. eqb any 0 && b) (zeros-split 64 l)))
-
--- what a loop has gathered, and the numbers that are left, decide
-module _ (s : List ℕ) (i any : ℕ) (w : Bool) (v : (eqb any 0 && all_zero (drop i s)) ≡ w) where
-  pub gathers : i < length s → (eqb (bit_or any (get_or s i 0)) 0 && all_zero (drop (i + 1) s)) ≡ w
-  unfolding all_zero
-  gathers h =
-      let e : all_zero (drop i s) ≡ (eqb (get_or s i 0) 0 && all_zero (drop (i + 1) s)) = rw (drop-cons s i 0 h, add-one i) in
-      rw (or-zero any (get_or s i 0)) (and_assoc (eqb any 0) (eqb (get_or s i 0) 0) (all_zero (drop (i + 1) s)) ∙ (rw e at v))
-
-  pub gathered : length s ≤ i → eqb any 0 ≡ w
-  unfolding all_zero
-  gathered h = sym (and-true (eqb any 0)) ∙ rw (drop_of_length-le s h) at v

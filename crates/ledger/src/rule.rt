@@ -88,7 +88,7 @@ pub fn obeys(ledger: &[u64], limit: u64) -> bool
 }
 
 // Refuses a ledger that is not to be written: by its length, then by its rule.
-#[tactic(auto, using(crate::proofs::LedgerSizes::obeys_fits), unfolding(crate::specs::Ledger::ledger_refusal))]
+#[tactic(auto, using(crate::proofs::LedgerSizes::only_ruled), unfolding(crate::specs::Ledger::ledger_refusal))]
 pub fn check(ledger: &[u64]) -> Result<(), Refusal>
     ensures { refusal_number result ≡ ledger_refusal ledger.now }
 {
