@@ -39,7 +39,6 @@ both_ways P false y n = fails (n refl)
 -- ---- the texts
 
 pub tests-e : (text : List ℕ) → Reflects (IsE text) (is_e text)
-unfolding is_e
 tests-e [] = fails (⊎_elim (λ e. omega (arith, ap length e)) (λ e. omega (arith, ap length e)))
 tests-e (b ∷ c ∷ bs) = fails (⊎_elim (λ e. omega (arith, ap length e)) (λ e. omega (arith, ap length e)))
 tests-e (b ∷ []) = go (eqb b 69) (eqb b 101) refl refl

@@ -6,7 +6,8 @@ use mathlib.Core.Bool.{Bool, true, false, cond, ◌&&◌}
 use mathlib.Core.List.{List}
 use native.Mathlib.Omega.{arith}
 use native.Mathlib.Decide.{ℕ_discrete}
-use Rattle.commands.specs.Line.{read_of, argument_of, refusal_number, verb}
+use Rattle.answers.specs.Refusal.{number_in}
+use Rattle.commands.specs.Line.{read_of, argument_of, verb}
 use Rattle.commands.specs.Refused.{RefusedBy, by_31, by_32, by_33, by_34, by_35_missing, by_35_present}
 use Rattle.commands.proofs.Accepted.{accepted-lines}
 use Rattle.commands.proofs.Refused.{refusals}
@@ -38,7 +39,6 @@ module _ (Answers : Console → Event → Row → Answer → Type 0) (t : Table 
   Gets s e r = Answers s e r (outcome r s)
 
   by_row : (s : Console) (e : Event) (r : Row) → row_of s e ≡ r → Gets s e r → Answers s e (row_of s e) (answer_to s e)
-  unfolding answer_to
   by_row s e r h a = rw h a
 
   -- one row of two, by a test
@@ -67,46 +67,37 @@ module _ (Answers : Console → Event → Row → Answer → Type 0) (t : Table 
         go false f g = g (inl refl)
 
     of-mode : Command l MODE text → Gets s (line l) (mode_row text)
-    unfolding outcome
     of-mode c = chosen s (line l) (IsE text) _ (tests-e text) mode_e mode_other (t.mode_e_gets_200 s l text (h, c)) (t.other_mode_gets_504 s l text (h, c))
 
     of-spas : Command l SPAS text → Gets s (line l) (spas_row s)
-    unfolding outcome
     of-spas c = by-mode-e spas too_early (t.spas_gets_229 s l text (h, c)) (t.too_early_gets_503 s l text SPAS (h, c) (inl refl))
 
     of-port : Command l PORT text → Gets s (line l) (port_row text)
-    unfolding outcome
     of-port c = chosen s (line l) (IsHostPort text) _ (tests-host-port text) port port_refused (t.port_gets_200 s l text (h, c)) (t.port_gets_501 s l text (h, c))
 
     of-spor : Command l SPOR text → Gets s (line l) (spor_row s text)
-    unfolding outcome
     of-spor c =
         by-mode-e _ too_early
         (λ m. chosen s (line l) (ListText text) _ (tests-list text) spor spor_refused (t.spor_gets_200 s l text (h, c) m) (t.spor_gets_501 s l text (h, c) m))
         (t.too_early_gets_503 s l text SPOR (h, c) (inr refl))
 
     of-stor : (v : ℕ) → Command l v text → (v ≡ STOR) ⊎ (v ≡ ESTO) → Gets s (line l) (command_row s v text)
-    unfolding outcome
     of-stor v c w =
         rw (by-stor s v text w)
         (by_both (s.endpoint ≡ Listening) _ (tests-listening s.endpoint) stor stor_refused (t.stor_gets_150 s l text v (h, c) w) (t.stor_gets_503 s l text v (h, c) w))
 
     of-retr : (v : ℕ) → Command l v text → (v ≡ RETR) ⊎ (v ≡ ERET) → Gets s (line l) (command_row s v text)
-    unfolding outcome
     of-retr v c w =
         rw (by-retr s v text w)
         (by_both (s.endpoint ≡ Connecting) _ (tests-connecting s.endpoint) retr retr_refused (t.retr_gets_150 s l text v (h, c) w) (t.retr_gets_503 s l text v (h, c) w))
 
     of-rest : Command l REST text → Gets s (line l) (rest_row text)
-    unfolding outcome
     of-rest c = chosen s (line l) (HasMalformed text) _ (tests-malformed text) rest_refused rest (t.rest_gets_501 s l text (h, c)) (t.rest_gets_350 s l text (h, c))
 
     of-sbuf-opts : (v : ℕ) → Command l v text → (v ≡ SBUF) ⊎ (v ≡ OPTS) → Gets s (line l) (command_row s v text)
-    unfolding outcome
     of-sbuf-opts v c w = rw (by-sbuf-opts s v text w) (t.sbuf_opts_get_200 s l text v (h, c) w)
 
     of-command : (v : ℕ) → 0 < v → v ≤ 12 → Command l v text → Gets s (line l) (command_row s v text)
-    unfolding outcome
     of-command v lo hi c =
         at_or_after v MODE lo (λ e. rw (by_mode s v text e) (of-mode (rw e at c)))
         (λ b. at_or_after v PASV b (λ e. rw (by-pasv s v text e) (t.pasv_gets_227 s l text (h, rw e at c)))
@@ -124,7 +115,6 @@ module _ (Answers : Console → Event → Row → Answer → Type 0) (t : Table 
 
   module _ (s : Console) (l : List ℕ) where
     of-refused : (k : ℕ) → RefusedBy l k → Gets s (line l) (refused_row k)
-    unfolding outcome
     of-refused k r = go k r r
       where
         go : (k : ℕ) → RefusedBy l k → RefusedBy l k → Gets s (line l) (refused_row k)
@@ -135,8 +125,7 @@ module _ (Answers : Console → Event → Row → Answer → Type 0) (t : Table 
         go k (by_35_missing a b c d e f g h i) r = t.refused_argument_gets_501 s l r
         go k (by_35_present a b c d e f g h i j) r = t.refused_argument_gets_501 s l r
 
-    of-accepted : refusal_number (read_of l) ≡ 0 → Answers s (line l) (row_of s (line l)) (answer_to s (line l))
-    unfolding outcome
+    of-accepted : number_in (read_of l) ≡ 0 → Answers s (line l) (row_of s (line l)) (answer_to s (line l))
     of-accepted e =
         let a = accepted-lines.accepted_is l e in
         let v = verb (read_of l) in
@@ -149,14 +138,14 @@ module _ (Answers : Console → Event → Row → Answer → Type 0) (t : Table 
         go v text c n false h = by_row s (line l) (command_row s v text) (command-row s l v text c h) (of-command s l text h v n.0 n.1 c)
 
   pub every-line : (s : Console) (l : List ℕ) → Answers s (line l) (row_of s (line l)) (answer_to s (line l))
-  every-line s l = at_or_after (refusal_number (read_of l)) 0 (omega arith) (of-accepted s l)
+  every-line s l = at_or_after (number_in (read_of l)) 0 (omega arith) (of-accepted s l)
       (λ n. let r = refusals.refused_is l n in
-      by_row s (line l) (refused_row (refusal_number (read_of l))) (refused-row s l (refusal_number (read_of l)) r) (of-refused s l (refusal_number (read_of l)) r))
+      by_row s (line l) (refused_row (number_in (read_of l))) (refused-row s l (number_in (read_of l)) r) (of-refused s l (number_in (read_of l)) r))
 
   -- ---- an ending
 
   pub every-ending : (s : Console) (v : Verdict) → Answers s (ending v) (row_of s (ending v)) (answer_to s (ending v))
-  unfolding outcome end_row row_of answer_to
+  unfolding row_of
   every-ending s v = go s.running refl v
     where
       go : (b : Bool) → s.running ≡ b → (v : Verdict) → Gets s (ending v) (cond b (end_row v) end_of_none)

@@ -1,3 +1,4 @@
+mod HostCount
 mod Rows
 mod RestRanges
 mod LineRows

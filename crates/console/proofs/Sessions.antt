@@ -7,6 +7,7 @@ use mathlib.Core.List.{List, [], ◌∷◌, ◌++◌, map}
 use native.Mathlib.Omega.{arith}
 use lib.Dec.{eqb}
 use lib.ListN.{get_or}
+use Rattle.std.specs.Prelude.{Some}
 use Rattle.commands.specs.Refused.{RefusedBy}
 use Rattle.commands.proofs.VerbNames.{verb-names}
 use Rattle.commands.proofs.WrittenLines.{written-lines}
@@ -14,7 +15,7 @@ use Rattle.rangelists.specs.RangeText.{has_malformed}
 use Rattle.rangelists.specs.MalformedRanges.{HasMalformed}
 use Rattle.console.specs.declared.state.Console.{Console}
 use Rattle.console.specs.declared.state.Answer.{Answer}
-use Rattle.console.specs.Console.{Event, line, ending}
+use Rattle.console.specs.Console.{Event, line, ending, code_in}
 use Rattle.console.specs.Rows.{MODE, PASV, PORT, REST, RETR, STOR, SPAS, SPOR, ERET, ESTO, SBUF, OPTS, Row, mode_e, mode_other, too_early, pasv, spas, port, port_refused, spor, spor_refused, stor, stor_refused, retr, retr_refused, rest, rest_refused, sbuf_opts, line_refused, argument_refused, while_running, end_result, end_suspect, end_broken, end_guess, end_of_none, outcome, refused_row, row_of, answer_to}
 use Rattle.console.specs.Table.{Asks, answer, Table}
 use Rattle.console.specs.Sessions.{answers_from, after, IsRefusal, Sessions}
@@ -44,14 +45,13 @@ in_turn s (e ∷ es) fs = ap (λ xs. answer_to s e ∷ xs) (in_turn (answer_to s
 
 -- ---- REST
 
-rest-answer : (s : Console) (l text : List ℕ) → Asks s l REST text → (b : Bool) → Reflects (HasMalformed text) b → answer_to s (line l) ≡ answer s (cond b 501 350) false
+rest-answer : (s : Console) (l text : List ℕ) → Asks s l REST text → (b : Bool) → Reflects (HasMalformed text) b → answer_to s (line l) ≡ answer s (Some (cond b 501 350)) false
 rest-answer s l text a true (holds p) = (sentences.rest_gets_501 s l text a p).1
 rest-answer s l text a false (fails n) = (sentences.rest_gets_350 s l text a n).1
 
 -- ---- refused commands
 
-refuses : (r : Row) (s : Console) → 500 ≤ (outcome r s).code → (outcome r s ≡ answer s (outcome r s).code false) × IsRefusal (outcome r s).code
-unfolding outcome
+refuses : (r : Row) (s : Console) → 500 ≤ code_in (outcome r s).code → (outcome r s ≡ answer s (outcome r s).code false) × IsRefusal (code_in (outcome r s).code)
 refuses mode_e s h = absurd (omega arith)
 refuses mode_other s h = (refl, inr (inr (inr refl)))
 refuses too_early s h = (refl, inr (inr (inl refl)))
@@ -78,23 +78,20 @@ refuses end_guess s h = absurd (omega arith)
 refuses end_of_none s h = absurd (omega arith)
 
 -- a refused line's answer
-refused-code : (k : ℕ) (s : Console) → outcome (refused_row k) s ≡ answer s (cond (eqb k 35) 501 500) false
-unfolding outcome
+refused-code : (k : ℕ) (s : Console) → outcome (refused_row k) s ≡ answer s (Some (cond (eqb k 35) 501 500)) false
 refused-code k s = go (eqb k 35)
   where
-    go : (b : Bool) → outcome (cond b argument_refused line_refused) s ≡ answer s (cond b 501 500) false
+    go : (b : Bool) → outcome (cond b argument_refused line_refused) s ≡ answer s (Some (cond b 501 500)) false
     go true = refl
     go false = refl
 
 answer-refused : (s : Console) (l : List ℕ) (k : ℕ) → RefusedBy l k → answer_to s (line l) ≡ outcome (refused_row k) s
-unfolding answer_to
 answer-refused s l k r = ap (λ w. outcome w s) (refused-row s l k r)
 
 -- ---- mode E
 
 -- no row takes it back
 keeps-mode-e : (r : Row) (s : Console) → s.extended ≡ true → (outcome r s).console.extended ≡ true
-unfolding outcome
 keeps-mode-e mode_e s h = refl
 keeps-mode-e mode_other s h = h
 keeps-mode-e too_early s h = h
@@ -121,12 +118,12 @@ keeps-mode-e end_guess s h = h
 keeps-mode-e end_of_none s h = h
 
 mode_e_stays : (s : Console) (es : List Event) → s.extended ≡ true → (after s es).extended ≡ true
-unfolding answer_to after
+unfolding after
 mode_e_stays s [] h = h
 mode_e_stays s (e ∷ es) h = mode_e_stays (answer_to s e).console es (keeps-mode-e (row_of s e) s h)
 
 pub sessions : Sessions
-unfolding answer_to answers_from
+unfolding answers_from
 sessions =
     record {
       table = sentences;

@@ -7,7 +7,8 @@ use mathlib.Core.List.{List}
 use native.Mathlib.Omega.{arith}
 use borrow.Author.Tests.{ne_eqb}
 use lib.Dec.{ltb, eqb}
-use Rattle.commands.specs.Line.{read_of, argument_of, refusal_number, verb}
+use Rattle.answers.specs.Refusal.{number_in}
+use Rattle.commands.specs.Line.{read_of, argument_of, verb}
 use Rattle.commands.specs.Refused.{RefusedBy, by_31, by_32, by_33, by_34, by_35_missing, by_35_present}
 use Rattle.commands.proofs.Accepted.{accepted-lines}
 use Rattle.commands.proofs.Refused.{refusals}
@@ -17,8 +18,9 @@ use Rattle.rangelists.specs.RangeText.{has_malformed}
 use Rattle.rangelists.specs.MalformedRanges.{HasMalformed}
 use Rattle.console.specs.declared.state.Console.{Console}
 use Rattle.console.specs.declared.state.Endpoint.TheVariants.{Listening, Connecting}
-use Rattle.console.specs.Console.{Event, line}
-use Rattle.console.specs.Rows.{MODE, PASV, PORT, REST, SPAS, SPOR, Row, mode_e, mode_other, too_early, pasv, spas, port, port_refused, spor, spor_refused, stor, stor_refused, retr, retr_refused, rest, rest_refused, sbuf_opts, line_refused, argument_refused, while_running, end_result, end_suspect, end_broken, end_guess, end_of_none, outcome, is_e, refused_row, command_row, end_row, row_of, answer_to}
+use Rattle.verdicts.specs.declared.verdict.Verdict.TheVariants.{Guess, Result, Suspect, Broken}
+use Rattle.console.specs.Console.{Event, line, ending}
+use Rattle.console.specs.Rows.{MODE, PASV, PORT, REST, SPAS, SPOR, Row, mode_e, mode_other, too_early, pasv, spas, port, port_refused, spor, spor_refused, stor, stor_refused, retr, retr_refused, rest, rest_refused, sbuf_opts, line_refused, argument_refused, while_running, end_result, end_suspect, end_broken, end_guess, end_of_none, outcome, is_e, refused_row, command_row, end_row, row_of}
 use Rattle.console.specs.Table.{Command, Asks, IsE, IsHostPort, Table}
 use Rattle.console.specs.Sessions.{Answered}
 use Rattle.console.proofs.Rows.{first, second, and-true, and_left, and_right, by_mode, by-pasv, by-spas, by-port, by-spor, by-stor, by-retr, by-rest, by-sbuf-opts}
@@ -37,7 +39,7 @@ above-0 l k (by_35_present _ _ _ _ _ _ _ _ _ _) = omega arith
 
 module _ (s : Console) (l : List ℕ) where
   module _ (v : ℕ) (text : List ℕ) (c : Command l v text) where
-    reads : (refusal_number (read_of l) ≡ 0) × (verb (read_of l) ≡ v) × (argument_of (read_of l) l ≡ text)
+    reads : (number_in (read_of l) ≡ 0) × (verb (read_of l) ≡ v) × (argument_of (read_of l) l ≡ text)
     reads = accepted-lines.command_line_accepted l c.0 text v c.1 c.2
 
     pub running-row : s.running ≡ true → row_of s (line l) ≡ while_running
@@ -55,7 +57,6 @@ module _ (s : Console) (l : List ℕ) where
 -- ---- the sentences
 
 answered : (s : Console) (e : Event) (r : Row) → row_of s e ≡ r → Answered s e r (outcome r s)
-unfolding answer_to
 answered s e r h = (h, ap (λ w. outcome w s) h)
 
 module _ (s : Console) (l text : List ℕ) where
@@ -78,7 +79,7 @@ module _ (s : Console) (l text : List ℕ) where
       not-starts h = asks v y a (e ∙ second (s.extended && b) x y (⊎_elim (and_left s.extended b) (λ n. and_right s.extended b (is_false P b t n)) h))
 
 pub sentences : Table Answered
-unfolding outcome row_of end_row
+unfolding row_of
 sentences =
     record {
       mode_e_gets_200 = λ s l text a p. asks s l text MODE mode_e a (by_mode s MODE text refl ∙ first (is_e text) mode_e mode_other (is_true (IsE text) (is_e text) (tests-e text) p));
@@ -109,9 +110,9 @@ sentences =
           answered s (line l) line_refused (refused-row s l k r ∙ second (eqb k 35) argument_refused line_refused (ne_eqb k 35 (λ e. omega arith)));
       refused_argument_gets_501 = λ s l r. answered s (line l) argument_refused (refused-row s l 35 r);
       running_gets_503 = λ s l text v h c. answered s (line l) while_running (running-row s l v text c h);
-      result_gets_226 = λ s h. answered s _ end_result (first s.running end_result end_of_none h);
-      suspect_gets_226 = λ s h. answered s _ end_suspect (first s.running end_suspect end_of_none h);
-      broken_gets_426 = λ s h. answered s _ end_broken (first s.running end_broken end_of_none h);
-      guess_gets_0 = λ s h. answered s _ end_guess (first s.running end_guess end_of_none h);
-      end_of_none_gets_0 = λ s v h. answered s _ end_of_none (second s.running (end_row v) end_of_none h);
+      result_gets_226 = λ s h. answered s (ending Result) end_result (first s.running end_result end_of_none h);
+      suspect_gets_226 = λ s h. answered s (ending Suspect) end_suspect (first s.running end_suspect end_of_none h);
+      broken_gets_426 = λ s h. answered s (ending Broken) end_broken (first s.running end_broken end_of_none h);
+      guess_gets_0 = λ s h. answered s (ending Guess) end_guess (first s.running end_guess end_of_none h);
+      end_of_none_gets_0 = λ s v h. answered s (ending v) end_of_none (second s.running (end_row v) end_of_none h);
     }

@@ -1,5 +1,5 @@
 -- A console's state, what it is told, and what it answers (document 02, Item 9).
-use Rattle.std.specs.Prelude.{ℕ, true, false, List}
+use Rattle.std.specs.Prelude.{ℕ, true, false, Option, Some, None as NoCode, List}
 use Rattle.verdicts.specs.declared.verdict.Verdict.{Verdict}
 use Rattle.console.specs.declared.state.Console.{Console}
 use Rattle.console.specs.declared.state.Endpoint.{Endpoint}
@@ -29,10 +29,18 @@ started s = record { extended = s.extended; endpoint = s.endpoint; running = tru
 abbrev pub ended : Console → Console
 ended s = record { extended = s.extended; endpoint = None; running = false }
 
--- ---- the answer: the console afterwards, the code, 0 where there is none, and whether the word SUSPECT goes with it
+-- ---- the answer: the console afterwards, the code, where there is one, and whether the word SUSPECT goes with it
 
 abbrev pub gets : Console → ℕ → Answer
-gets s code = record { console = s; code = code; suspect = false }
+gets s code = record { console = s; code = Some code; suspect = false }
 
 abbrev pub gets_with_suspect : Console → ℕ → Answer
-gets_with_suspect s code = record { console = s; code = code; suspect = true }
+gets_with_suspect s code = record { console = s; code = Some code; suspect = true }
+
+abbrev pub silent : Console → Answer
+silent s = record { console = s; code = NoCode; suspect = false }
+
+-- a code, 0 where there is none
+abbrev pub code_in : Option ℕ → ℕ
+code_in (Some code) = code
+code_in NoCode = 0

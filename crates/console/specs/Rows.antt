@@ -1,7 +1,8 @@
 -- Document 02's table of the console (Item 9), as definitions: which row an event falls under, and what the row answers. `Table` says the rows'
 -- conditions in terms of the texts.
 use Rattle.std.specs.Prelude.{ℕ, Bool, true, false, cond, ◌&&◌, ◌||◌, List, [], ◌∷◌, ltb, eqb}
-use Rattle.commands.specs.Line.{read_of, argument_of, refusal_number, verb}
+use Rattle.answers.specs.Refusal.{number_in}
+use Rattle.commands.specs.Line.{read_of, argument_of, verb}
 use Rattle.hostlists.specs.HostList.{host_count}
 use Rattle.rangelists.specs.RangeText.{has_malformed}
 use Rattle.verdicts.specs.declared.verdict.Verdict.{Verdict}
@@ -10,7 +11,7 @@ use Rattle.console.specs.declared.state.Console.{Console}
 use Rattle.console.specs.declared.state.Endpoint.{Endpoint}
 use Rattle.console.specs.declared.state.Endpoint.TheVariants.{None, Listening, Connecting}
 use Rattle.console.specs.declared.state.Answer.{Answer}
-use Rattle.console.specs.Console.{Event, line, ending, asked, at_endpoint, started, ended, gets, gets_with_suspect}
+use Rattle.console.specs.Console.{Event, line, ending, asked, at_endpoint, started, ended, gets, gets_with_suspect, silent}
 
 -- ---- the verbs by their places in document 01's list
 
@@ -86,7 +87,7 @@ pub data Row : Type 0 where
   end_guess : Row
   end_of_none : Row
 
-unfoldable pub outcome : Row → Console → Answer
+abbrev pub outcome : Row → Console → Answer
 outcome mode_e s = gets (asked s) 200
 outcome mode_other s = gets s 504
 outcome too_early s = gets s 503
@@ -109,8 +110,8 @@ outcome while_running s = gets s 503
 outcome end_result s = gets (ended s) 226
 outcome end_suspect s = gets_with_suspect (ended s) 226
 outcome end_broken s = gets (ended s) 426
-outcome end_guess s = gets s 0
-outcome end_of_none s = gets s 0
+outcome end_guess s = silent s
+outcome end_of_none s = silent s
 
 -- ---- which row
 
@@ -125,7 +126,7 @@ is_connecting Listening = false
 is_connecting Connecting = true
 
 -- the text is E or e, and nothing more
-unfoldable pub is_e : List ℕ → Bool
+abbrev pub is_e : List ℕ → Bool
 is_e [] = false
 is_e (b ∷ []) = eqb b 69 || eqb b 101
 is_e (b ∷ c ∷ bs) = false
@@ -152,7 +153,7 @@ abbrev pub rest_row : List ℕ → Row
 rest_row text = cond (has_malformed text) rest_refused rest
 
 -- a command with this verb and this argument, where no transfer runs
-unfoldable pub command_row : Console → ℕ → List ℕ → Row
+abbrev pub command_row : Console → ℕ → List ℕ → Row
 command_row s v text =
     cond (eqb v MODE) (mode_row text)
     (cond (eqb v PASV) pasv
@@ -167,12 +168,12 @@ abbrev pub refused_row : ℕ → Row
 refused_row k = cond (eqb k 35) argument_refused line_refused
 
 -- a line that is refused; then any command while a transfer runs; then the commands
-unfoldable pub line_row : Console → List ℕ → Row
+abbrev pub line_row : Console → List ℕ → Row
 line_row s l =
-    cond (ltb 0 (refusal_number (read_of l))) (refused_row (refusal_number (read_of l)))
+    cond (ltb 0 (number_in (read_of l))) (refused_row (number_in (read_of l)))
     (cond s.running while_running (command_row s (verb (read_of l)) (argument_of (read_of l) l)))
 
-unfoldable pub end_row : Verdict → Row
+abbrev pub end_row : Verdict → Row
 end_row Guess = end_guess
 end_row Result = end_result
 end_row Suspect = end_suspect
@@ -183,5 +184,5 @@ row_of s (line l) = line_row s l
 row_of s (ending v) = cond s.running (end_row v) end_of_none
 
 -- what the console answers to a line and to an ending, in any state
-unfoldable pub answer_to : Console → Event → Answer
+abbrev pub answer_to : Console → Event → Answer
 answer_to s e = outcome (row_of s e) s

@@ -1,6 +1,5 @@
 -- The console keeps to the table, over any sequence of lines and endings.
-use Rattle.std.specs.Prelude.{ℕ, ◌-◌, ◌%◌, ◌≤◌, ◌≡◌, ◌⊎◌, ◌≢◌, true, false, cond, List, [], ◌∷◌, ◌++◌, map, eqb, length, get_or}
-use Rattle.answers.specs.declared.loaded.Loaded.TheVariants.{Done, Refused}
+use Rattle.std.specs.Prelude.{ℕ, ◌-◌, ◌%◌, ◌≤◌, ◌≡◌, ◌⊎◌, ◌≢◌, true, false, cond, Some, Ok, Err, List, [], ◌∷◌, ◌++◌, map, eqb, length, get_or}
 use Rattle.commands.specs.Line.{verbs}
 use Rattle.commands.specs.Refused.{RefusedBy}
 use Rattle.commands.specs.VerbNames.{bytes}
@@ -9,7 +8,7 @@ use Rattle.verdicts.specs.declared.verdict.Verdict.{Verdict}
 use Rattle.console.specs.declared.state.Console.{Console}
 use Rattle.console.specs.declared.state.Endpoint.TheVariants.{None}
 use Rattle.console.specs.declared.state.Answer.{Answer}
-use Rattle.console.specs.Console.{Event, line, ending, beginning}
+use Rattle.console.specs.Console.{Event, line, ending, beginning, code_in}
 use Rattle.console.specs.Rows.{MODE, PASV, PORT, REST, RETR, STOR, SPAS, SPOR, ERET, ESTO, SBUF, OPTS, Row, row_of, answer_to}
 use Rattle.console.specs.Table.{Asks, answer, Table}
 
@@ -68,17 +67,17 @@ pub record Sessions : Type 1 where
   pub one_event : (s : Console) (e : Event) → answers_from answer_to s (e ∷ []) ≡ answer_to s e ∷ []
   pub in_turn : (s : Console) (es fs : List Event) → answers_from answer_to s (es ++ fs) ≡ answers_from answer_to s es ++ answers_from answer_to (after s es) fs
   -- a refused command changes nothing, and there is no word with its code
-  pub changes_nothing : (s : Console) (l : List ℕ) → 500 ≤ (answer_to s (line l)).code → answer_to s (line l) ≡ answer s (answer_to s (line l)).code false
+  pub changes_nothing : (s : Console) (l : List ℕ) → 500 ≤ code_in (answer_to s (line l)).code → answer_to s (line l) ≡ answer s (answer_to s (line l)).code false
   -- which codes these are
-  pub refused_with : (s : Console) (l : List ℕ) → 500 ≤ (answer_to s (line l)).code → IsRefusal (answer_to s (line l)).code
+  pub refused_with : (s : Console) (l : List ℕ) → 500 ≤ code_in (answer_to s (line l)).code → IsRefusal (code_in (answer_to s (line l)).code)
   -- a line that is refused gets its code in every state, also while a transfer runs
-  pub judged_first : (s : Console) (l : List ℕ) (k : ℕ) → RefusedBy l k → answer_to s (line l) ≡ answer s (cond (eqb k 35) 501 500) false
+  pub judged_first : (s : Console) (l : List ℕ) (k : ℕ) → RefusedBy l k → answer_to s (line l) ≡ answer s (Some (cond (eqb k 35) 501 500)) false
   -- mode E stays asked for
   pub mode_e_stays : (s : Console) (events : List Event) → s.extended ≡ true → (after s events).extended ≡ true
   -- an argument has at most 510 ranges. Into a pair for each the reader answers 51 where REST gets 501, and 0 where it gets 350
   pub ranges_are : ArgumentRanges
   pub rest_is_51 : (s : Console) (l text ledger : List ℕ) → Asks s l REST text → length ledger % 2 ≡ 0 → length ledger ≤ 8192 → 1020 ≤ length ledger
-      → (read_ranges text ledger ≡ cond (has_malformed text) (Refused 51) Done) × (answer_to s (line l) ≡ answer s (cond (has_malformed text) 501 350) false)
+      → (read_ranges text ledger ≡ cond (has_malformed text) (Err 51) (Ok tt)) × (answer_to s (line l) ≡ answer s (Some (cond (has_malformed text) 501 350)) false)
   -- the states that sequences from the beginning reach, and no others
   pub reached : (s : Console) → Possible s → Reached s
   pub reached_only : (s : Console) → Reached s → Possible s

@@ -1,37 +1,25 @@
 // The end of a transfer.
 ghost use Rattle.std.specs.Prelude.{◌≡◌};
-ghost use Rattle.console.specs.Console.{ended, ending};
+ghost use Rattle.console.specs.Console.{ending};
 ghost use Rattle.console.specs.Rows.{answer_to};
 
-use crate::state;
-use crate::state::{Answer, Console, Endpoint};
+use crate::state::{Answer, Console};
 use verdicts::verdict::Verdict;
 
-// The transfer is over, and its endpoint with it.
-fn ended(console: Console) -> Console
-    ensures { result ≡ ended console }
-{
-    Console {
-        extended: console.extended,
-        endpoint: Endpoint::None,
-        running: false,
-    }
-}
-
+#[tactic(auto, unfolding(crate::specs::Rows::row_of))]
 pub fn answer(console: Console, verdict: Verdict) -> Answer
     ensures { result ≡ answer_to console (ending verdict) }
 {
     if !console.running {
-        return state::gets(console, 0);
+        return console.silent();
     }
     match verdict {
-        Verdict::Guess => state::gets(console, 0),
-        Verdict::Result => state::gets(ended(console), 226),
+        Verdict::Guess => console.silent(),
+        Verdict::Result => console.ended().gets(226),
         Verdict::Suspect => Answer {
-            console: ended(console),
-            code: 226,
             suspect: true,
+            ..console.ended().gets(226)
         },
-        Verdict::Broken => state::gets(ended(console), 426),
+        Verdict::Broken => console.ended().gets(426),
     }
 }
