@@ -3,7 +3,7 @@ use Rattle.std.specs.Prelude.{ℕ, ◌≡◌, Bool, true, false, List, [], ◌�
 use Prim.Native.String.{String}
 use Rattle.commands.specs.VerbNames.{bytes}
 use Rattle.verdicts.specs.declared.verdict.Verdict.TheVariants.{Guess, Result, Suspect, Broken}
-use Rattle.console.specs.Console.{Event, line, ending, beginning}
+use Rattle.console.specs.Console.{Event, line, ending, beginning, code_in}
 use Rattle.console.specs.Rows.{answer_to}
 use Rattle.console.specs.Sessions.{answers_from}
 
@@ -65,5 +65,5 @@ steps =
     ∷ []
 
 pub record ConsoleSession : Type 0 where
-  pub codes : map (λ a. a.code) (answers_from answer_to beginning (map event steps)) ≡ map code steps
+  pub codes : map (λ a. code_in a.code) (answers_from answer_to beginning (map event steps)) ≡ map code steps
   pub words : map (λ a. a.suspect) (answers_from answer_to beginning (map event steps)) ≡ map word steps

@@ -1,11 +1,11 @@
 -- The proved set (document 01's word): the examples that "Examples on each side" marks with a star, in its order and no others, as one
 -- statement over a list of cases.
-use Rattle.std.specs.Prelude.{ℕ, ◌≡◌, List, [], ◌∷◌, map, length, replicate}
+use Rattle.std.specs.Prelude.{ℕ, ◌≡◌, Ok, List, [], ◌∷◌, map, length, replicate}
 use Rattle.octets.specs.Cases.{AllHold}
-use Rattle.answers.specs.Loaded.{loaded_number}
-use Rattle.answers.specs.Written.{written_number, written_bytes}
+use Rattle.answers.specs.Refusal.{number_in}
+use Rattle.answers.specs.Written.{written_bytes}
 use Rattle.eblock.specs.Descriptor.{fault_of}
-use Rattle.eblock.specs.Header.{meant, refusal_number, read_of, write_of, write_after, header_bytes}
+use Rattle.eblock.specs.Header.{meant, read_of, write_of, write_after, header_bytes}
 use Rattle.rangelists.specs.RangeText.{read_ranges, read_ranges_after}
 use Rattle.transfer.specs.Receive.{Answer, took}
 use Rattle.transfer.specs.Calls.{Call, receive, started_world, answers_of, after}
@@ -34,13 +34,13 @@ takes_all (receive channel piece) = took (length piece)
 -- a header is read and written; the reader, the writer and the receiver find the fault of a descriptor; every call takes its whole piece
 abbrev pub Holds : Case → Type 0
 Holds (header d second third bytes) =
-    (read_of bytes ≡ meant d second third)
+    (read_of bytes ≡ Ok (meant d second third))
     × (written_bytes (write_of d third lent_bytes) ≡ 17)
     × (write_after d second third lent_bytes ≡ bytes)
 Holds (descriptor d fault) =
     (fault_of d ≡ fault)
-    × (refusal_number (read_of (header_bytes d 0 0)) ≡ fault)
-    × (written_number (write_of d 0 lent_bytes) ≡ fault)
+    × (number_in (read_of (header_bytes d 0 0)) ≡ fault)
+    × (number_in (write_of d 0 lent_bytes) ≡ fault)
     × ((after (started_world (replicate 8 0) lent_ledger lent_ledger) (receive 0 (header_bytes d 0 0) ∷ [])).t.fault ≡ fault)
 Holds (received calls fault ledger) =
     let start = started_world (replicate 8 0) lent_ledger lent_ledger in
@@ -48,7 +48,7 @@ Holds (received calls fault ledger) =
     × ((after start calls).t.fault ≡ fault)
     × ((after start calls).lent.claimed ≡ ledger)
 Holds (ranges text k ledger) =
-    (loaded_number (read_ranges text lent_ledger) ≡ k) × (read_ranges_after text lent_ledger ≡ ledger)
+    (number_in (read_ranges text lent_ledger) ≡ k) × (read_ranges_after text lent_ledger ≡ ledger)
 
 -- a header of a payload of so many bytes at that offset
 abbrev pub data_header : ℕ → ℕ → List ℕ
