@@ -9,7 +9,7 @@ ghost use Rattle.channels.specs.OtherChannels.{CountsOthers};
 ghost use Rattle.runs.specs.Runs.{TakesHeader, RunOf};
 
 use crate::run::RunResult;
-use channelchecks::limits;
+use channelchecks::limits::HELD_LIMIT;
 use channels::channel_state::ChannelState;
 use channels::other_channels::OtherChannels;
 use copies::copy;
@@ -24,14 +24,12 @@ fn hold_bytes(x: ChannelState, bytes: &[u8]) -> ChannelState
     let n = bytes.len();
     copy::store(&mut held, x.held as usize, bytes, n);
     ChannelState {
-        count: x.count,
-        fault: x.fault,
-        on: x.on,
         state: 1,
         held: x.held + n as u8,
         next: 0,
         left: 0,
         bytes: held,
+        ..x
     }
 }
 
@@ -40,8 +38,7 @@ fn whole_header(x: ChannelState, last: u8) -> [u8; 17]
     ensures { result ≡ x.bytes ++ last ∷ [] }
 {
     let mut head = [last; 17];
-    let bytes = x.bytes;
-    copy::store(&mut head, 0, &bytes, limits::HELD_LIMIT);
+    head[..HELD_LIMIT].copy_from_slice(&x.bytes);
     head
 }
 
@@ -49,11 +46,7 @@ fn whole_header(x: ChannelState, last: u8) -> [u8; 17]
 fn room(x: ChannelState) -> usize
     ensures { result ≡ 16 - x.held }
 {
-    let held = x.held as usize;
-    if limits::HELD_LIMIT < held {
-        return 0;
-    }
-    limits::HELD_LIMIT - held
+    HELD_LIMIT.saturating_sub(usize::from(x.held))
 }
 
 // The piece has the bytes up to the 16th, so many, and the 17th too: the header is made whole and judged.
@@ -72,9 +65,8 @@ fn judge_run(
     let y = hold_bytes(x, &piece[..more]);
     let whole = whole_header(y, piece[more]);
     let next = apply::apply_header(y, c, o, &whole, claimed, doubtful);
-    let after = next.channel;
     RunResult {
-        channel: after,
+        channel: next.channel,
         taken: more + 1,
         continues: next.continues,
     }
@@ -94,11 +86,12 @@ pub fn header_run(
 {
     let more = room(x);
     if more < piece.len() {
-        return judge_run(x, c, o, piece, more, claimed, doubtful);
-    }
-    RunResult {
-        channel: hold_bytes(x, piece),
-        taken: piece.len(),
-        continues: true,
+        judge_run(x, c, o, piece, more, claimed, doubtful)
+    } else {
+        RunResult {
+            channel: hold_bytes(x, piece),
+            taken: piece.len(),
+            continues: true,
+        }
     }
 }

@@ -10,30 +10,18 @@ use crate::run::RunResult;
 use channels::channel_state::ChannelState;
 use channels::next_state;
 use copies::copy;
-use std::num;
-
-fn lesser(a: u64, b: usize) -> usize
-    ensures { result ≡ min a b }
-{
-    if a < b as u64 {
-        return a as usize;
-    }
-    b
-}
 
 // Stores the piece's bytes up to the payload's end. Where the transfer fits, the payload lies in the file and the sum does not wrap.
 pub fn payload_run(x: ChannelState, piece: &[u8], file: &mut [u8]) -> RunResult
     requires { (0 < length piece.now) × (1 < x.state) × (0 < x.left) }
     ensures { (result.taken ≡ min x.left (length piece.now)) × ((t : Transfer) (c : ℕ) (claimed doubtful : List ℕ) → HasChannel t c → fits (world (write_back t c x) file.old claimed doubtful) ≡ true → RunOf c (world (write_back t c x) file.old claimed doubtful) piece.now (world (write_back t c result.channel) file.new claimed doubtful) result.taken result.continues) }
 {
-    let n = lesser(x.left, piece.len());
-    copy::store(file, x.next as usize, piece, n);
-    let place = num::wrapping_add_u64(x.next, n as u64);
-    let next = next_state::expect_payload(x, place, x.left - n as u64, x.state == 3);
-    let after = next.channel;
+    let n = x.left.min(piece.len() as u64);
+    copy::store(file, x.next as usize, piece, n as usize);
+    let next = next_state::expect_payload(x, x.next.wrapping_add(n), x.left - n, x.state == 3);
     RunResult {
-        channel: after,
-        taken: n,
+        channel: next.channel,
+        taken: n as usize,
         continues: next.continues,
     }
 }

@@ -9,6 +9,7 @@ ghost use Rattle.verdicts.specs.Verdict.{count_reached};
 ghost use Rattle.runs.specs.Runs.{RunOf};
 
 use crate::{header_run, payload_run};
+use answers::refusal::Refusal;
 use channels::channel_state::ChannelState;
 use channels::other_channels::OtherChannels;
 use verdicts::verdict;
@@ -25,10 +26,7 @@ pub struct RunResult {
 fn gives_19(x: ChannelState, o: OtherChannels) -> bool
     ensures { result ≡ (x.state == 0 && count_reached x.count o.used) }
 {
-    if x.state != 0 {
-        return false;
-    }
-    verdict::count_reached(x.count, o.used)
+    x.state == 0 && verdict::count_reached(x.count, o.used)
 }
 
 // Takes the bytes of the header or of the payload at hand. The last case is that of an ended channel, which takes none.
@@ -45,11 +43,12 @@ pub fn run(
     ensures { (result.taken ≤ length piece.now) × (result.continues ≡ true → 0 < result.taken) × ((t : Transfer) → CountsOthers t c o → fits (world (write_back t c x) file.old claimed.old doubtful.old) ≡ true → RunOf c (world (write_back t c x) file.old claimed.old doubtful.old) piece.now (world (write_back t c result.channel) file.new claimed.new doubtful.new) result.taken result.continues) }
 {
     if gives_19(x, o) {
-        let mut y = x;
-        y.fault = 19;
-        y.on = c as u64;
         return RunResult {
-            channel: y,
+            channel: ChannelState {
+                fault: u64::from(u8::from(Refusal::TooManyChannels)),
+                on: c as u64,
+                ..x
+            },
             taken: 0,
             continues: false,
         };

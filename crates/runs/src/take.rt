@@ -31,21 +31,16 @@ pub fn take(
 ) -> CallResult
     ensures { (t : Transfer) → CountsOthers t c o → fits (world (write_back t c x) file.old claimed.old doubtful.old) ≡ true → (took result.taken, world (write_back t c result.channel) file.new claimed.new doubtful.new) ≡ take_bytes_on c (world (write_back t c x) file.old claimed.old doubtful.old) piece.now 0 }
 {
-    let mut y = x;
-    let mut i = 0;
-    while i < piece.len() {
-        let r = run::run(y, c, o, &piece[i..], file, claimed, doubtful);
-        y = r.channel;
-        i += r.taken;
+    let mut channel = x;
+    let mut taken = 0;
+    // Stays: a step is as long as its run, and no iterator of the library has steps by what its items answer.
+    while taken < piece.len() {
+        let r = run::run(channel, c, o, &piece[taken..], file, claimed, doubtful);
+        channel = r.channel;
+        taken += r.taken;
         if !r.continues {
-            return CallResult {
-                channel: y,
-                taken: i,
-            };
+            return CallResult { channel, taken };
         }
     }
-    CallResult {
-        channel: y,
-        taken: i,
-    }
+    CallResult { channel, taken }
 }

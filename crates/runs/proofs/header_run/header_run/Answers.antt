@@ -24,14 +24,14 @@ returns-then-more-piece c =
 pub hold_bytes-requires : goal.hold_bytes-requires
 hold_bytes-requires c = omega (arith, all_held c)
 
-pub returns : goal.returns
-returns c =
+pub returns-else-more-piece : goal.returns-else-more-piece
+returns-else-more-piece c =
     let x = c.args in
-    let l = all_held (goal.at.returns c).Else-more-piece in (
+    let l = all_held (goal.at.returns-else-more-piece c).Else-more-piece in (
       c.requires,
       omega arith,
       λ t file a k e n.
           let h = ap (λ y. y.held) (write-back-at t x.c a.has x.x) in
           held-run-of (write_back t x.c x.x) x.claimed.now x.doubtful.now x.c x.piece.now a.has.below e (write-back-takes t x.c x.o a x.x k) c.requires (omega (arith, h, l))
-          (write_back t x.c c.hold_bytes.result) (ap (write_back t x.c) (c.hold_bytes.ensures l) ∙ write-back-held-bytes t x.c a.has x.x (sixteen (goal.at.returns c).Else-more-piece) x.piece.now l) file (n ∙ sym (write-back-len t x.c x.x)),
+          (write_back t x.c c.hold_bytes.result) (ap (write_back t x.c) (c.hold_bytes.ensures l) ∙ write-back-held-bytes t x.c a.has x.x (sixteen (goal.at.returns-else-more-piece c).Else-more-piece) x.piece.now l) file (n ∙ sym (write-back-len t x.c x.x)),
     )

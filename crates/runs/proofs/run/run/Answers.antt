@@ -1,5 +1,5 @@
 -- `run::run`: one of four runs, by the channel's state.
-use Rattle.std.proofs.Common.{eqb, sym, ap, ◌∙◌, true≢false, arith, eqb-true}
+use Rattle.std.proofs.Common.{◌≡◌, eqb, sym, ap, ◌∙◌, true≢false, arith, eqb-true}
 use mathlib.Core.Bool.{and-eq-true_iff}
 use Rattle.transfer.specs.Channel.{put_fault}
 use Rattle.verdicts.specs.Verdict.{count_reached}
@@ -18,8 +18,9 @@ returns-then-gives_19 c = (
       let x = c.args in
       let b = (and-eq-true_iff (eqb x.x.state 0) (count_reached x.x.count x.o.used)).0 (sym c.gives_19.ensures ∙ c.if-gives_19.true) in
       let z = eqb-true x.x.state 0 b.0 in
-      count-reached-run-of (write_back t x.c x.x) x.file.now x.claimed.now x.doubtful.now x.c x.piece.now c.requires (ap (λ k. k.state) (write-back-at t x.c a.has x.x) ∙ z)
-      (write-back-count-reached t x.c x.o a x.x z ∙ b.1),
+      let k : c.from-then-gives_19.result ≡ 19 = c.from-then-gives_19.ensures ∙ c.from.ensures in
+      rw k (count-reached-run-of (write_back t x.c x.x) x.file.now x.claimed.now x.doubtful.now x.c x.piece.now c.requires (ap (λ k. k.state) (write-back-at t x.c a.has x.x) ∙ z)
+      (write-back-count-reached t x.c x.o a x.x z ∙ b.1)),
 )
 
 pub returns-then-x-lt2 : goal.returns-then-x-lt2
