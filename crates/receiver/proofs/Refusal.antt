@@ -1,15 +1,17 @@
 -- The number by which a call is refused, test by test, and what a call answers by it.
 use Prim.Native.Nat.{ℕ, suc, ◌≤◌, ◌<◌}
-use mathlib.Core.Path.{◌≡◌, refl, sym, ap, ◌∙◌}
-use mathlib.Core.Bool.{Bool, true, false, cond, not, ◌&&◌, ◌||◌}
+use mathlib.Core.Path.{◌≡◌, refl, ◌∙◌}
+use mathlib.Core.Bool.{Bool, true, false, cond, not, ◌&&◌, ◌||◌, true≢false}
 use mathlib.Core.List.{List, [], ◌∷◌}
 use native.Mathlib.Omega.{arith}
 use native.Mathlib.Decide.{dec_lt}
-use borrow.Author.Tests.{lt-ltb, le-leb, lt-leb}
+use borrow.Author.Tests.{lt-ltb, le-leb, lt-leb, eqb-true}
 use lib.Dec.{ltb, eqb}
 use lib.ListN.{length}
 use Rattle.channelchecks.specs.FitReport.{report_if}
-use Rattle.channelchecks.proofs.FitReportFields.{fits_where, used-where, ended-where}
+use Rattle.channelchecks.proofs.FitReportFields.{unfit-where, fit-where, used-where, ended-where}
+use Rattle.std.specs.Prelude.{Some, None}
+use Rattle.channelchecks.specs.declared.report.FitReport.{FitReport}
 use Rattle.checks.specs.ReportOf.{report_with_file}
 use Rattle.checks.proofs.ReportOf.{report-in}
 use Rattle.transfer.specs.declared.state.Transfer.{Transfer}
@@ -26,11 +28,15 @@ module _ (t : Transfer) (f claimed doubtful : List ℕ) where
   whole_is : report_with_file (length f) t claimed doubtful ≡ report_if (fits (world t f claimed doubtful)) t
   whole_is = report-in (length f) t claimed doubtful ∙ (unfold fits in refl)
 
-  pub found-fits : (report_with_file (length f) t claimed doubtful).fits ≡ fits (world t f claimed doubtful)
-  found-fits = ap (λ s. s.fits) whole_is ∙ fits_where (fits (world t f claimed doubtful)) t
+  pub none-found : None ≡ report_with_file (length f) t claimed doubtful → fits (world t f claimed doubtful) ≡ false
+  none-found e = unfit-where (fits (world t f claimed doubtful)) t (e ∙ whole_is)
 
-  pub found-counts : fits (world t f claimed doubtful) ≡ true → ((report_with_file (length f) t claimed doubtful).used ≡ used_of t) × ((report_with_file (length f) t claimed doubtful).ended ≡ ended_of t)
-  found-counts e = (ap (λ s. s.used) whole_is ∙ used-where (fits (world t f claimed doubtful)) t e, ap (λ s. s.ended) whole_is ∙ ended-where (fits (world t f claimed doubtful)) t e)
+  module _ (s : FitReport) (e : Some s ≡ report_with_file (length f) t claimed doubtful) where
+    pub found-fits : fits (world t f claimed doubtful) ≡ true
+    found-fits = fit-where (fits (world t f claimed doubtful)) t s (e ∙ whole_is)
+
+    pub found-counts : (s.used ≡ used_of t) × (s.ended ≡ ended_of t)
+    found-counts = (used-where (fits (world t f claimed doubtful)) t s (e ∙ whole_is), ended-where (fits (world t f claimed doubtful)) t s (e ∙ whole_is))
 
 -- the verdict by the numbers that the code has
 pub guess_is : (w : World) (ended : ℕ) → ended ≡ ended_of w.t → is_guess (verdict_of w) ≡ not (ltb 0 w.t.fault || (ltb 0 w.t.count && eqb ended w.t.count))
@@ -89,6 +95,10 @@ module _ (w : World) (c : ℕ) (piece : List ℕ) where
       go true f (no d) = absurd (omega (arith, e, refused-2 f (omega arith)))
       go true f (yes d) = (f, d)
 
-pub some_is : (piece : List ℕ) → is_non_empty piece ≡ ltb 0 (length piece)
-some_is [] = refl
-some_is (b ∷ bs) = sym (lt-ltb 0 (suc (length bs)) (omega arith))
+pub some_is : (piece : List ℕ) → eqb (length piece) 0 ≡ false → is_non_empty piece ≡ true
+some_is [] e = absurd (true≢false e)
+some_is (b ∷ bs) e = refl
+
+pub empty_is : (piece : List ℕ) → eqb (length piece) 0 ≡ true → is_non_empty piece ≡ false
+empty_is [] e = refl
+empty_is (b ∷ bs) e = absurd (omega (arith, eqb-true (suc (length bs)) 0 e))

@@ -19,7 +19,7 @@ use Rattle.verdicts.specs.declared.verdict.Verdict.{Verdict as Word}
 use Rattle.verdicts.specs.Verdict.{to_verdict, count_reached}
 use Rattle.verdicts.proofs.VerdictNames.{from-to}
 use Rattle.runs.proofs.Runs.{fits-some}
-use Rattle.receiver.specs.declared.show.Screen.TheVariants.{Shows, Refused}
+use Rattle.std.specs.Prelude.{Ok, Err}
 use Rattle.receiver.specs.Shown.{numbers_of, shown_of}
 
 -- pairs by the rule with no end above f hold no more than f places
@@ -63,11 +63,11 @@ module _ (t : Transfer) (claimed doubtful : List ℕ) (f : fits_without_file t c
   -- ---- the whole
 
   pub is-shown : (v : Word) (ended bytes doubt : ℕ) → to_verdict v ≡ verdict_of (world t [] claimed doubtful) → ended ≡ ended_of t → bytes ≡ stored_of (world t [] claimed doubtful) → doubt ≡ doubt_of (world t [] claimed doubtful)
-      → Shows (record { verdict = v; ended = ended; count = t.count; fault = t.fault; on = t.on; bytes = bytes; doubtful = doubt }) ≡ shown_of t claimed doubtful
+      → Ok (record { verdict = v; ended = ended; count = t.count; fault = t.fault; on = t.on; bytes = bytes; doubtful = doubt }) ≡ shown_of t claimed doubtful
   unfolding shown_of numbers_of
   is-shown v ended bytes doubt p q r s = rw (from-to v (verdict_of (world t [] claimed doubtful)) p, q, r, s, f)
 
-pub not_shown : (t : Transfer) (claimed doubtful : List ℕ) → fits_without_file t claimed doubtful ≡ false → Refused 1 ≡ shown_of t claimed doubtful
+pub not_shown : (t : Transfer) (claimed doubtful : List ℕ) → fits_without_file t claimed doubtful ≡ false → Err 1 ≡ shown_of t claimed doubtful
 unfolding shown_of
 not_shown t claimed doubtful f = rw f
 

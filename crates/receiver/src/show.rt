@@ -1,20 +1,21 @@
 // What a host may ask of a receiver between calls: what the screen line says, as numbers.
 ghost use Rattle.std.specs.Prelude.{◌≡◌, true, []};
+ghost use Rattle.answers.specs.Refusal.{numbered};
 ghost use Rattle.transfer.specs.Transfer.{world, stored_of};
 ghost use Rattle.transfer.specs.Fit.{fits_without_file};
 ghost use Rattle.receiver.specs.Shown.{shown_of};
 
 use crate::receive::Receiver;
+use answers::refusal::Refusal;
 use checks::fit;
 use counts::count;
 use ledger::rule;
-use sums::sum;
 use transfer::state::Transfer;
 use verdicts::verdict;
 use verdicts::verdict::Verdict;
 
 // A count of 0 is an unknown one, and a fault of 0 is none.
-#[derive(Clone, Copy)]
+#[derive(Clone, Copy, Debug, PartialEq, Eq)]
 pub struct Shown {
     pub verdict: Verdict,
     // The channels that have ended.
@@ -29,36 +30,26 @@ pub struct Shown {
     pub doubtful: u64,
 }
 
-// What the screen line says, or the number by which it is refused.
-#[derive(Clone, Copy)]
-pub enum Screen {
-    Shows(Shown),
-    Refused(u8),
-}
-
 // The claimed bytes less those left in all payloads, of a transfer and ledgers that fit.
 fn stored(t: Transfer, claimed: &[u64], doubtful: &[u64]) -> u64
     requires { fits_without_file t claimed.now doubtful.now ≡ true }
     ensures { result ≡ stored_of (world t [] claimed.now doubtful.now) }
 {
-    let all = rule::total(claimed);
-    let left = count::left(t);
-    sum::saturating_sub(all, left)
+    rule::total(claimed).saturating_sub(count::left(t))
 }
 
 impl Receiver {
     // 1 where transfer and ledgers don't fit.
-    pub fn shown(self, claimed: &[u64], doubtful: &[u64]) -> Screen
-        ensures { result ≡ shown_of self.transfer claimed.now doubtful.now }
+    pub fn shown(self, claimed: &[u64], doubtful: &[u64]) -> Result<Shown, Refusal>
+        ensures { numbered result ≡ shown_of self.transfer claimed.now doubtful.now }
     {
         let t = self.transfer;
-        let found = fit::report(t, claimed, doubtful);
-        if !found.fits {
-            return Screen::Refused(1);
-        }
-        let shown = verdict::of(t.fault, t.count, found.ended, 0, rule::has_pair(doubtful));
-        Screen::Shows(Shown {
-            verdict: shown,
+        let Some(found) = fit::report(t, claimed, doubtful) else {
+            return Err(Refusal::Unfit);
+        };
+        let verdict = verdict::of(t.fault, t.count, found.ended, 0, rule::has_pair(doubtful));
+        Ok(Shown {
+            verdict,
             ended: found.ended,
             count: t.count,
             fault: t.fault,

@@ -1,19 +1,21 @@
 // Start: a fresh transfer, and both ledgers zeroed.
 ghost use Rattle.std.specs.Prelude.{◌≡◌};
+ghost use Rattle.answers.specs.Refusal.{refusal_number};
 ghost use Rattle.transfer.specs.Transfer.{fresh, lengths_wrong, start_refusal, start_of, start_after};
 
 use crate::receive::Receiver;
+use answers::refusal::Refusal;
 use ledger::rule;
-use octets::entries;
 use transfer::state::{Channel, Transfer};
 
-// The receiver that start gives, and the number by which it was refused, 0 where it was not.
+// The receiver that start gives, and whether it was refused.
 #[derive(Clone, Copy)]
 pub struct Started {
     pub receiver: Receiver,
-    pub refused: u8,
+    pub answer: Result<(), Refusal>,
 }
 
+#[tactic(auto, unfolding(transfer::specs::Transfer::fresh))]
 fn fresh(len: u64, pairs: u64) -> Transfer
     ensures { result ≡ fresh len pairs }
 {
@@ -24,8 +26,8 @@ fn fresh(len: u64, pairs: u64) -> Transfer
         left: 0,
     };
     Transfer {
-        len: len,
-        pairs: pairs,
+        len,
+        pairs,
         count: 0,
         fault: 0,
         on: 0,
@@ -35,35 +37,34 @@ fn fresh(len: u64, pairs: u64) -> Transfer
 }
 
 // Whether the claimed ledger's length is odd or above 8,192 entries, or the two lengths differ.
+#[tactic(auto, unfolding(transfer::specs::Transfer::lengths_wrong))]
 fn lengths_wrong(claimed: &[u64], doubtful: &[u64]) -> bool
     ensures { result ≡ lengths_wrong claimed.now doubtful.now }
 {
-    if rule::length_wrong(claimed) {
-        return true;
-    }
-    doubtful.len() != claimed.len()
+    rule::length_wrong(claimed) || doubtful.len() != claimed.len()
 }
 
 // For a file of len bytes. 5 where the lengths of the ledgers are wrong: both stay as they were, and the transfer is that of no bytes and no
 // pairs.
+#[tactic(auto, unfolding(transfer::specs::Transfer::start_refusal, transfer::specs::Transfer::start_of, transfer::specs::Transfer::start_after))]
 pub fn start(len: u64, claimed: &mut [u64], doubtful: &mut [u64]) -> Started
-    ensures { (result.refused ≡ start_refusal claimed.old doubtful.old) × (result.receiver.transfer ≡ start_of len claimed.old doubtful.old) × (claimed.new ≡ start_after claimed.old doubtful.old claimed.old) × (doubtful.new ≡ start_after claimed.old doubtful.old doubtful.old) }
+    ensures { (refusal_number result.answer ≡ start_refusal claimed.old doubtful.old) × (result.receiver.transfer ≡ start_of len claimed.old doubtful.old) × (claimed.new ≡ start_after claimed.old doubtful.old claimed.old) × (doubtful.new ≡ start_after claimed.old doubtful.old doubtful.old) }
 {
     if lengths_wrong(claimed, doubtful) {
         return Started {
             receiver: Receiver {
                 transfer: fresh(0, 0),
             },
-            refused: 5,
+            answer: Err(Refusal::StartLengths),
         };
     }
     let pairs = claimed.len() / 2;
-    entries::clear(claimed);
-    entries::clear(doubtful);
+    claimed.fill(0);
+    doubtful.fill(0);
     Started {
         receiver: Receiver {
             transfer: fresh(len, pairs as u64),
         },
-        refused: 0,
+        answer: Ok(()),
     }
 }

@@ -44,7 +44,7 @@ returns c =
       ap (λ (u : Transfer). (took c.take-r.result.taken, world u file claimed doubtful)) c.write_back.ensures
           ∙ c.take-r.ensures x.t (others-counted (goal.at.returns c).After-counts_without-o) (fits_out (goal.at.returns c).After-of-x)
           ∙ ap (λ u. take_bytes_on x.c (world u x.file.now x.claimed.now x.doubtful.now) x.piece.now 0) (as-given (goal.at.returns c).After-of-x),
-      c.of-shown.ensures
+      c.of-verdict.ensures
           ∙ ap (λ b. cond (ltb 0 y.fault) broken (cond (count_reached y.count (c.counts_without-o.result.ended + cond (eqb y.state 4) 1 0)) (cond b suspect result) guess)) c.has_pair.ensures
           ∙ sym (ap (λ u. verdict_of (world u file claimed doubtful)) c.write_back.ensures ∙ write-back-verdict x.t x.c c.counts_without-o.result (others-counted (goal.at.returns c).After-counts_without-o) y file claimed doubtful),
     )
