@@ -1,16 +1,13 @@
 -- The screen line: its parts, how long it can be, and its number by FIT.
 use Prim.Native.Nat.{ℕ, zero, suc, ◌+◌, ◌*◌, ◌^◌, ◌≤◌, ◌<◌}
-use mathlib.Core.Path.{◌≡◌, refl, sym, ap, ◌∙◌, subst}
-use mathlib.Core.List.{List, [], ◌∷◌, ◌++◌}
+use mathlib.Core.Path.{◌≡◌, refl, sym, ap, subst}
+use mathlib.Core.List.{List, [], ◌∷◌, ◌++◌, append_assoc}
 use mathlib.Core.Bool.{Bool, true, false, cond}
 use native.Mathlib.Omega.{arith}
-use native.Mathlib.Numerals.{add-one}
-use lib.ListN.{length, get_or, set, take, length-append}
-use lib.Seq.{sets, take-suc, length-take-le}
+use lib.ListN.{length, take, length-append, length-take}
 use Rattle.octets.specs.Decimal.{decimal}
 use Rattle.octets.proofs.Decimals.{length-decimal, width_some, width-le}
 use Rattle.answers.specs.Written.{room_refusal}
-use Rattle.answers.proofs.WritesAt.{sets-append}
 use Rattle.transfer.specs.declared.state.Transfer.{Transfer}
 use Rattle.transfer.specs.Transfer.{World, world, Verdict, guess, result, suspect, broken, verdict_of}
 use Rattle.transfer.specs.Fit.{fits_without_file}
@@ -18,17 +15,16 @@ use Rattle.verdicts.specs.declared.verdict.Verdict.{Verdict as Word}
 use Rattle.verdicts.specs.declared.verdict.Verdict.TheVariants.{Guess, Result, Suspect, Broken}
 use Rattle.verdicts.specs.Verdict.{to_verdict, from_verdict}
 use Rattle.receiver.specs.declared.show.Shown.{Shown}
-use Rattle.receiver.specs.declared.show.Screen.{Screen}
-use Rattle.receiver.specs.declared.show.Screen.TheVariants.{Shows, Refused}
+use Rattle.std.specs.Prelude.{Result as Answer, Ok, Err}
 use Rattle.receiver.specs.Shown.{numbers_of, shown_of}
 use Rattle.screen.specs.Screen.{broken_word, on_word, guess_word, result_word, suspect_word, ended_word, of_word, unknown_word, bytes_word, doubtful_word, line_feed, count_text, broken_text, ended_text, front_text, bytes_text, tail_text, line_text, line_of, line_for, line_text_of, screen_refusal}
 
--- one byte more of a word
-pub put_next : (word out : List ℕ) (at i : ℕ) → i < length word → set (sets out at (take i word)) (at + i) (get_or word i 0) ≡ sets out at (take (i + 1) word)
-put_next word out at i h =
-    let n : length (take i word) ≡ i = length-take-le i word (omega arith) in
-    rw (add-one i, take-suc word i 0 h)
-    (ap (λ k. set (sets out at (take i word)) (at + k) (get_or word i 0)) (sym n) ∙ sets-append (take i word) (get_or word i 0 ∷ []) out at)
+-- the length of a line that is held in the first bytes of its array
+pub held-length : (n : ℕ) (bytes text : List ℕ) → take n bytes ≡ text → length bytes ≡ 116 → n ≤ 116 → length text ≡ n
+held-length n bytes text e l h = omega (arith, ap length e, length-take n bytes)
+
+-- texts one after another
+pub ruleset joined = (append_assoc, length-append)
 
 -- ---- the parts of the line
 
@@ -140,9 +136,9 @@ module _ (t : Transfer) (claimed doubtful out : List ℕ) where
 -- ---- what is shown
 
 -- a line of these numbers, or the number of the refusal
-data Said (t : Transfer) (claimed doubtful : List ℕ) : Screen → Type 0 where
-  says : (n : Shown) → fits_without_file t claimed doubtful ≡ true → line_text_of n ≡ line_for t claimed doubtful → Said t claimed doubtful (Shows n)
-  refuses : (k : ℕ) → fits_without_file t claimed doubtful ≡ false → k ≡ 1 → Said t claimed doubtful (Refused k)
+data Said (t : Transfer) (claimed doubtful : List ℕ) : Answer Shown ℕ → Type 0 where
+  says : (n : Shown) → fits_without_file t claimed doubtful ≡ true → line_text_of n ≡ line_for t claimed doubtful → Said t claimed doubtful (Ok n)
+  refuses : (k : ℕ) → fits_without_file t claimed doubtful ≡ false → k ≡ 1 → Said t claimed doubtful (Err k)
 
 to-from : (v : Verdict) → to_verdict (from_verdict v) ≡ v
 to-from guess = refl
@@ -160,18 +156,18 @@ said t claimed doubtful = go (fits_without_file t claimed doubtful) refl
     line_is : line_text_of (numbers_of w) ≡ line_of w
     line_is = unfold numbers_of line_of in rw (to-from (verdict_of w))
 
-    go : (b : Bool) → fits_without_file t claimed doubtful ≡ b → Said t claimed doubtful (cond b (Shows (numbers_of w)) (Refused 1))
+    go : (b : Bool) → fits_without_file t claimed doubtful ≡ b → Said t claimed doubtful (cond b (Ok (numbers_of w)) (Err 1))
     go true e = says (numbers_of w) e line_is
     go false e = refuses 1 e refl
 
-pub says-line : (t : Transfer) (claimed doubtful : List ℕ) (n : Shown) → Shows n ≡ shown_of t claimed doubtful → (fits_without_file t claimed doubtful ≡ true) × (line_text_of n ≡ line_for t claimed doubtful)
+pub says-line : (t : Transfer) (claimed doubtful : List ℕ) (n : Shown) → Ok n ≡ shown_of t claimed doubtful → (fits_without_file t claimed doubtful ≡ true) × (line_text_of n ≡ line_for t claimed doubtful)
 says-line t claimed doubtful n e = go (subst (Said t claimed doubtful) (sym e) (said t claimed doubtful))
   where
-    go : Said t claimed doubtful (Shows n) → (fits_without_file t claimed doubtful ≡ true) × (line_text_of n ≡ line_for t claimed doubtful)
+    go : Said t claimed doubtful (Ok n) → (fits_without_file t claimed doubtful ≡ true) × (line_text_of n ≡ line_for t claimed doubtful)
     go (says _ f q) = (f, q)
 
-pub says-refused : (t : Transfer) (claimed doubtful : List ℕ) (k : ℕ) → Refused k ≡ shown_of t claimed doubtful → (fits_without_file t claimed doubtful ≡ false) × (k ≡ 1)
+pub says-refused : (t : Transfer) (claimed doubtful : List ℕ) (k : ℕ) → Err k ≡ shown_of t claimed doubtful → (fits_without_file t claimed doubtful ≡ false) × (k ≡ 1)
 says-refused t claimed doubtful k e = go (subst (Said t claimed doubtful) (sym e) (said t claimed doubtful))
   where
-    go : Said t claimed doubtful (Refused k) → (fits_without_file t claimed doubtful ≡ false) × (k ≡ 1)
+    go : Said t claimed doubtful (Err k) → (fits_without_file t claimed doubtful ≡ false) × (k ≡ 1)
     go (refuses _ f q) = (f, q)

@@ -14,7 +14,8 @@ use Rattle.transfer.specs.AfterList.{StartedWith, tally_of, AfterList}
 use Rattle.transfer.proofs.TallyCalls.{verdict-is}
 use Rattle.transfer.proofs.TallyFromStart.{along, world-along}
 use Rattle.transfer.proofs.AfterList.{every_list}
-use Rattle.receiver.specs.declared.show.Screen.TheVariants.{Shows}
+use Rattle.std.specs.Prelude.{Result, Ok}
+use Rattle.receiver.specs.declared.show.Shown.{Shown}
 use Rattle.receiver.specs.Shown.{numbers_of, shown_of}
 use Rattle.runs.proofs.CallRuns.{fits-parts}
 use Rattle.screen.specs.Screen.{line_of, line_for, screen_refusal, screen_of, screen_after}
@@ -46,9 +47,9 @@ module _ (w : World) (file : List ℕ) (R : ℕ) (before : Pairs) (b : StartedWi
   number-here out = fit (after w ks).t (after w ks).lent.claimed (after w ks).lent.doubtful out fits-here.1 ∙ rw line-here
 
   -- nor do the numbers
-  numbers-here : shown_of (after w ks).t (after w ks).lent.claimed (after w ks).lent.doubtful ≡ Shows (tally_shown before (tally_of (length file) R before ks))
+  numbers-here : shown_of (after w ks).t (after w ks).lent.claimed (after w ks).lent.doubtful ≡ Ok (tally_shown before (tally_of (length file) R before ks))
   unfolding shown_of
-  numbers-here = rw fits-here.1 (ap Shows (no-file-numbers ∙ are))
+  numbers-here = rw fits-here.1 (ap {B = Result Shown ℕ} Ok (no-file-numbers ∙ are))
     where
       no-file-numbers : numbers_of (world (after w ks).t [] (after w ks).lent.claimed (after w ks).lent.doubtful) ≡ numbers_of (after w ks)
       no-file-numbers = unfold numbers_of verdict_of is_doubted stored_of doubt_of in refl

@@ -1,8 +1,7 @@
 -- The screen line (document 01, "The screen line"; document 02, Item 3).
 use Rattle.std.specs.Prelude.{ℕ, zero, suc, cond, not, List, [], ◌∷◌, ◌++◌, length}
 use Rattle.octets.specs.Decimal.{decimal}
-use Rattle.answers.specs.declared.written.Written.{Written}
-use Rattle.answers.specs.Written.{room_refusal, written_by, written_after}
+use Rattle.answers.specs.Written.{Written, room_refusal, written_by, written_after}
 use Rattle.transfer.specs.declared.state.Transfer.{Transfer}
 use Rattle.transfer.specs.Transfer.{ended_of, World, world, Verdict, guess, result, suspect, broken, verdict_of, stored_of, doubt_of}
 use Rattle.transfer.specs.Fit.{fits_without_file}

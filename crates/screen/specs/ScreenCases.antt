@@ -1,7 +1,6 @@
 -- Worked cases of the screen line: document 01's example call by call, its broken line, one with a payload under way, and three with bit 32, of which one is document 02's, as one statement over a list of cases.
-use Rattle.std.specs.Prelude.{ℕ, ◌-◌, ◌≡◌, List, [], ◌∷◌, ◌++◌, length, replicate}
+use Rattle.std.specs.Prelude.{ℕ, ◌-◌, ◌≡◌, Ok, Err, List, [], ◌∷◌, ◌++◌, length, replicate}
 use Rattle.octets.specs.Cases.{AllHold}
-use Rattle.answers.specs.declared.written.Written.TheVariants.{Bytes, Refused}
 use Rattle.eblock.specs.Header.{header_bytes}
 use Rattle.transfer.specs.Calls.{Call, receive, started_world, after}
 use Rattle.transfer.specs.Example.{plai, first_call, second_call, third_call}
@@ -22,10 +21,10 @@ Holds k =
     let w = after (started_world (replicate k.bytes 0) (replicate 2 7) (replicate 2 7)) k.calls in
     let n = length k.line in
     (line_of w ≡ k.line)
-    × (screen_of w.t w.lent.claimed w.lent.doubtful (filled 50) ≡ Bytes n)
+    × (screen_of w.t w.lent.claimed w.lent.doubtful (filled 50) ≡ Ok n)
     × (screen_after w.t w.lent.claimed w.lent.doubtful (filled 50) ≡ k.line ++ filled (50 - n))
     -- one byte less than it has
-    × (screen_of w.t w.lent.claimed w.lent.doubtful (filled (n - 1)) ≡ Refused 55)
+    × (screen_of w.t w.lent.claimed w.lent.doubtful (filled (n - 1)) ≡ Err 55)
 
 -- GUESS ended 0 of ? bytes 4
 abbrev pub first_line : List ℕ

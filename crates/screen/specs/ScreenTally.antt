@@ -1,5 +1,5 @@
 -- What the screen shows after every list of receive calls: the tally's words and numbers.
-use Rattle.std.specs.Prelude.{ℕ, ◌+◌, ◌≡◌, List, length}
+use Rattle.std.specs.Prelude.{ℕ, ◌+◌, ◌≡◌, Ok, List, length}
 use Rattle.answers.specs.Written.{room_refusal, written_by, written_after}
 use Rattle.ledger.specs.Pairs.{Pairs, total}
 use Rattle.transfer.specs.Transfer.{sum, World}
@@ -9,7 +9,6 @@ use Rattle.transfer.specs.Tally.{Tally, blocks_of, known_count, ended_in, tally_
 use Rattle.transfer.specs.AfterList.{StartedWith, tally_of}
 use Rattle.verdicts.specs.Verdict.{from_verdict}
 use Rattle.receiver.specs.declared.show.Shown.{Shown}
-use Rattle.receiver.specs.declared.show.Screen.TheVariants.{Shows}
 use Rattle.receiver.specs.Shown.{shown_of}
 use Rattle.screen.specs.Screen.{line_text, line_of, screen_of, screen_after}
 
@@ -48,4 +47,4 @@ pub record ScreenTally : Type 0 where
       screen_after (after w ks).t (after w ks).lent.claimed (after w ks).lent.doubtful out ≡ written_after (room_refusal (length line) out) line out
   -- the same as numbers
   pub numbers_are : (w : World) (file : List ℕ) (R : ℕ) (before : Pairs) → StartedWith w file R before → (ks : List Call)
-      → shown_of (after w ks).t (after w ks).lent.claimed (after w ks).lent.doubtful ≡ Shows (tally_shown before (tally_of (length file) R before ks))
+      → shown_of (after w ks).t (after w ks).lent.claimed (after w ks).lent.doubtful ≡ Ok (tally_shown before (tally_of (length file) R before ks))
