@@ -1,12 +1,13 @@
 // The refusals and faults of the whole library, each with the number that a host sees.
-ghost use Rattle.std.specs.Prelude.{◌≡◌};
+ghost use Rattle.std.specs.Prelude.{◌≡◌, Some};
+ghost use Rattle.std.specs.Fmt.{decimal};
 ghost use Rattle.answers.specs.Refusal.{number};
 
 use std::fmt;
 
 // Why a call is refused. A receiver keeps the reason of a sender's fault, from 11 to 19, in its transfer; the reader and the writer of
 // headers refuse by some of these too.
-#[derive(Clone, Copy, Debug, PartialEq, Eq, Hash)]
+#[derive(Clone, Copy, Debug, PartialEq, Eq)]
 pub enum Refusal {
     // ---- a transfer
     // Transfer, file and ledgers don't belong together, or a ledger that is to be written breaks its rule.
@@ -108,8 +109,10 @@ impl From<Refusal> for u8 {
     }
 }
 
-// The number, in digits.
+// The number, in decimal digits.
 impl fmt::Display for Refusal {
+    ghost output = { λ r. Some (decimal (number r)) };
+
     fn fmt<W: fmt::Write>(&self, f: &mut fmt::Formatter<W>) -> fmt::Result {
         let number = u8::from(*self);
         write!(f, "{number}")

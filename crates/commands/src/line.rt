@@ -142,7 +142,7 @@ pub fn argument(line: &[u8]) -> &[u8]
     ensures { result.now ≡ argument_of (read_of line.now) line.now }
 {
     match read(line) {
-        Ok(Command { verb: _, from, to }) => &line[from..to],
+        Ok(Command { from, to, .. }) => &line[from..to],
         Err(_) => &line[..0],
     }
 }

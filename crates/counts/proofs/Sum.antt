@@ -6,7 +6,7 @@ use mathlib.Core.List.{List, [], ◌∷◌, map}
 use native.Mathlib.Omega.{arith}
 use lib.Dec.{eqb}
 use lib.ListN.{length, length-map}
-use Rattle.std.specs.List.{fold, filter}
+use Rattle.std.specs.List.{fold}
 use Rattle.transfer.specs.declared.state.Channel.{Channel}
 use Rattle.transfer.specs.Transfer.{sum, one_if_ended}
 
@@ -30,16 +30,11 @@ unfolding sum
 ended_all [] = omega arith
 ended_all (k ∷ ks) = omega (arith, ended-le k, ended_all ks)
 
--- those that have ended, counted
-pub count-ended : (ks : List Channel) → length (filter (λ k. eqb k.state 4) ks) ≡ sum one_if_ended ks
+-- a number of each channel added to n
+pub fold-adds : (f : Channel → ℕ) (ks : List Channel) (n : ℕ) → fold (λ a k. a + f k) n ks ≡ n + sum f ks
 unfolding sum
-count-ended [] = refl
-count-ended (k ∷ ks) = go (eqb k.state 4) (count-ended ks)
-  where
-    go : (b : Bool) → length (filter (λ j. eqb j.state 4) ks) ≡ sum one_if_ended ks
-        → length (cond b (k ∷ filter (λ j. eqb j.state 4) ks) (filter (λ j. eqb j.state 4) ks)) ≡ cond b 1 0 + sum one_if_ended ks
-    go true e = omega arith
-    go false e = omega arith
+fold-adds f [] n = omega arith
+fold-adds f (k ∷ ks) n = omega (arith, fold-adds f ks (n + f k))
 
 -- a number of each channel added, up to a largest number m
 pub fold-saturates : (m : ℕ) (f : Channel → ℕ) (ks : List Channel) (n : ℕ) → n ≤ m → fold (λ a k. min m (a + f k)) n ks ≡ min m (n + sum f ks)

@@ -6,18 +6,22 @@ use transfer::state::{Channel, Transfer};
 
 pub const CHANNELS: usize = 64;
 
+// The state of a channel that has ended.
+// Stays: a number and no enum, as the field `state` of the C struct cob_channel (here Channel) is.
+pub const ENDED: u8 = 4;
+
 // 1 for a channel that has ended.
 pub fn one_if_ended(k: Channel) -> u64
     ensures { result ≡ one_if_ended k }
 {
-    u64::from(k.state == 4)
+    u64::from(k.state == ENDED)
 }
 
 // How many have ended.
 pub fn ended(t: Transfer) -> u64
     ensures { result ≡ ended_of t }
 {
-    t.channels.iter().filter(|k| k.state == 4).count() as u64
+    t.channels.iter().map(|k| one_if_ended(*k)).sum()
 }
 
 // The bytes left in all payloads, or the largest number where there are more.

@@ -8,7 +8,7 @@ use texts::text::ByteKind;
 
 const COMMA: u8 = b',';
 
-// The numbers of a host-port.
+// How many numbers a host-port has.
 const NUMBERS: usize = 6;
 
 // What a number or a host-port at a place of a text says, and the place after it.

@@ -5,6 +5,7 @@ ghost use Rattle.octets.specs.Digits.{from_big_endian, to_big_endian};
 use crate::digit_bytes;
 
 // The number that the bytes say, or their first eight where there are more.
+// Stays: three lines that `little::read` has too, in the other direction; a parameter for the direction would be no plainer.
 pub fn read(bytes: &[u8]) -> u64
     ensures { result ≡ from_big_endian 256 (take 8 bytes.now) }
 {

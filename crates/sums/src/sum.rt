@@ -1,7 +1,7 @@
 // Sums and differences that a u64 may not hold.
 ghost use Rattle.std.specs.Prelude.{◌≡◌, ◌+◌, ◌-◌, min, leb};
 
-// Stays: two of u64's own methods as functions, since must-fail edits are of `saturating_add` and `saturating_sub`.
+// Stays: what u64's methods do, as functions, since edits are of them: saturating_add_past_largest, saturating_sub_turned, sum_at_most_less.
 
 // a + b, or the largest number where that is more.
 pub fn saturating_add(a: u64, b: u64) -> u64

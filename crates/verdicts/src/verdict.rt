@@ -3,7 +3,7 @@ ghost use Rattle.std.specs.Prelude.{◌≡◌, cond, not, ◌||◌, List, ℕ, �
 ghost use Rattle.transfer.specs.Transfer.{world, guess, result as full_result, suspect, broken, verdict_of};
 ghost use Rattle.verdicts.specs.Verdict.{to_verdict, count_reached};
 
-use counts::count;
+use counts::count::{self, ENDED};
 use ledger::rule;
 use transfer::state::Transfer;
 
@@ -15,6 +15,8 @@ pub enum Verdict {
     Suspect,
     Broken,
 }
+
+// Stays: fault and count, 0 for none and for unknown, and state are numbers below, as the C structs cob_transfer and cob_channel have them.
 
 // Whether a count is known and n, the channels that have ended or those that are used, is that count.
 pub fn count_reached(count: u64, n: u64) -> bool
@@ -47,7 +49,7 @@ pub fn of(fault: u64, count: u64, others: u64, state: u8, doubted: bool) -> Verd
 {
     if fault != 0 {
         Verdict::Broken
-    } else if count != 0 && others == count - u64::from(state == 4) {
+    } else if count != 0 && others == count - u64::from(state == ENDED) {
         last_word(doubted)
     } else {
         Verdict::Guess
