@@ -7,12 +7,18 @@ ghost use Rattle.claims.specs.Claim.{slot_of, JudgeResult, PutResult, JoinResult
 ghost use Rattle.claims.specs.Neighbours.{pair_at, shared_by, slot_by, lacks_pair, judged_by};
 ghost use Rattle.claims.specs.Shift.{inserted, closed};
 
-// Stays: that the ledger obeys its rule is a premise of clauses below, and no type: judge, put and join answer any list.
-// Stays: start and end are two parameters; as a struct they would be made at each call and taken apart in each clause, which speaks of two numbers.
 use crate::shift;
 use answers::refusal::Refusal;
 use ledger::{place, rule};
 use rangechecks::search;
+
+// The places from start up to end.
+// Stays: judge, put and join take the two numbers, since docs/PROMISES.md names them and they keep their parameters.
+#[derive(Clone, Copy, Debug, PartialEq, Eq)]
+struct Range {
+    start: u64,
+    end: u64,
+}
 
 // Where a range goes: the pairs that it becomes one with are those from `at` up to `past`, counted in pairs.
 #[derive(Clone, Copy, Debug, PartialEq, Eq)]
@@ -21,12 +27,12 @@ pub struct Slot {
     pub past: usize,
 }
 
-// Whether the pair with the number i shares a byte with the range from start to end. A pair past the last shares none.
+// Whether the pair with the number i shares a byte with the range. A pair past the last shares none.
 #[tactic(auto, unfolding(crate::specs::Neighbours::shared_by))]
-fn shares(ledger: &[u64], i: usize, start: u64, end: u64) -> bool
-    ensures { result ≡ shared_by start end (pair_at ledger.now i) }
+fn shares(ledger: &[u64], i: usize, range: Range) -> bool
+    ensures { result ≡ shared_by range.start range.end (pair_at ledger.now i) }
 {
-    i < ledger.len() / 2 && start < ledger[2 * i + 1] && ledger[2 * i] < end
+    i < ledger.len() / 2 && range.start < ledger[2 * i + 1] && ledger[2 * i] < range.end
 }
 
 // Where a range to end goes that shares no byte: the pair at its place and the one after it may touch it.
@@ -53,16 +59,16 @@ fn full(ledger: &[u64], slot: Slot) -> bool
     slot.at == slot.past && (room == 0 || 0 < ledger[2 * room - 1])
 }
 
-// Judges the range from start to end, with this place: it reads the pair there, the one after it and the ledger's last.
+// Judges the range, with this place: it reads the pair there, the one after it and the ledger's last.
 #[tactic(auto, unfolding(crate::specs::Neighbours::judged_by))]
-fn judge_at(ledger: &[u64], at: usize, start: u64, end: u64) -> Result<Slot, Refusal>
+fn judge_at(ledger: &[u64], at: usize, range: Range) -> Result<Slot, Refusal>
     requires { at ≤ capacity ledger.now }
-    ensures { numbered result ≡ judged_by (capacity ledger.now) start end at (pair_at ledger.now at) (pair_at ledger.now (at + 1)) (pair_at ledger.now (capacity ledger.now - 1)) }
+    ensures { numbered result ≡ judged_by (capacity ledger.now) range.start range.end at (pair_at ledger.now at) (pair_at ledger.now (at + 1)) (pair_at ledger.now (capacity ledger.now - 1)) }
 {
-    if shares(ledger, at, start, end) || shares(ledger, at + 1, start, end) {
+    if shares(ledger, at, range) || shares(ledger, at + 1, range) {
         return Err(Refusal::Overlap);
     }
-    let slot = slot_at(ledger, at, end);
+    let slot = slot_at(ledger, at, range.end);
     if full(ledger, slot) {
         return Err(Refusal::LedgerFull);
     }
@@ -71,12 +77,13 @@ fn judge_at(ledger: &[u64], at: usize, start: u64, end: u64) -> Result<Slot, Ref
 
 // Where the range from start to end can be claimed, or the refusal: it shares a byte with a claimed one, or the ledger lacks a pair for it. For a
 // ledger that breaks the rule, or an empty range, the answer is left open, but that a slot lies inside the ledger: document 01 has no such call.
+// Stays: the rule is a premise, here and of put and join, and no type, since the three answer any list.
 #[tactic(auto, using(crate::proofs::JudgedByPlace::judging))]
 pub fn judge(ledger: &[u64], start: u64, end: u64) -> Result<Slot, Refusal>
     ensures { JudgeResult start end ledger.now (numbered result) }
 {
     let found = place::find(ledger, start);
-    judge_at(ledger, found.at, start, end)
+    judge_at(ledger, found.at, Range { start, end })
 }
 
 // The number of pairs that start by end: those that end below it, and the one at its place where that one starts by it.
@@ -99,52 +106,52 @@ fn first_pair_after(ledger: &[u64], at: usize, end: u64) -> usize
     starting_by(ledger, end).max(at)
 }
 
-// Where the range from start to end goes, whatever it shares.
+// Where the range goes, whatever it shares.
 #[tactic(auto, using(crate::proofs::JoinRoom::slots), unfolding(crate::specs::Claim::slot_of))]
-fn locate(ledger: &[u64], start: u64, end: u64) -> Slot
-    ensures { (result.at ≤ result.past) × (result.past ≤ capacity ledger.now) × (obeys ledger.now ≡ true → start < end → result ≡ slot_of start end (pairs_of ledger.now)) }
+fn locate(ledger: &[u64], range: Range) -> Slot
+    ensures { (result.at ≤ result.past) × (result.past ≤ capacity ledger.now) × (obeys ledger.now ≡ true → range.start < range.end → result ≡ slot_of range.start range.end (pairs_of ledger.now)) }
 {
-    let found = place::find(ledger, start);
+    let found = place::find(ledger, range.start);
     Slot {
         at: found.at,
-        past: first_pair_after(ledger, found.at, end),
+        past: first_pair_after(ledger, found.at, range.end),
     }
 }
 
-// Makes one pair of those of the slot and the range from start to end.
-fn widen(ledger: &mut [u64], slot: Slot, used: usize, start: u64, end: u64)
+// Makes one pair of those of the slot and the range.
+fn widen(ledger: &mut [u64], slot: Slot, used: usize, range: Range)
     requires { (slot.at < slot.past) × (slot.past ≤ used) × (used ≤ capacity ledger.old) }
-    ensures { ledger.new ≡ closed (set (set ledger.old (2 * slot.at) (min (get_or ledger.old (2 * slot.at) 0) start)) (2 * slot.at + 1) (max (get_or ledger.old (2 * slot.past - 1) 0) end)) (2 * slot.at + 2) (2 * slot.past) (2 * used) }
+    ensures { ledger.new ≡ closed (set (set ledger.old (2 * slot.at) (min (get_or ledger.old (2 * slot.at) 0) range.start)) (2 * slot.at + 1) (max (get_or ledger.old (2 * slot.past - 1) 0) range.end)) (2 * slot.at + 2) (2 * slot.past) (2 * used) }
 {
     let first = 2 * slot.at;
     let after = 2 * slot.past;
-    let a = ledger[first].min(start);
-    let b = ledger[after - 1].max(end);
+    let a = ledger[first].min(range.start);
+    let b = ledger[after - 1].max(range.end);
     ledger[first] = a;
     ledger[first + 1] = b;
     shift::close(ledger, first + 2, after, 2 * used);
 }
 
-// Makes a pair of its own at `at` of the range from start to end, where not all pairs are used.
-fn put_own(ledger: &mut [u64], at: usize, used: usize, start: u64, end: u64)
+// Makes a pair of its own at `at` of the range, where not all pairs are used.
+fn put_own(ledger: &mut [u64], at: usize, used: usize, range: Range)
     requires { (at ≤ used) × (used ≤ capacity ledger.old) }
-    ensures { used < capacity ledger.old → ledger.new ≡ inserted ledger.old (2 * at) (2 * used) start end }
+    ensures { used < capacity ledger.old → ledger.new ≡ inserted ledger.old (2 * at) (2 * used) range.start range.end }
 {
     if used < ledger.len() / 2 {
-        shift::insert(ledger, 2 * at, 2 * used, start, end);
+        shift::insert(ledger, 2 * at, 2 * used, range.start, range.end);
     }
 }
 
-// Makes one pair of the range from start to end and the pairs of the slot, or a pair of its own, where there is one for it.
-fn merge(ledger: &mut [u64], slot: Slot, start: u64, end: u64)
+// Makes one pair of the range and the pairs of the slot, or a pair of its own, where there is one for it.
+fn merge(ledger: &mut [u64], slot: Slot, range: Range)
     requires { (slot.at ≤ slot.past) × (slot.past ≤ capacity ledger.old) }
-    ensures { obeys ledger.old ≡ true → start < end → slot ≡ slot_of start end (pairs_of ledger.old) → size (join start end (pairs_of ledger.old)) ≤ capacity ledger.old → ledger.new ≡ laid_out (capacity ledger.old) (join start end (pairs_of ledger.old)) }
+    ensures { obeys ledger.old ≡ true → range.start < range.end → slot ≡ slot_of range.start range.end (pairs_of ledger.old) → size (join range.start range.end (pairs_of ledger.old)) ≤ capacity ledger.old → ledger.new ≡ laid_out (capacity ledger.old) (join range.start range.end (pairs_of ledger.old)) }
 {
     let used = first_pair_after(ledger, slot.past, rule::LARGEST);
     if slot.at == slot.past {
-        put_own(ledger, slot.at, used, start, end);
+        put_own(ledger, slot.at, used, range);
     } else {
-        widen(ledger, slot, used, start, end);
+        widen(ledger, slot, used, range);
     }
 }
 
@@ -155,7 +162,7 @@ pub fn put(ledger: &mut [u64], slot: Slot, start: u64, end: u64)
     ensures { PutResult slot start end ledger.old ledger.new }
 {
     if slot.at <= slot.past && slot.past <= ledger.len() / 2 {
-        merge(ledger, slot, start, end);
+        merge(ledger, slot, Range { start, end });
     }
 }
 
@@ -164,10 +171,11 @@ pub fn put(ledger: &mut [u64], slot: Slot, start: u64, end: u64)
 pub fn join(ledger: &mut [u64], start: u64, end: u64) -> Result<(), Refusal>
     ensures { JoinResult start end ledger.old (numbered result) ledger.new }
 {
-    let found = locate(ledger, start, end);
+    let range = Range { start, end };
+    let found = locate(ledger, range);
     if full(ledger, found) {
         return Err(Refusal::TooFewPairs);
     }
-    merge(ledger, found, start, end);
+    merge(ledger, found, range);
     Ok(())
 }

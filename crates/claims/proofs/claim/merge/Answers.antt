@@ -24,18 +24,18 @@ pub returns-else-slot : goal.returns-else-slot
 returns-else-slot c o h q g =
     let x = c.args in
     let l = x.ledger.now in
-    let a = at-is x.start x.end l x.slot q in
-    let p = past_is x.start x.end l x.slot q in
-    let u = used l x.end x.slot.past c.first_pair_after-used.result o (λ i. omega (arith, c.slice_known-1.given i)) p c.first_pair_after-used.ensures.2 in
-    c.widen.ensures ∙ rw (a, p, u) (wide-joined l o x.start x.end h (λ z. c.if-slot.false (a ∙ z ∙ sym p)))
+    let a = at-is x.range.start x.range.end l x.slot q in
+    let p = past_is x.range.start x.range.end l x.slot q in
+    let u = used l x.range.end x.slot.past c.first_pair_after-used.result o (λ i. omega (arith, c.slice_known-1.given i)) p c.first_pair_after-used.ensures.2 in
+    c.widen.ensures ∙ rw (a, p, u) (wide-joined l o x.range.start x.range.end h (λ z. c.if-slot.false (a ∙ z ∙ sym p)))
 
 pub returns-then-slot : goal.returns-then-slot
 returns-then-slot c o h q g =
     let x = c.args in
     let l = x.ledger.now in
-    let a = at-is x.start x.end l x.slot q in
-    let p = past_is x.start x.end l x.slot q in
-    let u = used l x.end x.slot.past c.first_pair_after-used.result o (λ i. omega (arith, c.slice_known-1.given i)) p c.first_pair_after-used.ensures.2 in
+    let a = at-is x.range.start x.range.end l x.slot q in
+    let p = past_is x.range.start x.range.end l x.slot q in
+    let u = used l x.range.end x.slot.past c.first_pair_after-used.result o (λ i. omega (arith, c.slice_known-1.given i)) p c.first_pair_after-used.ensures.2 in
     let m = sym a ∙ c.if-slot.true ∙ p in
-    c.put_own.ensures (omega (arith, u, m, g, size-joined l o x.start x.end h, count_starting_by-le x.end (pairs_of l)))
-    ∙ rw (a, u) (own-joined l o x.start x.end h m g)
+    c.put_own.ensures (omega (arith, u, m, g, size-joined l o x.range.start x.range.end h, count_starting_by-le x.range.end (pairs_of l)))
+    ∙ rw (a, u) (own-joined l o x.range.start x.range.end h m g)
