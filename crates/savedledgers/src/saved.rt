@@ -48,7 +48,7 @@ fn fill(second: SecondNumber, pairs: &[u8], entries: &mut [u64])
     for (k, bytes) in pairs.chunks_exact(PAIR_LENGTH).enumerate() {
         let next = Pair::first(second, bytes);
         entries[2 * k] = next.start;
-        entries[2 * k + 1] = next.start.saturating_add(next.length);
+        entries[2 * k + 1] = next.start + next.length;
     }
 }
 

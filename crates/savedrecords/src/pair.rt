@@ -27,6 +27,7 @@ impl Pair {
     }
 
     // Whether it may come after the one before it; a length of 0 before it says that there is none.
+    // Stays: `before` is no Option, since the clause is about every pair before it by its start and length, one of length 0 too.
     pub fn may_follow(self, before: Pair) -> bool
         ensures { result ≡ may_follow before.start before.length self.start self.length }
     {

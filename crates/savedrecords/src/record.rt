@@ -44,6 +44,7 @@ pub fn pair_part(kind: Kind, bytes: &[u8]) -> &[u8]
 fn in_order(second: SecondNumber, pairs: &[u8]) -> bool
     ensures { result ≡ obey_from 0 (pairs_in second (length pairs.now / pair_length) pairs.now) }
 {
+    // There is none before the first, as Pair::may_follow reads it.
     let mut before = Pair {
         start: 0,
         length: 0,
