@@ -39,7 +39,7 @@ fn write_pair(second: SecondNumber, pair: Pair, out: &mut [u8])
 }
 
 // Writes all pairs, read as those of one kind, as those of another.
-// Stays: the lent bytes by index, since after a loop over `chunks_exact_mut` nothing is known of them, so that `out.new` gets no proof.
+// Stays: by index. Over `chunks_exact_mut` goal `returns` stayed open, `c.out-1.given.0 ≡ pair_bytes ..`: no fact names that value.
 fn write_pairs(from: SecondNumber, to: SecondNumber, pairs: &[u8], out: &mut [u8])
     requires { (length pairs.now % 16 ≡ 0) × (length out.old ≡ length pairs.now) × ObeyFrom 0 (pairs_in from (length pairs.now / 16) pairs.now) × (ends_at_most 18446744073709551615 (pairs_in from (length pairs.now / 16) pairs.now) ≡ true) }
     ensures { out.new ≡ pair_bytes to (pairs_in from (length pairs.now / 16) pairs.now) }

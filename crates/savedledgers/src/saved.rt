@@ -40,7 +40,7 @@ fn check(kind: Kind, bytes: &[u8], ledger: &[u64]) -> Result<(), Refusal>
 }
 
 // Fills the entries with start and end of each pair.
-// Stays: the entries by index, since after a loop over `chunks_exact_mut` nothing is known of them, so that `entries.new` gets no proof.
+// Stays: the entries by index. Over `chunks_exact_mut` goal `returns` stayed open, `c.entries-1.given.0 ≡ laid_out ..`: no fact names that value.
 fn fill(second: SecondNumber, pairs: &[u8], entries: &mut [u64])
     requires { (length entries.old ≡ 2 * (length pairs.now / 16)) × ObeyFrom 0 (pairs_in second (length pairs.now / 16) pairs.now) × (ends_at_most 18446744073709551615 (pairs_in second (length pairs.now / 16) pairs.now) ≡ true) }
     ensures { entries.new ≡ laid_out (capacity entries.old) (pairs_in second (length pairs.now / 16) pairs.now) }
@@ -100,7 +100,7 @@ fn used_pairs(ledger: &[u64]) -> usize
 }
 
 // Writes the numbers in eight bytes each.
-// Stays: the lent bytes by index, since after a loop over `chunks_exact_mut` nothing is known of them, so that `out.new` gets no proof.
+// Stays: by index. Over `chunks_exact_mut`, or with `split_at_mut`, `returns` stayed open, `c.out-1.given.0 ≡ number_bytes ..`, as in `fill`.
 fn write_numbers(numbers: &[u64], out: &mut [u8])
     requires { length out.old ≡ 8 * length numbers.now }
     ensures { out.new ≡ number_bytes numbers.now }
