@@ -1,7 +1,7 @@
 -- A step through a chunk: what a look at its bytes, or at the held ones with some of it, makes of what is kept.
-use Prim.Native.Nat.{ℕ, zero, suc, ◌+◌, ◌-◌, ◌≤◌, ◌<◌, min}
+use Prim.Native.Nat.{ℕ, ◌+◌, ◌-◌, ◌≤◌, ◌<◌, min}
 use mathlib.Core.Path.{◌≡◌, refl, sym, ap, ◌∙◌}
-use mathlib.Core.Bool.{Bool, true, false, cond, not, true≢false, false≢true}
+use mathlib.Core.Bool.{true, false, cond, true≢false, false≢true}
 use mathlib.Core.Logic.{inl, inr}
 use mathlib.Core.List.{List, [], ◌++◌, append-nil, append_assoc}
 use native.Mathlib.Omega.{arith}
@@ -20,7 +20,9 @@ use Rattle.nights.specs.Request.{record_limit}
 use Rattle.nights.specs.Lines.{record_line}
 use Rattle.nights.specs.Reading.{printed_before, read}
 use Rattle.recordings.specs.Kept.{Kept, kept, replay_state, replay_state_of, held_limit, unfinished, is_unfinished, library}
-use Rattle.recordings.specs.Steps.{Looks, halted, go_on, after_look, Holds, Steps}
+use Rattle.recordings.specs.declared.first.Looked.{Looked}
+use Rattle.recordings.specs.declared.first.Looked.TheVariants.{Malformed, Unfinished, Answered}
+use Rattle.recordings.specs.Steps.{Looks, halted, go_on, after_look, written_in, Holds, Steps}
 use Rattle.recordings.proofs.Unfinished.{unfinished-none}
 
 -- ---- what is held
@@ -58,25 +60,6 @@ unfolding unfinished
 holds-none s held file claimed doubtful z l =
     record { ours = rw z unfinished-none; below = omega (arith, z); halts = λ b. z; held = l.0; file = l.1; claimed = l.2; doubtful = l.3 }
 
--- ---- the session after a look
-
-module _ (p : Progress) (waiting : ℕ) where
-  abbrev session : Bool → ℕ → Session
-  session stops n = record { progress = p; held = n; stopped = stops }
-
-  pub after-waits : (stops : Bool) (used : ℕ) → used ≡ 0 → not stops ≡ true → session stops waiting ≡ after_look p stops used waiting
-  after-waits true used z b = absurd (false≢true b)
-  after-waits false used z b = rw z
-
-  pub after-stops : (stops : Bool) (used : ℕ) → not stops ≡ false → session stops 0 ≡ after_look p stops used waiting
-  after-stops true used b = refl
-  after-stops false used b = absurd (true≢false b)
-
-  pub after-used : (stops : Bool) (used : ℕ) → (used ≡ 0 → ⊥) → session stops 0 ≡ after_look p stops used waiting
-  after-used true used z = refl
-  after-used false zero z = absurd (z refl)
-  after-used false (suc u) z = refl
-
 -- ---- what is still to come
 
 pub none_held : (k : Kept) → k.session.held ≡ 0 → unfinished k ≡ []
@@ -98,43 +81,44 @@ module _ (k : Kept) (bytes : List ℕ) where
 -- ---- from a look to a step
 
 -- the look was at `bytes`, which are what was held and the beginning of the chunk; more is to come
-module _ (s : Session) (h f c d chunk : List ℕ) (p : Progress) (h' f' c' d' : List ℕ) (bytes more out after : List ℕ) (waiting taken n : ℕ)
+module _ (s : Session) (h f c d chunk h' f' c' d' : List ℕ) (bytes more out after : List ℕ) (waiting taken : ℕ)
     (reads_on : s.stopped ≡ false) (same : take s.held h ++ chunk ≡ bytes ++ more) (l : Lengths h' f' c' d')
     (some : 0 < taken) (within : taken ≤ length chunk) where
   abbrev before : Kept
   before = kept s h f c d
 
-  abbrev later : Bool → ℕ → Kept
-  later stops used = kept (after_look p stops used waiting) h' f' c' d'
+  abbrev later : Looked → Kept
+  later k = kept (after_look s.progress k waiting) h' f' c' d'
 
   begins : go_on before chunk ≡ read library (replay_state_of before) (bytes ++ more)
   begins = go_on-reads before chunk reads_on ∙ ap (read library (replay_state_of before)) (unfold unfinished in same)
 
   -- what a look that waits has to hold, and where one that goes on has to end
-  pub look-steps : (stops : Bool) (used : ℕ) → Looks stops used (replay_state_of before) bytes out n (replay_state p f' c' d') after
+  pub look-steps : (k : Looked) → Looks k (replay_state_of before) bytes out f' c' d' after
       → (is_unfinished bytes ≡ true → (waiting ≡ length bytes) × (take waiting h' ≡ bytes) × (drop taken chunk ≡ more) × (s.held ≡ 0 → taken ≡ length chunk))
-      → (6 ≤ used → used ≤ length bytes → used ≡ record_length bytes → (drop used bytes ++ more ≡ drop taken chunk) × (s.held ≡ 0 → 6 ≤ taken))
-      → Steps before (later stops used) chunk out taken n after
-  look-steps true used k w g =
-      let e : go_on (later true used) (drop taken chunk) ≡ halted (replay_state_of before) =
-      go_on-halted (later true used) (drop taken chunk) refl ∙ ap halted k.1 in
+      → ((p : Progress) (used n : ℕ) → k ≡ Answered p used n → 6 ≤ used → used ≤ length bytes → used ≡ record_length bytes
+      → (drop used bytes ++ more ≡ drop taken chunk) × (s.held ≡ 0 → 6 ≤ taken))
+      → Steps before (later k) chunk out taken (written_in k) after
+  look-steps (Malformed n) k w g =
+      let e : go_on (later (Malformed n)) (drop taken chunk) ≡ halted (replay_state_of before) =
+      go_on-halted (later (Malformed n)) (drop taken chunk) refl ∙ ap halted k.0 in
       record {
         text = record_line s.progress.number;
-        writes = k.2;
+        writes = k.1;
         some = some;
         within = within;
-        reading = begins ∙ k.3 more ∙ rw (e, append-nil (record_line s.progress.number));
-        holds = holds-none (after_look p true used waiting) h' f' c' d' refl l;
+        reading = begins ∙ k.2 more ∙ rw (e, append-nil (record_line s.progress.number));
+        holds = holds-none (after_look s.progress (Malformed n) waiting) h' f' c' d' refl l;
         printed_held = λ z. absurd (omega (arith, z));
         printed_many = λ z r. absurd (true≢false r);
       }
-  look-steps false zero k w g =
+  look-steps Unfinished k w g =
       let x = w k.0 in
-      let e : go_on (later false 0) (drop taken chunk) ≡ read library (replay_state_of before) (bytes ++ more) =
-      go_on-reads (later false 0) (drop taken chunk) refl ∙ (unfold unfinished in rw (x.1, x.2, k.1) refl) in
+      let e : go_on (later Unfinished) (drop taken chunk) ≡ read library (replay_state_of before) (bytes ++ more) =
+      go_on-reads (later Unfinished) (drop taken chunk) refl ∙ (unfold unfinished in rw (x.1, x.2, k.1) refl) in
       record {
         text = [];
-        writes = (omega arith, (k.2, k.3));
+        writes = (omega arith, (refl, k.2));
         some = some;
         within = within;
         reading = begins ∙ sym e;
@@ -148,20 +132,20 @@ module _ (s : Session) (h f c d chunk : List ℕ) (p : Progress) (h' f' c' d' : 
               claimed = l.2;
               doubtful = l.3;
             };
-        printed_held = λ z. k.2;
-        printed_many = λ z r. inr (k.2, x.3 z);
+        printed_held = λ z. refl;
+        printed_many = λ z r. inr (refl, x.3 z);
       }
-  look-steps false (suc u) k w g =
-      let x = g k.1 k.2 k.3 in
-      let e : go_on (later false (suc u)) (drop taken chunk) ≡ read library (replay_state p f' c' d') (drop (suc u) bytes ++ more) =
-      go_on-none (later false (suc u)) (drop taken chunk) refl refl ∙ ap (read library (replay_state p f' c' d')) (sym x.0) in
+  look-steps (Answered p used n) k w g =
+      let x = g p used n refl k.1 k.2 k.3 in
+      let e : go_on (later (Answered p used n)) (drop taken chunk) ≡ read library (replay_state p f' c' d') (drop used bytes ++ more) =
+      go_on-none (later (Answered p used n)) (drop taken chunk) refl refl ∙ ap (read library (replay_state p f' c' d')) (sym x.0) in
       record {
         text = k.0;
         writes = k.4;
         some = some;
         within = within;
         reading = begins ∙ k.5 more ∙ ap (printed_before k.0) (sym e);
-        holds = holds-none (after_look p false (suc u) waiting) h' f' c' d' refl l;
+        holds = holds-none (after_look s.progress (Answered p used n) waiting) h' f' c' d' refl l;
         printed_held = λ z. absurd (omega (arith, z));
         printed_many = λ z r. inl (x.1 z);
       }
@@ -169,48 +153,53 @@ module _ (s : Session) (h f c d chunk : List ℕ) (p : Progress) (h' f' c' d' : 
 -- ---- where nothing is held
 
 -- a record of the chunk was answered
-module _ (s : Session) (h f c d chunk : List ℕ) (p : Progress) (out after : List ℕ) (n : ℕ) (reads_on : s.stopped ≡ false) (none : s.held ≡ 0) (some : 0 < length chunk) where
+module _ (s : Session) (h f c d chunk : List ℕ) (out after : List ℕ) (reads_on : s.stopped ≡ false) (none : s.held ≡ 0) (some : 0 < length chunk) where
   abbrev same-chunk : take s.held h ++ chunk ≡ chunk ++ []
   same-chunk = rw (none, append-nil chunk)
 
-  pub chunk-answered : (f' c' d' : List ℕ) → Lengths h f' c' d' → (stops : Bool) (used : ℕ) → 0 < used → Looks stops used (replay_state s.progress f c d) chunk out n (replay_state p f' c' d') after
-      → Steps (kept s h f c d) (kept (after_look p stops used 0) h f' c' d') chunk out used n after
-  chunk-answered f' c' d' l true used z k = absurd (omega (arith, k.0, z))
-  chunk-answered f' c' d' l false zero z k = absurd (omega (arith, z))
-  chunk-answered f' c' d' l false (suc u) z k =
-      look-steps s h f c d chunk p h f' c' d' chunk [] out after 0 (suc u) n reads_on same-chunk l z k.2 false (suc u) k
-      (λ q. absurd (omega (arith, no_cut q))) (λ a b e. (append-nil (drop (suc u) chunk), λ y. a))
+  pub chunk-answered : (f' c' d' : List ℕ) → Lengths h f' c' d' → (p : Progress) (used n : ℕ) → Looks (Answered p used n) (replay_state s.progress f c d) chunk out f' c' d' after
+      → Steps (kept s h f c d) (kept (after_look s.progress (Answered p used n) 0) h f' c' d') chunk out used n after
+  chunk-answered f' c' d' l p used n k =
+      look-steps s h f c d chunk h f' c' d' chunk [] out after 0 used reads_on same-chunk l (omega (arith, k.1)) k.2 (Answered p used n) k
+      (λ q. absurd (omega (arith, no_cut q))) ends
     where
       -- a record that is whole is not unfinished
-      no_cut : is_unfinished chunk ≡ true → suc u < suc u
+      no_cut : is_unfinished chunk ≡ true → used < used
       no_cut q = omega (arith, k.2, k.3, ((held_cut chunk q).1 some).0)
 
+      ends : (q : Progress) (u m : ℕ) → Answered p used n ≡ Answered q u m → 6 ≤ u → u ≤ length chunk → u ≡ record_length chunk
+          → (drop u chunk ++ [] ≡ drop used chunk) × (s.held ≡ 0 → 6 ≤ used)
+      ends q u m e a b g =
+          let same : used ≡ u = cc in
+          (rw (append-nil (drop u chunk), same), λ y. omega (arith, same, a))
+
   -- all of it is held
-  pub chunk-held : (h' f' c' d' : List ℕ) → Lengths h' f' c' d' → length h ≡ held_limit → h' ≡ stored 0 (length chunk) chunk h → (stops : Bool)
-      → Looks stops 0 (replay_state s.progress f c d) chunk out n (replay_state p f' c' d') after
-      → Steps (kept s h f c d) (kept (after_look p stops 0 (length chunk)) h' f' c' d') chunk out (length chunk) n after
-  chunk-held h' f' c' d' l lh e stops k =
+  pub chunk-held : (h' f' c' d' : List ℕ) → Lengths h' f' c' d' → length h ≡ held_limit → h' ≡ stored 0 (length chunk) chunk h
+      → (k : Looked) → ((p : Progress) (used n : ℕ) → k ≡ Answered p used n → ⊥)
+      → Looks k (replay_state s.progress f c d) chunk out f' c' d' after
+      → Steps (kept s h f c d) (kept (after_look s.progress k (length chunk)) h' f' c' d') chunk out (length chunk) (written_in k) after
+  chunk-held h' f' c' d' l lh e k other looks =
       let most : length chunk ≤ length chunk = omega arith in
-      look-steps s h f c d chunk p h' f' c' d' chunk [] out after (length chunk) (length chunk) n reads_on same-chunk l some (omega arith) stops 0 k
+      look-steps s h f c d chunk h' f' c' d' chunk [] out after (length chunk) (length chunk) reads_on same-chunk l some (omega arith) k looks
       (λ q. (
         refl,
         rw (e, stored-all 0 (length chunk) chunk h refl (omega (arith, (held_cut chunk q).0, lh))) (take_at chunk _ (length chunk) refl),
         drop_of_length-le chunk most,
         λ z. refl,
       ))
-      (λ a. absurd (omega (arith, a)))
+      (λ p u m i. absurd (other p u m i))
 
 -- ---- where a record has begun
 
-pub held-step : (s : Session) (h f c d chunk : List ℕ) (p : Progress) (h' f' c' d' out after : List ℕ) (n m : ℕ) (stops : Bool) (used : ℕ) → s.stopped ≡ false → 0 < s.held
+pub held-step : (s : Session) (h f c d chunk h' f' c' d' out after : List ℕ) (m : ℕ) (looked : Looked) → s.stopped ≡ false → 0 < s.held
     → Holds (kept s h f c d) → 0 < length chunk → m ≡ min (record_length (take s.held h) - s.held) (length chunk) → h' ≡ stored s.held m chunk h → Lengths h' f' c' d'
-    → Looks stops used (replay_state s.progress f c d) (take (s.held + m) h') out n (replay_state p f' c' d') after
-    → Steps (kept s h f c d) (kept (after_look p stops used (s.held + m)) h' f' c' d') chunk out m n after
-held-step s h f c d chunk p h' f' c' d' out after n m stops used reads_on begun holds some e stored_is l k =
-    look-steps s h f c d chunk p h' f' c' d' (take (s.held + m) h') (drop m chunk) out after (s.held + m) m n reads_on whole l
-    (omega (arith, e, lacks)) (omega (arith, e)) stops used k
+    → Looks looked (replay_state s.progress f c d) (take (s.held + m) h') out f' c' d' after
+    → Steps (kept s h f c d) (kept (after_look s.progress looked (s.held + m)) h' f' c' d') chunk out m (written_in looked) after
+held-step s h f c d chunk h' f' c' d' out after m looked reads_on begun holds some e stored_is l k =
+    look-steps s h f c d chunk h' f' c' d' (take (s.held + m) h') (drop m chunk) out after (s.held + m) m reads_on whole l
+    (omega (arith, e, lacks)) (omega (arith, e)) looked k
     (λ q. (sym long, refl, refl, λ z. absurd (omega (arith, z, begun))))
-    (λ a b g. (ap (λ x. x ++ drop m chunk) (drop_of_length-le (take (s.held + m) h') (all a b g)), λ z. absurd (omega (arith, z, begun))))
+    (λ p used n i a b g. (ap (λ x. x ++ drop m chunk) (drop_of_length-le (take (s.held + m) h') (all used a b g)), λ z. absurd (omega (arith, z, begun))))
   where
     u : List ℕ
     u = take s.held h
@@ -236,8 +225,8 @@ held-step s h f c d chunk p h' f' c' d' out after n m stops used reads_on begun 
     whole = rw bytes_are (ap (λ x. u ++ x) (sym (take-append-drop m chunk)) ∙ sym (append_assoc u (take m chunk) (drop m chunk)))
 
     -- a record that was begun and is answered ends where the bytes that it lacked do
-    all : 6 ≤ used → used ≤ length (take (s.held + m) h') → used ≡ record_length (take (s.held + m) h') → length (take (s.held + m) h') ≤ used
-    all a b g = go (dec_le field_length (length u))
+    all : (used : ℕ) → 6 ≤ used → used ≤ length (take (s.held + m) h') → used ≡ record_length (take (s.held + m) h') → length (take (s.held + m) h') ≤ used
+    all used a b g = go (dec_le field_length (length u))
       where
         go : Dec (field_length ≤ length u) → length (take (s.held + m) h') ≤ used
         go (yes y) = omega (arith, long, g, ap record_length bytes_are, record_length-append u (take m chunk) y, e, lacks.1)

@@ -8,9 +8,10 @@ use native.Mathlib.Omega.{arith}
 use borrow.Author.Tests.{lt-ltb, le-ltb}
 use lib.Dec.{ltb}
 use lib.ListN.{length, take, length-take}
-use Rattle.answers.specs.Written.{room_refusal, written_by, written_after}
-use Rattle.answers.specs.declared.written.Written.{Written}
-use Rattle.answers.specs.declared.written.Written.TheVariants.{Bytes, Refused}
+use Rattle.std.specs.Prelude.{⊤, Result, Ok, Err}
+use Rattle.answers.specs.Refusal.{refusal_number}
+use Rattle.answers.specs.declared.refusal.Refusal.{Refusal}
+use Rattle.answers.specs.Written.{Written, room_refusal, written_by, written_after}
 use Rattle.answers.proofs.WrittenBy.{room-zero, refused, written}
 use Rattle.recordings.specs.declared.session.Session.{Session}
 use Rattle.nights.specs.Lines.{record_line}
@@ -40,6 +41,11 @@ module _ (s : Session) (held file claimed doubtful chunk out : List ℕ) (used :
     unfolding room_refusal
     refused_none h = sym (by-test true ours ∙ rw (le-ltb (length out) (feed_room (length chunk)) h))
 
+-- what is not refused has the number 0
+pub none_refused : (r : Result ⊤ Refusal) → ((x : Refusal) → r ≡ Err x → ⊥) → 0 ≡ refusal_number r
+none_refused (Ok u) h = refl
+none_refused (Err x) h = absurd (h x refl)
+
 -- ---- what a chunk answers and leaves, by that number
 
 -- the answer, the lent bytes, and what is kept
@@ -48,7 +54,7 @@ Answers k chunk out answer after m =
     (answer ≡ written_by (feed_refusal k chunk out) (length (feed_text k chunk))) × (after ≡ written_after (feed_refusal k chunk out) (feed_text k chunk) out) × (m ≡ feed_after k chunk out)
 
 module _ (k : Kept) (chunk out : List ℕ) where
-  pub feed-refused : (n : ℕ) → n ≡ feed_refusal k chunk out → 0 < n → Answers k chunk out (Refused n) out k
+  pub feed-refused : (n : ℕ) → n ≡ feed_refusal k chunk out → 0 < n → Answers k chunk out (Err n) out k
   unfolding feed_after
   feed-refused n e h =
       let w = refused (feed_refusal k chunk out) (length (feed_text k chunk)) (feed_text k chunk) out n (sym e) h in
@@ -59,12 +65,12 @@ module _ (k : Kept) (chunk out : List ℕ) where
     unfolding feed_after
     taken-after = rw (← none)
 
-    pub feed-taken : (n : ℕ) (after : List ℕ) (m : Kept) → WritesFront (feed_text k chunk) out n after → m ≡ (feed k chunk).1 → Answers k chunk out (Bytes n) after m
+    pub feed-taken : (n : ℕ) (after : List ℕ) (m : Kept) → WritesFront (feed_text k chunk) out n after → m ≡ (feed k chunk).1 → Answers k chunk out (Ok n) after m
     feed-taken n after m w e =
         let x = written (feed_refusal k chunk out) (length (feed_text k chunk)) (feed_text k chunk) out (sym none) in
-        (ap Bytes w.0 ∙ x.0, w.1 ∙ x.1, e ∙ sym taken-after)
+        (rw w.0 x.0, w.1 ∙ x.1, e ∙ sym taken-after)
 
-    pub feed-halted : k.session.stopped ≡ true → Answers k chunk out (Bytes 0) out k
+    pub feed-halted : k.session.stopped ≡ true → Answers k chunk out (Ok 0) out k
     unfolding feed feed_text
     feed-halted b =
         let f : feed k chunk ≡ ([], k) = rw b in

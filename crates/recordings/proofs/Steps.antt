@@ -1,7 +1,8 @@
 -- A record, the first record of some bytes, and a step through a chunk, as readings.
-use Prim.Native.Nat.{ℕ, zero, suc, ◌+◌, ◌≤◌}
+use Prim.Native.Nat.{ℕ, ◌+◌, ◌≤◌}
 use mathlib.Core.Path.{◌≡◌, refl, sym, ap, ◌∙◌}
-use mathlib.Core.Bool.{Bool, true, false, true≢false, false≢true}
+use mathlib.Core.Bool.{true, false}
+use Rattle.std.specs.Prelude.{Some, None}
 use mathlib.Core.Logic.{◌⊎◌, inl, inr}
 use mathlib.Core.List.{List, [], ◌++◌}
 use native.Mathlib.Omega.{arith}
@@ -12,9 +13,10 @@ use Rattle.frames.specs.Frame.{first_record}
 use Rattle.frames.specs.declared.frame.First.TheVariants.{Nothing, Cut, TooLong, Whole}
 use Rattle.frames.proofs.FirstRecord.{first-prefix-whole, first-prefix-long, first-nothing, first-whole}
 use Rattle.nights.specs.Request.{record_limit, request_of}
-use Rattle.nights.specs.Lines.{record_line}
 use Rattle.nights.specs.Reading.{Turn, prints, stops, stops_at, printed_before, read}
-use Rattle.recordings.specs.Kept.{ReplayState, is_unfinished, library, library_turn}
+use Rattle.recordings.specs.declared.turn.Turned.{Turned}
+use Rattle.recordings.specs.declared.first.Looked.TheVariants.{Answered}
+use Rattle.recordings.specs.Kept.{ReplayState, replay_state, is_unfinished, library, library_turn}
 use Rattle.recordings.specs.Steps.{WritesText, Leads, Looks}
 use Rattle.nights.proofs.Requests.{request-short}
 use Rattle.nights.proofs.Reading.{read-prints, read-stops, read-long}
@@ -35,14 +37,22 @@ prints-six d v bytes text e = go (dec_le 6 (length bytes))
         let z : ◌≡◌ {A = ℕ} 0 1 = cc (s, e) in absurd (omega (arith, z))
 
 -- what a turn that stopped was, and one that went on
-leads-stops : (x : Turn ReplayState) (d e : ReplayState) (out after : List ℕ) (n : ℕ) → Leads x d out true n e after → (x ≡ stops) × (e ≡ d) × (after ≡ out)
-leads-stops (prints text v) d e out after n l = absurd (true≢false l.0)
-leads-stops stops d e out after n l = (refl, l.1, l.2)
+module _ (x : Turn ReplayState) (d : ReplayState) (out file claimed doubtful after : List ℕ) where
+  leads-stops : Leads x d out None file claimed doubtful after → (x ≡ stops) × (replay_state d.progress file claimed doubtful ≡ d) × (after ≡ out)
+  leads-stops l = go x refl l
+    where
+      go : (y : Turn ReplayState) → x ≡ y → Leads y d out None file claimed doubtful after → (x ≡ stops) × (replay_state d.progress file claimed doubtful ≡ d) × (after ≡ out)
+      go (prints text v) e l = absurd l
+      go stops e l = (e, l.0, l.1)
 
-leads-prints : (x : Turn ReplayState) (d e : ReplayState) (out after : List ℕ) (n : ℕ) → Leads x d out false n e after
-    → (text : List ℕ) × (x ≡ prints text e) × WritesText text out n after
-leads-prints (prints text v) d e out after n l = (text, ap (prints text) (sym l.1), l.2)
-leads-prints stops d e out after n l = absurd (false≢true l.0)
+  leads-prints : (t : Turned) → Leads x d out (Some t) file claimed doubtful after
+      → (text : List ℕ) × (x ≡ prints text (replay_state t.progress file claimed doubtful)) × WritesText text out t.written after
+  leads-prints t l = go x refl l
+    where
+      go : (y : Turn ReplayState) → x ≡ y → Leads y d out (Some t) file claimed doubtful after
+          → (text : List ℕ) × (x ≡ prints text (replay_state t.progress file claimed doubtful)) × WritesText text out t.written after
+      go (prints text v) e l = (text, e ∙ ap (prints text) (sym l.0), l.1)
+      go stops e l = absurd l
 
 -- ---- the first record of some bytes
 
@@ -56,15 +66,6 @@ unfolding is_unfinished
 is_whole bytes (inl q) = rw (q, is_unfinished)
 is_whole bytes (inr q) = rw (q.1, is_unfinished)
 
--- as the code says it
-module _ (d : ReplayState) (bytes out : List ℕ) (stops : Bool) (used n : ℕ) (e : ReplayState) (after : List ℕ) (none : used ≡ 0) (same : e ≡ d) where
-  pub looks-waits : stops ≡ false → n ≡ 0 → after ≡ out → is_unfinished bytes ≡ true → Looks stops used d bytes out n e after
-  looks-waits b z a q = rw (b, none) (q, same, z, a)
-
-  pub looks-stops : stops ≡ true → WritesText (record_line (library.number d)) out n after → ((more : List ℕ) → read library d (bytes ++ more) ≡ stops_at library d)
-      → Looks stops used d bytes out n e after
-  looks-stops b w r = rw b (none, same, w, r)
-
 module _ (d : ReplayState) (bytes : List ℕ) where
   pub long-stops : first_record record_limit bytes ≡ TooLong → (more : List ℕ) → read library d (bytes ++ more) ≡ stops_at library d
   long-stops q more = read-long library d (bytes ++ more) (first-prefix-long record_limit bytes more q)
@@ -74,20 +75,24 @@ module _ (d : ReplayState) (bytes : List ℕ) where
     take_same : (more : List ℕ) → take m (bytes ++ more) ≡ take m bytes
     take_same more = take-append-le m bytes more (first-prefix-whole record_limit bytes more m whole).1
 
-    module _ (e : ReplayState) (out after : List ℕ) (n : ℕ) where
+    module _ (out file claimed doubtful after : List ℕ) where
       -- a record that stopped the reading
-      pub answered-stops : Leads (library_turn d (request_of (take m bytes))) d out true n e after
-          → (e ≡ d) × (after ≡ out) × ((more : List ℕ) → read library d (bytes ++ more) ≡ stops_at library d)
+      pub answered-stops : Leads (library_turn d (request_of (take m bytes))) d out None file claimed doubtful after
+          → (replay_state d.progress file claimed doubtful ≡ d) × (after ≡ out) × ((more : List ℕ) → read library d (bytes ++ more) ≡ stops_at library d)
       answered-stops l =
-          let s = leads-stops (library_turn d (request_of (take m bytes))) d e out after n l in
+          let s = leads-stops (library_turn d (request_of (take m bytes))) d out file claimed doubtful after l in
           (s.1, s.2, λ more. read-stops library d (bytes ++ more) m (first-prefix-whole record_limit bytes more m whole).0 (rw (take_same more) s.0))
 
       -- and one after which it goes on
-      pub answered-prints : Leads (library_turn d (request_of (take m bytes))) d out false n e after → Looks false m d bytes out n e after
-      answered-prints l = go m refl
+      pub answered-prints : (t : Turned) → Leads (library_turn d (request_of (take m bytes))) d out (Some t) file claimed doubtful after
+          → Looks (Answered t.progress m t.written) d bytes out file claimed doubtful after
+      answered-prints t l = (s.0, six, p.1, first-whole record_limit bytes m whole, s.2, reading)
         where
-          s : (text : List ℕ) × (library_turn d (request_of (take m bytes)) ≡ prints text e) × WritesText text out n after
-          s = leads-prints (library_turn d (request_of (take m bytes))) d e out after n l
+          e : ReplayState
+          e = replay_state t.progress file claimed doubtful
+
+          s : (text : List ℕ) × (library_turn d (request_of (take m bytes)) ≡ prints text e) × WritesText text out t.written after
+          s = leads-prints (library_turn d (request_of (take m bytes))) d out file claimed doubtful after t l
 
           p : (first_record record_limit (bytes ++ []) ≡ Whole m) × (m ≤ length bytes) × (4 ≤ m) × (m ≤ 4 + record_limit)
           p = first-prefix-whole record_limit bytes [] m whole
@@ -99,7 +104,3 @@ module _ (d : ReplayState) (bytes : List ℕ) where
           reading more =
               read-prints library d (bytes ++ more) m s.0 e (first-prefix-whole record_limit bytes more m whole).0 (rw (take_same more) s.1)
               ∙ rw (drop-append-le m bytes more p.1)
-
-          go : (k : ℕ) → m ≡ k → Looks false k d bytes out n e after
-          go zero z = absurd (omega (arith, six))
-          go (suc u) z = (s.0, omega (arith, six, z), omega (arith, p.1, z), sym z ∙ first-whole record_limit bytes m whole, s.2, λ more. reading more ∙ ap (λ j. printed_before s.0 (read library e (drop j bytes ++ more))) z)

@@ -1,16 +1,22 @@
 -- Turns: what the screen writes, what fits, and what a start and a piece lead to.
 use Prim.Native.Nat.{ℕ, suc, min, ◌+◌, ◌*◌, ◌-◌, ◌/◌, ◌≤◌, ◌<◌}
 use mathlib.Core.Path.{◌≡◌, refl, sym, ap, ◌∙◌, subst}
-use mathlib.Core.Bool.{Bool, true, false, cond}
+use mathlib.Core.Bool.{Bool, true, cond}
 use mathlib.Core.List.{List, [], ◌∷◌, ◌++◌}
 use native.Mathlib.Omega.{arith}
 use native.Mathlib.Decide.{dec_lt}
 use native.Mathlib.Nat.{zero-add}
+use Rattle.std.specs.Prelude.{Option, Some, None, Result, Ok, Err}
 use lib.ListN.{length, take, drop, replicate, length-replicate}
 use Rattle.octets.specs.Decimal.{decimal}
-use Rattle.answers.specs.declared.written.Written.{Written}
-use Rattle.answers.specs.Written.{written_bytes}
+use Rattle.std.specs.Result.{result_unwrap_or}
+use Rattle.answers.specs.Refusal.{numbered}
+use Rattle.answers.specs.declared.refusal.Refusal.{Refusal}
+use Rattle.answers.specs.Written.{Written, written_bytes}
+use borrow.Author.Tests.{lt-ltb, le-ltb}
+use lib.Dec.{ltb}
 use Rattle.ledger.specs.Pairs.{none}
+use Rattle.ledger.specs.Ledger.{largest}
 use Rattle.transfer.specs.declared.state.Transfer.{Transfer}
 use Rattle.transfer.specs.Transfer.{World, world, is_doubted, verdict_of, stored_of, doubt_of, fresh, start_of, start_after}
 use Rattle.transfer.specs.Receive.{Outcome, continues, stops, not_taken, Answer, refused, took, take_bytes, take_byte, refusal_of, receive_of}
@@ -24,17 +30,16 @@ use Rattle.transfer.proofs.ReceivePieces.{bytes-none, bytes-goes, bytes-stops, b
 use Rattle.transfer.proofs.Start.{start}
 use Rattle.transfer.proofs.AfterList.{every_list}
 use Rattle.receiver.specs.declared.receive.Receiver.{Receiver}
-use Rattle.receiver.specs.declared.receive.Answer.{Answer as Answered}
-use Rattle.receiver.specs.declared.receive.Answer.TheVariants.{Took, Refused}
 use Rattle.receiver.specs.Answers.{to_answer}
 use Rattle.receiver.proofs.Refusal.{is-refused, is-taken, not-refused}
 use Rattle.screen.specs.Screen.{line_feed, line_of, line_for, screen_of, screen_after}
 use Rattle.screen.proofs.ScreenRows.{screen-rows}
 use Rattle.frames.specs.Frame.{body_of}
 use Rattle.recordings.specs.declared.request.Asked.{Asked}
-use Rattle.recordings.specs.declared.request.Asked.TheVariants.{Start, Piece, Malformed}
+use Rattle.recordings.specs.declared.turn.Turned.{Turned}
+use Rattle.recordings.specs.declared.request.Asked.TheVariants.{Start, Piece}
 use Rattle.nights.specs.Request.{starts, piece, malformed, request_of}
-use Rattle.recordings.specs.Asked.{asks_body, asks}
+use Rattle.recordings.specs.Asked.{asks}
 use Rattle.nights.specs.Lines.{refused_word, left_line, piece_text}
 use Rattle.nights.specs.Reading.{Turn, prints, stops as unread}
 use Rattle.nights.specs.Night.{started_night}
@@ -59,6 +64,12 @@ screen-written t claimed doubtful out after answer s f h w =
     let m = screen-rows.longest t claimed doubtful (omega arith) f in
     let r = screen-rows.row_written t claimed doubtful out f (omega (arith, m)) in
     (m, (ap written_bytes w.0 ∙ r.bytes, w.1 ∙ r.after_is))
+
+-- nothing where it was refused
+pub written-or : (r : Result ℕ Refusal) → result_unwrap_or r 0 ≡ written_bytes (numbered r)
+unfolding written_bytes
+written-or (Ok n) = refl
+written-or (Err k) = refl
 
 -- ---- what fits
 
@@ -116,7 +127,7 @@ took-few {W} f (b ∷ bs) w k = go (f w b) refl (λ v. took-few f bs v (suc k))
     go (not_taken v) e i = rw (bytes-leaves f w v b bs k e) (omega arith)
 
 -- one that is not refused leaves a world that fits, and has taken no more bytes than there are
-pub call-took : (w v : World) (c n : ℕ) (bytes : List ℕ) (answer : Answered) → answer ≡ Took n → (to_answer answer, v) ≡ receive_of w c bytes → FitsWithoutFile v × (n ≤ length bytes)
+pub call-took : (w v : World) (c n : ℕ) (bytes : List ℕ) (answer : Written) → answer ≡ Ok n → (to_answer answer, v) ≡ receive_of w c bytes → FitsWithoutFile v × (n ≤ length bytes)
 call-took w v c n bytes answer a e = (fits-without v fit, few)
   where
     taken : receive_of w c bytes ≡ (took n, v)
@@ -145,6 +156,15 @@ call-took w v c n bytes answer a e = (fits-without v fit, few)
 
 -- ---- the state
 
+-- the number after a record's
+pub number-after : (k : ℕ) → k < 18446744073709551616 → min (k + 1) (18446744073709551616 - 1) ≡ next_number k
+unfolding next_number
+number-after k h = go (dec_lt k largest)
+  where
+    go : Dec (k < largest) → min (k + 1) (18446744073709551616 - 1) ≡ cond (ltb k largest) (suc k) k
+    go (yes l) = rw (lt-ltb k largest l) (omega arith)
+    go (no l) = rw (le-ltb k largest (omega arith)) (omega arith)
+
 -- with a world whose file and ledgers came back from the fronts that were lent
 pub state-world : (d : ReplayState) (r : Receiver) (k a b : ℕ) (file claimed doubtful : List ℕ) → k ≡ next_number d.progress.number → length file ≡ a → length claimed ≡ b → length doubtful ≡ b
     → replay_state (record { receiver = r; number = k; started = true }) (file ++ drop a d.file) (claimed ++ drop b d.claimed) (doubtful ++ drop b d.doubtful)
@@ -152,55 +172,56 @@ pub state-world : (d : ReplayState) (r : Receiver) (k a b : ℕ) (file claimed d
 unfolding put_world
 state-world d r k a b file claimed doubtful e f g h = rw (e, f, g, h)
 
-pub start-leads : (d e : ReplayState) (w : World) (F R n : ℕ) (out after : List ℕ) → w ≡ started_night F R → e ≡ put_world d w
-    → (length (line_for w.t w.lent.claimed w.lent.doubtful) ≤ 80) × WritesFront (line_for w.t w.lent.claimed w.lent.doubtful) out n after
-    → Leads (library_turn d (starts F R)) d out false n e after
+pub start-leads : (d : ReplayState) (t : Turned) (w : World) (F R : ℕ) (out file claimed doubtful after : List ℕ) → w ≡ started_night F R
+    → replay_state t.progress file claimed doubtful ≡ put_world d w
+    → (length (line_for w.t w.lent.claimed w.lent.doubtful) ≤ 80) × WritesFront (line_for w.t w.lent.claimed w.lent.doubtful) out t.written after
+    → Leads (library_turn d (starts F R)) d out (Some t) file claimed doubtful after
 unfolding library_turn
-start-leads d e w F R n out after s i l =
-    subst (λ v. Leads (prints (line_of v) (put_world d v)) d out false n e after) s (refl, i, rw (line-world w) (omega (arith, l.0), l.1))
+start-leads d t w F R out file claimed doubtful after s i l =
+    subst (λ v. Leads (prints (line_of v) (put_world d v)) d out (Some t) file claimed doubtful after) s (i, rw (line-world w) (omega (arith, l.0), l.1))
 
 -- ---- a piece
 
 -- the world that is lent: all that the transfer is for, where there is as much
 pub world-lent : (d : ReplayState) (a b : ℕ) → let t = d.progress.receiver.transfer in
-    a ≡ min t.len (length d.file) → b ≡ min t.pairs 256 → length d.claimed ≡ 512 → length d.doubtful ≡ 512
+    a ≡ min t.len 32768 → b ≡ min t.pairs 256 → length d.file ≡ 32768 → length d.claimed ≡ 512 → length d.doubtful ≡ 512
     → world t (take a d.file) (take (2 * b) d.claimed) (take (2 * b) d.doubtful) ≡ world_in d
-world-lent d a b e f g h =
+world-lent d a b e f i g h =
     let t = d.progress.receiver.transfer in
     rw (take_same a t.len d.file (omega arith), take_same (2 * b) (2 * t.pairs) d.claimed (omega arith), take_same (2 * b) (2 * t.pairs) d.doubtful (omega arith))
 
-module _ (answer : Answered) (w : World) (k n m : ℕ) (out after : List ℕ) where
-  pub text-refused : answer ≡ Refused k → k < 256 → WritesFront ((82 ∷ 69 ∷ 70 ∷ 85 ∷ 83 ∷ 69 ∷ 68 ∷ 32 ∷ []) ++ decimal k ++ line_feed) out m after
+module _ (answer : Written) (w : World) (k n m : ℕ) (out after : List ℕ) where
+  pub text-refused : answer ≡ Err k → k < 256 → WritesFront ((82 ∷ 69 ∷ 70 ∷ 85 ∷ 83 ∷ 69 ∷ 68 ∷ 32 ∷ []) ++ decimal k ++ line_feed) out m after
       → WritesText (piece_text (to_answer answer) w n) out m after
   unfolding piece_text
   text-refused a h l = rw (a, ← refused-words k) (omega (arith, ap length (refused-words k), length-number_line refused_word k, decimal-short k (omega arith)), l)
 
-  pub text-taken : answer ≡ Took k → WritesText (left_line (n - k) ++ line_for w.t w.lent.claimed w.lent.doubtful) out m after
+  pub text-taken : answer ≡ Ok k → WritesText (left_line (n - k) ++ line_for w.t w.lent.claimed w.lent.doubtful) out m after
       → WritesText (piece_text (to_answer answer) w n) out m after
   unfolding piece_text
   text-taken a l = rw (a, line-world w) l
 
-pub piece-leads : (d e : ReplayState) (w : World) (answer : Answered) (c m : ℕ) (bytes out after : List ℕ) → (to_answer answer, w) ≡ receive_of (world_in d) c bytes → e ≡ put_world d w
-    → WritesText (piece_text (to_answer answer) w (length bytes)) out m after → Leads (library_answer d (length bytes) (receive_of (world_in d) c bytes)) d out false m e after
+pub piece-leads : (d : ReplayState) (t : Turned) (w : World) (answer : Written) (c : ℕ) (bytes out file claimed doubtful after : List ℕ)
+    → (to_answer answer, w) ≡ receive_of (world_in d) c bytes → replay_state t.progress file claimed doubtful ≡ put_world d w
+    → WritesText (piece_text (to_answer answer) w (length bytes)) out t.written after
+    → Leads (library_answer d (length bytes) (receive_of (world_in d) c bytes)) d out (Some t) file claimed doubtful after
 unfolding library_answer
-piece-leads d e w answer c m bytes out after r i l = subst (λ a. Leads (library_answer d (length bytes) a) d out false m e after) r (refl, i, l)
+piece-leads d t w answer c bytes out file claimed doubtful after r i l =
+    subst (λ a. Leads (library_answer d (length bytes) a) d out (Some t) file claimed doubtful after) r (i, l)
 
 -- ---- a record, by what the code answers of it
 
-module _ (a : Asked) (bytes : List ℕ) (e : asks a bytes ≡ request_of bytes) where
-  pub asked-start : (F R : ℕ) → a ≡ Start F R → request_of bytes ≡ starts F R
-  unfolding asks asks_body
+module _ (a : Option Asked) (bytes : List ℕ) (e : asks a bytes ≡ request_of bytes) where
+  pub asked-start : (F R : ℕ) → a ≡ Some (Start F R) → request_of bytes ≡ starts F R
   asked-start F R h = sym e ∙ rw h
 
-  pub asked-piece : (c : ℕ) → a ≡ Piece c → (7 ≤ length bytes) × (length (drop 7 bytes) ≤ 16384) × (request_of bytes ≡ piece c (drop 7 bytes))
-  unfolding asks asks_body
+  pub asked-piece : (c : ℕ) → a ≡ Some (Piece c) → (7 ≤ length bytes) × (length (drop 7 bytes) ≤ 16384) × (request_of bytes ≡ piece c (drop 7 bytes))
   asked-piece c h =
       let q : request_of bytes ≡ piece c (drop 1 (body_of bytes)) = sym e ∙ rw h in
       let w = piece-within bytes c (drop 1 (body_of bytes)) q in
       (w.0, rw w.2 at w.1, q ∙ ap (piece c) w.2)
 
-  pub asked-malformed : a ≡ Malformed → request_of bytes ≡ malformed
-  unfolding asks asks_body
+  pub asked-malformed : a ≡ None → request_of bytes ≡ malformed
   asked-malformed h = sym e ∙ rw h
 
 -- ---- the turn that it leads to
@@ -214,5 +235,6 @@ module _ (d : ReplayState) where
   unfolding library_turn
   turn-malformed = refl
 
-  pub leads-as : (e : ReplayState) (t u : Turn ReplayState) (b : Bool) (n : ℕ) (out after : List ℕ) → t ≡ u → Leads u d out b n e after → Leads t d out b n e after
-  leads-as e t u b n out after q l = rw q l
+  pub leads-as : (t u : Turn ReplayState) (r : Option Turned) (out file claimed doubtful after : List ℕ) → t ≡ u
+      → Leads u d out r file claimed doubtful after → Leads t d out r file claimed doubtful after
+  leads-as t u r out file claimed doubtful after q l = rw q l

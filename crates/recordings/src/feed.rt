@@ -1,21 +1,22 @@
 // A chunk of a recording: what it prints, into lent bytes.
 ghost use Rattle.std.specs.Prelude.{◌≡◌, false, ℕ, ◌+◌, ◌*◌, ◌≤◌, List, length, take};
+ghost use Rattle.answers.specs.Refusal.{numbered, refusal_number};
 ghost use Rattle.answers.specs.Written.{written_by, written_after};
 ghost use Rattle.recordings.specs.Kept.{WritesFront, kept, is_unfinished, feed, feed_refusal, feed_text, feed_after};
 ghost use Rattle.recordings.specs.Steps.{Holds, Reads};
 
 use crate::session::Session;
 use crate::step::Stepped;
-use crate::{front, request, step};
-use answers::written::Written;
+use crate::{request, step};
+use answers::refusal::Refusal;
 use frames::frame;
 use frames::frame::First;
 
-// What a chunk led to: the session that takes the place of the one handed in, and how many bytes were written, or the number of a refusal.
+// What a chunk led to: the session that takes the place of the one handed in, and how many bytes were written, or why it was refused.
 #[derive(Clone, Copy)]
 pub struct Fed {
     pub session: Session,
-    pub answer: Written,
+    pub answer: Result<usize, Refusal>,
 }
 
 // For the chunk's first record and for a malformed last one.
@@ -25,43 +26,38 @@ const ROOM: usize = 192;
 const ROOM_PER_BYTE: usize = 16;
 
 // Whether the held bytes are none, or the beginning of one record that is not whole.
+#[tactic(auto, unfolding(crate::specs::Kept::is_unfinished))]
 fn is_unfinished(bytes: &[u8]) -> bool
     ensures { result ≡ is_unfinished bytes.now }
 {
-    let found = frame::first_record(bytes, request::RECORD_LIMIT);
-    match found {
-        First::Nothing => true,
-        First::Cut => true,
-        First::TooLong => false,
-        First::Whole(_) => false,
-    }
+    matches!(
+        frame::first_record(bytes, request::RECORD_LIMIT),
+        First::Nothing | First::Cut
+    )
 }
 
-// The number by which a chunk of n bytes is refused, 0 where it is not.
-fn refusal(session: Session, held: &[u8], n: usize, out: &[u8]) -> u8
-    ensures { (file claimed doubtful chunk : List ℕ) → length chunk ≡ n → result ≡ feed_refusal (kept session held.now file claimed doubtful) chunk out.now }
+// Whether a chunk of n bytes is taken.
+fn check(session: Session, held: &[u8], n: usize, out: &[u8]) -> Result<(), Refusal>
+    ensures { (file claimed doubtful chunk : List ℕ) → length chunk ≡ n → refusal_number result ≡ feed_refusal (kept session held.now file claimed doubtful) chunk out.now }
 {
-    let used = front::at_most(session.held as u64, held.len());
+    let used = session.held.min(held.len());
     if !is_unfinished(&held[..used]) {
-        return 1;
+        return Err(Refusal::Unfit);
     }
-    if out.len() < ROOM {
-        return 55;
+    if out.len() < ROOM || (out.len() - ROOM) / ROOM_PER_BYTE < n {
+        return Err(Refusal::TooFewBytes);
     }
-    if (out.len() - ROOM) / ROOM_PER_BYTE < n {
-        return 55;
-    }
-    0
+    Ok(())
 }
 
 // Step by step to the chunk's end, or to a record that is malformed.
 fn take(
     session: Session,
     chunk: &[u8],
-    held: &mut [u8],
-    file: &mut [u8],
-    claimed: &mut [u64],
-    doubtful: &mut [u64],
+    held: &mut [u8; 16391],
+    file: &mut [u8; 32768],
+    claimed: &mut [u64; 512],
+    doubtful: &mut [u64; 512],
     out: &mut [u8],
 ) -> Stepped
     requires { (session.stopped ≡ false) × Holds (kept session held.old file.old claimed.old doubtful.old) × (192 + 16 * length chunk.now ≤ length out.old) }
@@ -87,14 +83,14 @@ fn take(
             return Stepped {
                 session: s,
                 taken: at,
-                written: written,
+                written,
             };
         }
     }
     Stepped {
         session: s,
         taken: at,
-        written: written,
+        written,
     }
 }
 
@@ -102,19 +98,17 @@ fn take(
 fn take_and_clear(
     session: Session,
     chunk: &[u8],
-    held: &mut [u8],
-    file: &mut [u8],
-    claimed: &mut [u64],
-    doubtful: &mut [u64],
+    held: &mut [u8; 16391],
+    file: &mut [u8; 32768],
+    claimed: &mut [u64; 512],
+    doubtful: &mut [u64; 512],
     out: &mut [u8],
 ) -> Stepped
     requires { (session.stopped ≡ false) × Holds (kept session held.old file.old claimed.old doubtful.old) × (192 + 16 * length chunk.now ≤ length out.old) }
     ensures { WritesFront (feed_text (kept session held.old file.old claimed.old doubtful.old) chunk.now) out.old result.written out.new × (kept result.session held.new file.new claimed.new doubtful.new ≡ (feed (kept session held.old file.old claimed.old doubtful.old) chunk.now).1) }
 {
     let taken = take(session, chunk, held, file, claimed, doubtful, out);
-    let left = taken.session;
-    let used = left.held;
-    front::clear(&mut held[used..]);
+    held[taken.session.held..].fill(0);
     taken
 }
 
@@ -130,25 +124,23 @@ pub fn feed(
     doubtful: &mut [u64; 512],
     out: &mut [u8],
 ) -> Fed
-    ensures { (result.answer ≡ written_by (feed_refusal (kept session held.old file.old claimed.old doubtful.old) chunk.now out.old) (length (feed_text (kept session held.old file.old claimed.old doubtful.old) chunk.now))) × (out.new ≡ written_after (feed_refusal (kept session held.old file.old claimed.old doubtful.old) chunk.now out.old) (feed_text (kept session held.old file.old claimed.old doubtful.old) chunk.now) out.old) × (kept result.session held.new file.new claimed.new doubtful.new ≡ feed_after (kept session held.old file.old claimed.old doubtful.old) chunk.now out.old) }
+    ensures { (numbered result.answer ≡ written_by (feed_refusal (kept session held.old file.old claimed.old doubtful.old) chunk.now out.old) (length (feed_text (kept session held.old file.old claimed.old doubtful.old) chunk.now))) × (out.new ≡ written_after (feed_refusal (kept session held.old file.old claimed.old doubtful.old) chunk.now out.old) (feed_text (kept session held.old file.old claimed.old doubtful.old) chunk.now) out.old) × (kept result.session held.new file.new claimed.new doubtful.new ≡ feed_after (kept session held.old file.old claimed.old doubtful.old) chunk.now out.old) }
 {
-    let k = refusal(session, held, chunk.len(), out);
-    if 0 < k {
+    if let Err(refusal) = check(session, held, chunk.len(), out) {
         return Fed {
-            session: session,
-            answer: Written::Refused(k),
+            session,
+            answer: Err(refusal),
         };
     }
     if session.stopped {
         return Fed {
-            session: session,
-            answer: Written::Bytes(0),
+            session,
+            answer: Ok(0),
         };
     }
     let taken = take_and_clear(session, chunk, held, file, claimed, doubtful, out);
-    let left = taken.session;
     Fed {
-        session: left,
-        answer: Written::Bytes(taken.written),
+        session: taken.session,
+        answer: Ok(taken.written),
     }
 }

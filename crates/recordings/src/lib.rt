@@ -4,9 +4,7 @@
 pub mod feed;
 pub mod finish;
 mod first;
-mod front;
 mod line;
-mod number;
 mod request;
 pub mod session;
 mod step;

@@ -2,8 +2,9 @@
 ghost use Rattle.std.specs.Prelude.{◌++◌, ◌+◌, ◌≤◌, length};
 ghost use Rattle.octets.specs.Decimal.{decimal};
 ghost use Rattle.screen.specs.Screen.{line_feed};
-ghost use Rattle.nights.specs.Lines.{left_line};
+ghost use Rattle.nights.specs.Lines.{record_line, left_line};
 ghost use Rattle.recordings.specs.Kept.{WritesFront};
+ghost use Rattle.recordings.specs.Steps.{WritesText};
 
 use copies::copy;
 use octets::decimal;
@@ -27,6 +28,14 @@ pub fn put_number(word: &[u8], n: u64, out: &mut [u8]) -> usize
     decimal::write(n, &mut out[at..end]);
     out[end] = LINE_FEED;
     end + 1
+}
+
+// The line of a malformed record.
+pub fn put_record(number: u64, out: &mut [u8]) -> usize
+    requires { 96 ≤ length out.old }
+    ensures { WritesText (record_line number) out.old result out.new }
+{
+    put_number(&RECORD, number, out)
 }
 
 // How many bytes of a piece remain; nothing where none does.

@@ -25,58 +25,52 @@ pub const BEFORE_PIECE: usize = 7;
 pub const RECORD_LIMIT: u64 = 16387;
 
 // A start with its numbers, or a piece with its channel.
-#[derive(Clone, Copy)]
+#[derive(Clone, Copy, Debug, PartialEq, Eq)]
 pub enum Asked {
     Start { len: u64, pairs: u64 },
     Piece(u8),
-    Malformed,
 }
 
-fn start_in(body: &[u8]) -> Asked
+fn start_in(body: &[u8]) -> Option<Asked>
     ensures { asks_body result body.now ≡ start_in body.now }
 {
     if body.len() != START_LENGTH {
-        return Asked::Malformed;
+        return None;
     }
     let len = little::read(&body[0..8]);
     if FILE_LIMIT < len {
-        return Asked::Malformed;
+        return None;
     }
     let pairs = little::read(&body[8..16]);
     if PAIR_LIMIT < pairs {
-        return Asked::Malformed;
+        return None;
     }
-    Asked::Start {
-        len: len,
-        pairs: pairs,
-    }
+    Some(Asked::Start { len, pairs })
 }
 
-fn piece_in(body: &[u8]) -> Asked
+fn piece_in(body: &[u8]) -> Option<Asked>
     ensures { asks_body result body.now ≡ piece_in body.now }
 {
     if body.len() == 0 {
-        return Asked::Malformed;
+        return None;
     }
     if PIECE_LIMIT < body.len() - 1 {
-        return Asked::Malformed;
+        return None;
     }
-    Asked::Piece(body[0])
+    Some(Asked::Piece(body[0]))
 }
 
-// Of a record with its frame.
-pub fn of_record(bytes: &[u8]) -> Asked
+// Of a record with its frame; nothing where it is malformed.
+pub fn of_record(bytes: &[u8]) -> Option<Asked>
     ensures { asks result bytes.now ≡ request_of bytes.now }
 {
     if bytes.len() < frame::FRAME_LENGTH {
-        return Asked::Malformed;
+        return None;
     }
-    let kind = frame::kind(bytes);
-    if kind == START {
-        return start_in(&bytes[frame::FRAME_LENGTH..]);
+    let body = &bytes[frame::FRAME_LENGTH..];
+    match frame::kind(bytes) {
+        START => start_in(body),
+        PIECE => piece_in(body),
+        _ => None,
     }
-    if kind == PIECE {
-        return piece_in(&bytes[frame::FRAME_LENGTH..]);
-    }
-    Asked::Malformed
 }

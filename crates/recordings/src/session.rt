@@ -28,13 +28,10 @@ pub struct Session {
 pub fn begin() -> Session
     ensures { result ≡ first_session }
 {
-    let mut claimed = [0u64; 0];
-    let mut doubtful = [0u64; 0];
-    let started = start::start(0, &mut claimed, &mut doubtful);
-    let receiver = started.receiver;
+    let started = start::start(0, &mut [], &mut []);
     Session {
         progress: Progress {
-            receiver: receiver,
+            receiver: started.receiver,
             number: 0,
             started: false,
         },

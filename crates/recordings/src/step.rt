@@ -1,11 +1,11 @@
 // One step through a chunk: a record of it, or the bytes that the held ones lack.
 ghost use Rattle.std.specs.Prelude.{◌≡◌, false, ◌+◌, ◌≤◌, ◌<◌, length};
 ghost use Rattle.recordings.specs.Kept.{kept};
-ghost use Rattle.recordings.specs.Steps.{after_look, Holds, Steps};
+ghost use Rattle.recordings.specs.Steps.{after_look, written_in, Holds, Steps};
 
+use crate::first;
 use crate::first::Looked;
-use crate::session::Session;
-use crate::{first, front};
+use crate::session::{Progress, Session};
 use copies::copy;
 use frames::frame;
 
@@ -18,24 +18,26 @@ pub struct Stepped {
 }
 
 // What a look leads to: where the record is not whole, so many bytes are held as `waiting` says. The chunk gave `taken` of them.
-fn after_look(looked: Looked, waiting: usize, taken: usize) -> Stepped
-    ensures { (result.session ≡ after_look looked.progress looked.stops looked.used waiting) × (result.taken ≡ taken) × (result.written ≡ looked.written) }
+fn after_look(p: Progress, looked: Looked, waiting: usize, taken: usize) -> Stepped
+    ensures { (result.session ≡ after_look p looked waiting) × (result.taken ≡ taken) × (result.written ≡ written_in looked) }
 {
-    let progress = looked.progress;
-    let mut held = 0;
-    if looked.used == 0 {
-        if !looked.stops {
-            held = waiting;
-        }
-    }
+    let (progress, held, stopped, written) = match looked {
+        Looked::Malformed(written) => (p, 0, true, written),
+        Looked::Unfinished => (p, waiting, false, 0),
+        Looked::Answered {
+            progress,
+            used: _,
+            written,
+        } => (progress, 0, false, written),
+    };
     Stepped {
         session: Session {
-            progress: progress,
-            held: held,
-            stopped: looked.stops,
+            progress,
+            held,
+            stopped,
         },
-        taken: taken,
-        written: looked.written,
+        taken,
+        written,
     }
 }
 
@@ -43,34 +45,32 @@ fn after_look(looked: Looked, waiting: usize, taken: usize) -> Stepped
 fn step_chunk(
     s: Session,
     chunk: &[u8],
-    held: &mut [u8],
-    file: &mut [u8],
-    claimed: &mut [u64],
-    doubtful: &mut [u64],
+    held: &mut [u8; 16391],
+    file: &mut [u8; 32768],
+    claimed: &mut [u64; 512],
+    doubtful: &mut [u64; 512],
     out: &mut [u8],
 ) -> Stepped
-    requires { (0 < length chunk.now) × (s.held ≡ 0) × (s.stopped ≡ false) × (length held.old ≡ 16391) × (length file.old ≡ 32768) × (length claimed.old ≡ 512) × (length doubtful.old ≡ 512) × (96 ≤ length out.old) }
+    requires { (0 < length chunk.now) × (s.held ≡ 0) × (s.stopped ≡ false) × (96 ≤ length out.old) }
     ensures { Steps (kept s held.old file.old claimed.old doubtful.old) (kept result.session held.new file.new claimed.new doubtful.new) chunk.now out.old result.taken result.written out.new }
 {
-    let n = chunk.len();
-    let progress = s.progress;
-    let looked = first::look(progress, chunk, file, claimed, doubtful, out);
-    let used = looked.used;
-    if 0 < used {
-        return after_look(looked, 0, used);
+    let looked = first::look(s.progress, chunk, file, claimed, doubtful, out);
+    if let Looked::Answered { used, .. } = looked {
+        return after_look(s.progress, looked, 0, used);
     }
+    let n = chunk.len();
     copy::store(held, 0, chunk, n);
-    after_look(looked, n, n)
+    after_look(s.progress, looked, n, n)
 }
 
 // Where a record has begun: the bytes that it lacks, as far as its length is known and the chunk has them.
 fn step_held(
     s: Session,
     chunk: &[u8],
-    held: &mut [u8],
-    file: &mut [u8],
-    claimed: &mut [u64],
-    doubtful: &mut [u64],
+    held: &mut [u8; 16391],
+    file: &mut [u8; 32768],
+    claimed: &mut [u64; 512],
+    doubtful: &mut [u64; 512],
     out: &mut [u8],
 ) -> Stepped
     requires { (0 < length chunk.now) × (0 < s.held) × (s.stopped ≡ false) × Holds (kept s held.old file.old claimed.old doubtful.old) × (96 ≤ length out.old) }
@@ -78,21 +78,20 @@ fn step_held(
 {
     let at = s.held;
     let lacks = frame::record_length(&held[..at]) - at;
-    let n = front::at_most(lacks as u64, chunk.len());
+    let n = lacks.min(chunk.len());
     copy::store(held, at, chunk, n);
     let end = at + n;
-    let progress = s.progress;
-    let looked = first::look(progress, &held[..end], file, claimed, doubtful, out);
-    after_look(looked, end, n)
+    let looked = first::look(s.progress, &held[..end], file, claimed, doubtful, out);
+    after_look(s.progress, looked, end, n)
 }
 
 pub fn step(
     s: Session,
     chunk: &[u8],
-    held: &mut [u8],
-    file: &mut [u8],
-    claimed: &mut [u64],
-    doubtful: &mut [u64],
+    held: &mut [u8; 16391],
+    file: &mut [u8; 32768],
+    claimed: &mut [u64; 512],
+    doubtful: &mut [u64; 512],
     out: &mut [u8],
 ) -> Stepped
     requires { (0 < length chunk.now) × (s.stopped ≡ false) × Holds (kept s held.old file.old claimed.old doubtful.old) × (96 ≤ length out.old) }

@@ -1,7 +1,7 @@
 -- `feed::take`.
 use borrow.Author.Rules.{rules}
 use Prim.Native.Nat.{◌+◌, ◌-◌, ◌≤◌, ◌<◌}
-use mathlib.Core.Path.{◌≡◌, refl, sym, ◌∙◌}
+use mathlib.Core.Path.{◌≡◌, refl}
 use native.Mathlib.Omega.{arith}
 use borrow.Rule.Slice.PartMut.{put_mid}
 use lib.ListN.{length, drop, length-take, length-drop}
@@ -87,22 +87,6 @@ pub overflow_add-written : goal.overflow_add-written
 overflow_add-written c =
     omega (arith, room (goal.at.overflow_add-written c).After-step-stepped, c.loop-at.invariant.3)
 
-pub shape_of-held-then-s : goal.shape_of-held-then-s
-shape_of-held-then-s c =
-    (stepped (goal.at.shape_of-held-then-s c).After-step-stepped).holds.held ∙ sym c.requires.1.held
-
-pub shape_of-file-then-s : goal.shape_of-file-then-s
-shape_of-file-then-s c =
-    (stepped (goal.at.shape_of-file-then-s c).After-step-stepped).holds.file ∙ sym c.requires.1.file
-
-pub shape_of-claimed-then-s : goal.shape_of-claimed-then-s
-shape_of-claimed-then-s c =
-    (stepped (goal.at.shape_of-claimed-then-s c).After-step-stepped).holds.claimed ∙ sym c.requires.1.claimed
-
-pub shape_of-doubtful-then-s : goal.shape_of-doubtful-then-s
-shape_of-doubtful-then-s c =
-    (stepped (goal.at.shape_of-doubtful-then-s c).After-step-stepped).holds.doubtful ∙ sym c.requires.1.doubtful
-
 pub shape_of-out-then-s : goal.shape_of-out-then-s
 shape_of-out-then-s c =
     longs (goal.at.shape_of-out-then-s c).After-step-stepped
@@ -119,22 +103,6 @@ loop-at-smaller c =
 pub loop-at-preserved : goal.loop-at-preserved
 loop-at-preserved c =
     (stepped (goal.at.loop-at-preserved c).After-step-stepped, c.if-s.false, longs (goal.at.loop-at-preserved c).After-step-stepped, c.loop-at.invariant.3)
-
-pub shape_of-held : goal.shape_of-held
-shape_of-held c =
-    c.loop-at.invariant.0.holds.held ∙ sym c.requires.1.held
-
-pub shape_of-file : goal.shape_of-file
-shape_of-file c =
-    c.loop-at.invariant.0.holds.file ∙ sym c.requires.1.file
-
-pub shape_of-claimed : goal.shape_of-claimed
-shape_of-claimed c =
-    c.loop-at.invariant.0.holds.claimed ∙ sym c.requires.1.claimed
-
-pub shape_of-doubtful : goal.shape_of-doubtful
-shape_of-doubtful c =
-    c.loop-at.invariant.0.holds.doubtful ∙ sym c.requires.1.doubtful
 
 pub shape_of-out : goal.shape_of-out
 shape_of-out c =

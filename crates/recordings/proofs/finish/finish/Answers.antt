@@ -1,6 +1,5 @@
 -- `finish::finish`.
 use borrow.Author.Rules.{rules}
-use Rattle.answers.specs.declared.written.Written.TheVariants.{Bytes}
 use Rattle.answers.specs.Written.{room_refusal}
 use mathlib.Core.List.{[]}
 use Prim.Native.Nat.{◌+◌, ◌≤◌, ◌<◌}
@@ -13,10 +12,10 @@ use Rattle.recordings.proofs.Lines.{length-number_line, record-short, record-wor
 use mathlib.Core.Logic.{inl, inr}
 use Rattle.answers.proofs.WrittenBy.{room-short, room-enough, refused, written}
 use Rattle.recordings.proofs.Refusal.{finish-none, finish-line}
-use mathlib.Core.Path.{◌≡◌, sym, ap, ◌∙◌}
+use mathlib.Core.Path.{◌≡◌, sym, ◌∙◌}
 use native.Mathlib.Omega.{arith}
 use Rattle.recordings.proofs.finish.finish.Goals as goal
-use Rattle.recordings.proofs.finish.finish.Goals.{After-length}
+use Rattle.recordings.proofs.finish.finish.Goals.{After-length, then-session-via-then-session, then-session-via-else-session+then-session-eq0}
 
 -- what is counted is the line's length, which is at most 28
 digits : (c : After-length) → let n = c.args.session.progress.number in
@@ -36,13 +35,11 @@ text c =
 pub returns-then-session : goal.returns-then-session
 returns-then-session c =
     let a = c.args in
-    let e = finish-none a.session (inl c.if-session.true) in
-    rw e (written (room_refusal 0 a.out.now) 0 [] a.out.now (room-enough 0 a.out.now (omega arith)))
-
-pub returns-then-session-eq0 : goal.returns-then-session-eq0
-returns-then-session-eq0 c =
-    let a = c.args in
-    let e = finish-none a.session (inr c.if-session-eq0.true) in
+    let e : finish_text a.session ≡ [] =
+    elim c.then-session.branch [
+      | then-session-via-then-session w ↦ finish-none a.session (inl w.if-session.true)
+      | then-session-via-else-session+then-session-eq0 w ↦ finish-none a.session (inr w.if-session-eq0.true)
+    ] in
     rw e (written (room_refusal 0 a.out.now) 0 [] a.out.now (room-enough 0 a.out.now (omega arith)))
 
 pub overflow_add-length : goal.overflow_add-length
@@ -69,4 +66,4 @@ returns c =
     let n = c.args.session.progress.number in
     let p : WritesFront (record_line n) o c.put_number.result c.put_number.new.out = rw (← record-words n) c.put_number.ensures in
     let w = written (room_refusal (length (record_line n)) o) (length (record_line n)) (record_line n) o (room-enough (length (record_line n)) o (omega (arith, (digits (goal.at.returns c).After-length).0, c.if-out-length.false))) in
-    rw (text (goal.at.returns c).After-length) (ap Bytes p.0 ∙ w.0, p.1 ∙ w.1)
+    rw (text (goal.at.returns c).After-length) (rw p.0 w.0, p.1 ∙ w.1)
