@@ -31,6 +31,7 @@ fn payload_fits(k: Channel, held: &Held, ledger: Ruled) -> bool
 }
 
 // One that is unused or has ended is as in a header of which no byte has come.
+// Stays: a channel's state is the number that a C host holds (transfer::state).
 pub fn channel_fits(k: Channel, held: &Held, ledger: Ruled) -> bool
     requires { length held.now.bytes.now ≡ 16 }
     ensures { result ≡ channel_fits (pairs_of ledger.entry.entries.now) k.state k held.now.bytes.now }

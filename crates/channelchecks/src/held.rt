@@ -2,7 +2,7 @@
 ghost use Rattle.std.specs.Prelude.{◌≡◌, true, ◌≤◌, length, drop};
 ghost use Rattle.ledger.specs.Ledger.{all_zero};
 
-// Stays: ledger's `rule::all_zero` is this fold over u64; one for both would need a trait with the laws of `|` and 0.
+// Stays: ledger asks this of u64 entries, by blocks of 64; one function of both widths would need a trait with the laws of `|` and 0 for one line.
 // Whether the bytes are all 0. It reads them all, so that the compiler can make vector code of it.
 pub fn all_zero(bytes: &[u8]) -> bool
     ensures { result ≡ all_zero bytes.now }

@@ -27,6 +27,7 @@ pub struct ChannelTotals {
 impl ChannelTotals {
     // One channel more. A used one is written at the index `payloads`, which moves on only where bytes are left: else the next used one is written
     // over it.
+    // Stays: a channel's state is the number that a C host holds (transfer::state).
     fn add(&mut self, k: Channel)
         requires { (self.old.payloads < 64) × (self.old.used < 64) × (self.old.ended < 64) }
         ensures { self.new ≡ with_channel self.old k }

@@ -7,6 +7,7 @@ ghost use Rattle.channels.specs.ChannelState.{with_state, cleared_with_fault};
 use answers::refusal::Refusal;
 
 // What a call can change of its transfer: the channel's numbers and held bytes, count and fault.
+// Stays: count, fault, on and state are numbers, 0 for none, as the transfer has them, which a C host holds (transfer::state).
 #[derive(Clone, Copy)]
 pub struct ChannelState {
     pub count: u64,

@@ -9,6 +9,7 @@ ghost use Rattle.channels.specs.NextState.{continues_or_stops};
 use crate::channel_state::ChannelState;
 
 // A channel after a whole header or a run of payload bytes, and whether the call continues.
+// Stays: a flag beside a channel that is there in both cases, so no Option and no Result.
 #[derive(Clone, Copy)]
 pub struct NextState {
     pub channel: ChannelState,
@@ -16,10 +17,11 @@ pub struct NextState {
 }
 
 // The number of the state in which bytes of a payload are to come, after which the channel ends or not.
+// Stays: a channel's state is, here and below, the number that a C host holds (transfer::state).
 fn payload_number(last: bool) -> u8
     ensures { result ≡ cond last 3 2 }
 {
-    2 + u8::from(last)
+    if last { 3 } else { 2 }
 }
 
 // left payload bytes from the place next on are to come, after which the channel ends or not; a channel's end stops the call.

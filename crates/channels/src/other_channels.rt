@@ -13,6 +13,7 @@ pub struct OtherChannels {
 }
 
 // The counts of all channels, less one in that state.
+// Stays: a channel's state is the number that a C host holds (transfer::state).
 #[tactic(auto, unfolding(crate::specs::OtherChannels::others_of))]
 pub fn counts_without(len: u64, found: FitReport, state: u8) -> OtherChannels
     ensures { result ≡ others_of len found state }

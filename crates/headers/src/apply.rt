@@ -30,7 +30,7 @@ fn faulty(x: ChannelState, c: usize, fault: Refusal) -> NextState
     }
 }
 
-// Stays: as at `claim_range`.
+// Stays: the ledgers are lent one by one: of one struct each contract would owe that its parts keep their `ghost_name`.
 // A range that a header asks for: its fault, or it is claimed, in both ledgers where it is doubtful, and its payload opened.
 fn claim_or_fault(
     x: ChannelState,

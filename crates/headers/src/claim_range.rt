@@ -9,7 +9,7 @@ use answers::refusal::Refusal;
 use claims::claim;
 
 // Stays: a struct of both ledgers, lent as `&mut`, would need a clause more here and in each caller: that its `claimed` and its `doubtful` keep
-// their `ghost_name`. What is known of the ledgers comes from the clause of `apply_header`, which the documents name.
+// their `ghost_name`. What is known of the ledgers comes from the clause of `apply_header`, which docs/PROMISES.md names.
 // A range that a header asks for is claimed, or it has a fault: 17 by the claimed ledger, then 18 by either.
 pub fn claim_range(
     start: u64,

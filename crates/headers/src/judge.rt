@@ -9,6 +9,7 @@ use eblock::{descriptor, header};
 use octets::big;
 
 // What a header asks for: a count, a range, doubtful or not, or neither.
+// Stays: no Option: to ask for nothing is one of three requests, each followed by its own step.
 #[derive(Clone, Copy, Debug, PartialEq, Eq)]
 pub enum Request {
     Counts(u64),
@@ -21,6 +22,7 @@ pub enum Request {
 }
 
 // A count, where the known one or 0 and the other channels used are given; this one is used with them.
+// Stays: a known count of 0 is none, as the transfer has it, which a C host holds (transfer::state).
 fn judge_count(known: u64, others: u64, count: u64) -> Result<Request, Refusal>
     ensures { to_header_request result ≡ cond (ltb 0 known) (faulty 14) (cond (eqb count 0 || (ltb count_limit count || ltb count (others + 1))) (faulty 15) (counts count)) }
 {

@@ -14,6 +14,7 @@ use texts::text;
 use texts::text::ByteKind;
 
 // The places from start up to end, end not counted.
+// Stays: claims has such a struct too, a private one, since its public functions take two numbers.
 #[derive(Clone, Copy, Debug, PartialEq, Eq)]
 pub struct Range {
     pub start: u64,
@@ -37,6 +38,7 @@ fn used_pairs(ledger: &[u64]) -> &[[u64; 2]]
 }
 
 // The number of bytes of the range from a up to b.
+// Stays: lengths are counted apart from the bytes, here and below: nothing may be written where not all of it has room.
 fn range_text_length(a: u64, b: u64) -> usize
     requires { 0 < b }
     ensures { (result ≡ length (range_text a b)) × (result ≤ 41) }
@@ -45,6 +47,7 @@ fn range_text_length(a: u64, b: u64) -> usize
 }
 
 // Writes the range from a up to b at a place, and answers the place after it.
+// Stays: places by hand: a line as in screen holds its bytes, and these are lent and can be more than is held.
 fn put_range(out: &mut [u8], at: usize, a: u64, b: u64) -> usize
     requires { (0 < b) × (at + length (range_text a b) ≤ length out.old) }
     ensures { WritesAt out.old at (range_text a b) result out.new }
@@ -151,6 +154,7 @@ fn read_range(text: &[u8]) -> Option<Range>
 }
 
 // Joins the range that a text says to the ledger.
+// Stays: the rule is a premise, here and below: `Ruled` lends a ledger to be read, and this one changes.
 fn join_text(text: &[u8], ledger: &mut [u64]) -> Result<(), Refusal>
     requires { obeys ledger.old ≡ true }
     ensures { Represents (merge_range (capacity ledger.old) (pairs_of ledger.old) (range_of text.now) merged) (refusal_number result) ledger.new }

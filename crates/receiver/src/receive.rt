@@ -35,6 +35,7 @@ pub struct Received {
 }
 
 // What FIT found, where the call is not refused.
+// Stays: a channel's state is the number that a C host holds (transfer::state).
 fn accept(
     t: &Transfer,
     channel: u64,
@@ -73,6 +74,7 @@ fn refused(t: Transfer, refusal: Refusal, doubtful: &[u64]) -> Received
 }
 
 // What a call that is not refused answers, on channel c, for what FIT found.
+// Stays: file and ledgers are lent one by one: of one struct each contract would owe that its parts keep their `ghost_name`.
 fn taken(
     t: Transfer,
     c: usize,
@@ -101,6 +103,7 @@ fn taken(
 
 impl Receiver {
     // Takes a piece on a channel. Refused by 1 to 4 it changes nothing; a fault is no refusal, it shows in the verdict.
+    // Stays: file and ledgers are lent one by one: of one struct each contract would owe that its parts keep their `ghost_name`.
     pub fn receive(
         self,
         channel: u64,

@@ -15,6 +15,7 @@ use verdicts::verdict;
 use verdicts::verdict::Verdict;
 
 // A count of 0 is an unknown one, and a fault of 0 is none.
+// Stays: numbers, 0 for none, as the C struct has them that is made of this, and as `shown_of` says them.
 #[derive(Clone, Copy, Debug, PartialEq, Eq)]
 pub struct Shown {
     pub verdict: Verdict,

@@ -8,6 +8,7 @@ use channels::channel_state::ChannelState;
 use transfer::state::{Channel, Transfer};
 
 // The 16 bytes that channel c can hold.
+// Stays: `c < 64` is a premise of four functions: a type for it would be made at the one call of each and taken apart in each body.
 fn bytes_at(heads: &[u8; 1024], c: usize) -> [u8; 16]
     requires { c < 64 }
     ensures { result ≡ take 16 (drop (16 * c) heads.now) }

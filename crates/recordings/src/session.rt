@@ -12,6 +12,7 @@ pub struct Progress {
     // The number of the next record, the first being 0.
     pub number: u64,
     // Whether a start has come.
+    // Stays: a flag, since a receiver is there before the first start too (`first_session`).
     pub started: bool,
 }
 
@@ -19,6 +20,7 @@ pub struct Progress {
 pub struct Session {
     pub progress: Progress,
     // How many of the held bytes are in use: those of a record that is not whole.
+    // Stays: these bytes are lent by the host, so how many are in use is kept here.
     pub held: usize,
     // Whether a record was malformed; nothing after it is read.
     pub stopped: bool,

@@ -16,6 +16,7 @@ use copies::copy;
 use headers::apply;
 
 // Holds the bytes of a piece after those of the header that are held.
+// Stays: a channel's state is the number that a C host holds (transfer::state).
 fn hold_bytes(x: ChannelState, bytes: &[u8]) -> ChannelState
     requires { x.held + length bytes.now ≤ 255 }
     ensures { x.held + length bytes.now ≤ 16 → result ≡ with_held_bytes x bytes.now }
@@ -50,6 +51,7 @@ fn room(x: ChannelState) -> usize
 }
 
 // The piece has the bytes up to the 16th, so many, and the 17th too: the header is made whole and judged.
+// Stays: the ledgers are lent one by one: of one struct each contract would owe that its parts keep their `ghost_name`.
 fn judge_run(
     x: ChannelState,
     c: usize,
@@ -73,6 +75,7 @@ fn judge_run(
 }
 
 // Bytes for a header.
+// Stays: the ledgers are lent one by one: of one struct each contract would owe that its parts keep their `ghost_name`.
 pub fn header_run(
     x: ChannelState,
     c: usize,

@@ -12,6 +12,7 @@ use channels::next_state;
 use copies::copy;
 
 // Stores the piece's bytes up to the payload's end. Where the transfer fits, the payload lies in the file and the sum does not wrap.
+// Stays: a channel's state is the number that a C host holds (transfer::state).
 pub fn payload_run(x: ChannelState, piece: &[u8], file: &mut [u8]) -> RunResult
     requires { (0 < length piece.now) × (1 < x.state) × (0 < x.left) }
     ensures { (result.taken ≡ min x.left (length piece.now)) × ((t : Transfer) (c : ℕ) (claimed doubtful : List ℕ) → HasChannel t c → fits (world (write_back t c x) file.old claimed doubtful) ≡ true → RunOf c (world (write_back t c x) file.old claimed doubtful) piece.now (world (write_back t c result.channel) file.new claimed doubtful) result.taken result.continues) }

@@ -15,6 +15,7 @@ use channels::other_channels::OtherChannels;
 use verdicts::verdict;
 
 // A channel after a run of bytes, how many they were, and whether the call continues.
+// Stays: a flag beside a channel that is there in both cases, so no Option and no Result.
 #[derive(Clone, Copy)]
 pub struct RunResult {
     pub channel: ChannelState,
@@ -23,6 +24,7 @@ pub struct RunResult {
 }
 
 // Whether the channel is unused and its first byte gives 19: the count is known, and as many channels are used.
+// Stays: a channel's state is, here and below, the number that a C host holds (transfer::state).
 fn gives_19(x: ChannelState, o: OtherChannels) -> bool
     ensures { result ≡ (x.state == 0 && count_reached x.count o.used) }
 {
@@ -30,6 +32,7 @@ fn gives_19(x: ChannelState, o: OtherChannels) -> bool
 }
 
 // Takes the bytes of the header or of the payload at hand. The last case is that of an ended channel, which takes none.
+// Stays: file and ledgers are lent one by one: of one struct each contract would owe that its parts keep their `ghost_name`.
 pub fn run(
     x: ChannelState,
     c: usize,

@@ -86,6 +86,7 @@ pub fn read_sized(bytes: &[u8], ledger: &mut [u64]) -> Result<u64, Refusal>
 // ---- writing
 
 // How many pairs are used.
+// Stays: a number, where rangelists asks for the pairs themselves; what both could share is ledger's `first_pair`, by which this goes.
 #[tactic(auto, unfolding(ledger::specs::Pairs::size, ledger::specs::Ledger::pairs_of))]
 fn used_pairs(ledger: &[u64]) -> usize
     ensures { result ≡ size (pairs_of ledger.now) }

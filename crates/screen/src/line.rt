@@ -19,6 +19,7 @@ const LONGEST: usize = 116;
 // Stays: no Display, whose clause says nothing of a write that fails (`DisplaysOnOk`), where `screen_of` says that a line which fits is written.
 #[derive(Drop)]
 struct Line {
+    // Stays: fixed memory, no heap.
     bytes: [u8; 116],
     length: usize,
 }
