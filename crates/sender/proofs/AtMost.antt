@@ -53,6 +53,12 @@ from-all most l false (k, b, h) = by (all_at_most most 0 l) refl
     by true e = absurd (omega (arith, each-at-most most 0 l e k, rw (get_or-enumerate_from 0 l k (0, 0) (omega (arith, length-enumerate_from 0 l))) at (h (0, 0))))
     by false e = refl
 
+-- the same by the share of each channel
+pub by-share : (len count size each more n : ℕ) (l : List ℕ) → each ≡ block_count len size / count → more ≡ block_count len size % count → n ≡ count
+    → all_at_most (λ c. cond (ltb c n) (each + cond (ltb c more) 1 0 + 1) 0) 0 l ≡ all_at_most (most_on len count size) 0 l
+unfolding most_on blocks_on
+by-share len count size each more n l e₁ e₂ e₃ = rw (e₁, e₂, e₃)
+
 -- what the test of a sender says
 pub tested : (s : Sender) → calls_can_give s ≡ true → (out_of_range s.count s.size ≡ false) × ((c : ℕ) → given_on s c ≤ most_on s.len s.count s.size c)
 unfolding calls_can_give

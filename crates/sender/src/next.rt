@@ -21,25 +21,25 @@ pub struct Sent {
 
 // Whether the numbers of a call are out of range, or not those of the sender.
 #[tactic(auto, unfolding(crate::specs::Sender::numbers_wrong))]
-fn numbers_wrong(s: Sender, count: u64, size: u64, len: u64) -> bool
-    ensures { result ≡ numbers_wrong s count size len }
+fn numbers_wrong(s: &Sender, count: u64, size: u64, len: u64) -> bool
+    ensures { result ≡ numbers_wrong s.now count size len }
 {
     out_of_range(count, size) || count != s.count || size != s.size || len != s.len
 }
 
 // Whether a call with this count, size and file length is not one on this sender, or no calls can give the sender. The lengths are compared before
 // blocks are counted, so that no number wraps.
-fn is_mismatched(s: Sender, count: u64, size: u64, len: u64) -> bool
+fn is_mismatched(s: &Sender, count: u64, size: u64, len: u64) -> bool
     requires { len < 2 ^ 63 }
-    ensures { (c : ℕ) (file out : List ℕ) → length file ≡ len → result ≡ is_mismatched s (next_call c count size file out) }
+    ensures { (c : ℕ) (file out : List ℕ) → length file ≡ len → result ≡ is_mismatched s.now (next_call c count size file out) }
 {
     numbers_wrong(s, count, size, len) || !Plan { len, count, size }.all_at_most(&s.given)
 }
 
 // Whether a call is one on this sender for a block that is still to come, before its lent bytes are looked at.
-fn check(s: Sender, channel: u64, count: u64, size: u64, len: u64) -> Result<(), Refusal>
+fn check(s: &Sender, channel: u64, count: u64, size: u64, len: u64) -> Result<(), Refusal>
     requires { len < 2 ^ 63 }
-    ensures { (file out : List ℕ) → length file ≡ len → refusal_number result ≡ call_refusal s (next_call channel count size file out) }
+    ensures { (file out : List ℕ) → length file ≡ len → refusal_number result ≡ call_refusal s.now (next_call channel count size file out) }
 {
     if is_mismatched(s, count, size, len) {
         return Err(Refusal::SenderArguments);
@@ -69,14 +69,14 @@ fn write(o: Outline, file: &[u8], out: &mut [u8])
 
 // Writes the next block of the channel to the front of out, and answers how many bytes these are.
 fn write_next(
-    sender: Sender,
+    sender: &Sender,
     channel: u64,
     count: u64,
     size: u64,
     file: &[u8],
     out: &mut [u8],
 ) -> Result<usize, Refusal>
-    ensures { let k = next_call channel count size file.now out.old in (numbered result ≡ next_of sender k) × (out.new ≡ next_after sender k) }
+    ensures { let k = next_call channel count size file.now out.old in (numbered result ≡ next_of sender.now k) × (out.new ≡ next_after sender.now k) }
 {
     let len = file.len() as u64;
     check(sender, channel, count, size, len)?;
@@ -113,7 +113,7 @@ pub fn next(
 ) -> Sent
     ensures { let k = next_call channel count size file.now out.old in (numbered result.answer ≡ next_of sender k) × (result.sender ≡ sender_after sender k) × (out.new ≡ next_after sender k) }
 {
-    let answer = write_next(sender, channel, count, size, file, out);
+    let answer = write_next(&sender, channel, count, size, file, out);
     let sender = match answer {
         Ok(_) => moved_on(sender, channel as usize),
         Err(_) => sender,

@@ -27,6 +27,30 @@ pub struct Plan {
     ghost fits: { (len < 2 ^ 63) × (0 < count) × (count ≤ 64) × (0 < size) },
 }
 
+// How the blocks of a file are dealt out: each channel has so many, and those below `more` one besides.
+#[derive(Clone, Copy, Debug, PartialEq, Eq)]
+struct Share {
+    each: u64,
+    more: u64,
+    count: u64,
+    ghost few: { each < 2 ^ 63 },
+}
+
+impl Share {
+    // The most that channel c can be given, its ending counted.
+    fn most_on(self, c: u64) -> u64
+        ensures { result ≡ cond (ltb c self.count) (self.each + cond (ltb c self.more) 1 0 + 1) 0 }
+    {
+        if self.count <= c {
+            0
+        } else if c < self.more {
+            self.each + 2
+        } else {
+            self.each + 1
+        }
+    }
+}
+
 impl Plan {
     // How many blocks with bytes the file has.
     #[tactic(auto, using(crate::proofs::BlockNumbers::rounded_up))]
@@ -36,31 +60,35 @@ impl Plan {
         self.len.div_ceil(self.size)
     }
 
+    #[tactic(auto, using(crate::proofs::BlockNumbers::share_most))]
+    fn share(self) -> Share
+        ensures { (result.each ≡ block_count self.len self.size / self.count) × (result.more ≡ block_count self.len self.size % self.count) × (result.count ≡ self.count) }
+    {
+        let blocks = self.block_count();
+        Share {
+            each: blocks / self.count,
+            more: blocks % self.count,
+            count: self.count,
+        }
+    }
+
     // The most that channel c can be given, its ending counted.
-    #[tactic(auto, using(crate::proofs::BlockNumbers::share_most), unfolding(crate::specs::Sender::most_on, crate::specs::Blocks::blocks_on))]
+    #[tactic(auto, unfolding(crate::specs::Sender::most_on, crate::specs::Blocks::blocks_on))]
     pub fn most_on(self, c: u64) -> u64
         ensures { result ≡ most_on self.len self.count self.size c }
     {
-        let blocks = self.block_count();
-        let each = blocks / self.count;
-        let more = blocks % self.count;
-        if self.count <= c {
-            0
-        } else if c < more {
-            each + 2
-        } else {
-            each + 1
-        }
+        self.share().most_on(c)
     }
 
     // Whether no channel has been given more.
     pub fn all_at_most(self, given: &[u64]) -> bool
         ensures { result ≡ all_at_most (most_on self.len self.count self.size) 0 given.now }
     {
+        let share = self.share();
         given
             .iter()
             .enumerate()
-            .all(|(c, n)| *n <= self.most_on(c as u64))
+            .all(|(c, n)| *n <= share.most_on(c as u64))
     }
 
     // Block k of the file.

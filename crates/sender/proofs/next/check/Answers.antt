@@ -28,39 +28,36 @@ most-for len count size channel m file h e l = rw l (e ∙ most-below len count 
 pub returns-then-is_mismatched : goal.returns-then-is_mismatched
 returns-then-is_mismatched c =
     let x = c.args in
-    λ file out e. sym (refused-71 x.s (next_call x.channel x.count x.size file out) (sym (c.is_mismatched.ensures x.channel file out e) ∙ c.if-is_mismatched.true))
+    λ file out e. sym (refused-71 x.s.now (next_call x.channel x.count x.size file out) (sym (c.is_mismatched.ensures x.channel file out e) ∙ c.if-is_mismatched.true))
 
 pub returns-then-count-channel : goal.returns-then-count-channel
 returns-then-count-channel c =
     let x = c.args in
-    let o = matches x.s x.channel x.count x.size x.len c.is_mismatched.result c.is_mismatched.ensures c.if-is_mismatched.false in
-    λ file out e. sym (refused-73 x.s _ (o file out e) c.if-count-channel.true)
+    let o = matches x.s.now x.channel x.count x.size x.len c.is_mismatched.result c.is_mismatched.ensures c.if-is_mismatched.false in
+    λ file out e. sym (refused-73 x.s.now _ (o file out e) c.if-count-channel.true)
 
 pub invariant_of-plan : goal.invariant_of-plan
 invariant_of-plan c =
     let x = c.args in
-    let r = ranges x.s x.channel x.count x.size x.len c.is_mismatched.result c.is_mismatched.ensures c.if-is_mismatched.false in
+    let r = ranges x.s.now x.channel x.count x.size x.len c.is_mismatched.result c.is_mismatched.ensures c.if-is_mismatched.false in
     record { fits = omega (arith, r) }
 
 pub bounds-s-channel : goal.bounds-s-channel
 bounds-s-channel c =
     let x = c.args in
-    let r = ranges x.s x.channel x.count x.size x.len c.is_mismatched.result c.is_mismatched.ensures c.if-is_mismatched.false in
+    let r = ranges x.s.now x.channel x.count x.size x.len c.is_mismatched.result c.is_mismatched.ensures c.if-is_mismatched.false in
     omega (arith, r)
-
-pub offset_bounds-s-channel : goal.offset_bounds-s-channel
-offset_bounds-s-channel c = omega (arith, bounds-s-channel c)
 
 pub returns-then-most_on-s : goal.returns-then-most_on-s
 returns-then-most_on-s c =
     let x = c.args in
     let h = c.if-count-channel.false in
-    let o = matches x.s x.channel x.count x.size x.len c.is_mismatched.result c.is_mismatched.ensures c.if-is_mismatched.false in
-    λ file out e. sym (refused-74 x.s _ (o file out e) h (omega (arith, c.if-most_on-s.true, most-for x.len x.count x.size x.channel c.most_on.result file h c.most_on.ensures e)))
+    let o = matches x.s.now x.channel x.count x.size x.len c.is_mismatched.result c.is_mismatched.ensures c.if-is_mismatched.false in
+    λ file out e. sym (refused-74 x.s.now _ (o file out e) h (omega (arith, c.if-most_on-s.true, most-for x.len x.count x.size x.channel c.most_on.result file h c.most_on.ensures e)))
 
 pub returns : goal.returns
 returns c =
     let x = c.args in
     let h = c.if-count-channel.false in
-    let o = matches x.s x.channel x.count x.size x.len c.is_mismatched.result c.is_mismatched.ensures c.if-is_mismatched.false in
-    λ file out e. sym (not-refused x.s _ (o file out e) h (omega (arith, c.if-most_on-s.false, most-for x.len x.count x.size x.channel c.most_on.result file h c.most_on.ensures e)))
+    let o = matches x.s.now x.channel x.count x.size x.len c.is_mismatched.result c.is_mismatched.ensures c.if-is_mismatched.false in
+    λ file out e. sym (not-refused x.s.now _ (o file out e) h (omega (arith, c.if-most_on-s.false, most-for x.len x.count x.size x.channel c.most_on.result file h c.most_on.ensures e)))

@@ -12,17 +12,17 @@ pub returns-then-numbers_wrong : goal.returns-then-numbers_wrong
 returns-then-numbers_wrong c =
     let x = c.args in
     λ n file out l.
-    c.if-numbers_wrong.true ∙ sym (wrong-numbers x.s (next_call n x.count x.size file out) (rw l (sym c.numbers_wrong.ensures ∙ c.if-numbers_wrong.true)))
+    c.if-numbers_wrong.true ∙ sym (wrong-numbers x.s.now (next_call n x.count x.size file out) (rw l (sym c.numbers_wrong.ensures ∙ c.if-numbers_wrong.true)))
 
 pub invariant_of-all_at_most : goal.invariant_of-all_at_most
 invariant_of-all_at_most c =
     let x = c.args in
-    let e : numbers_wrong x.s x.count x.size x.len ≡ false = sym c.numbers_wrong.ensures ∙ c.if-numbers_wrong.false in
-    let r = right-range x.s (next_call 0 x.count x.size (replicate x.len 0) []) (rw length-replicate e) in
+    let e : numbers_wrong x.s.now x.count x.size x.len ≡ false = sym c.numbers_wrong.ensures ∙ c.if-numbers_wrong.false in
+    let r = right-range x.s.now (next_call 0 x.count x.size (replicate x.len 0) []) (rw length-replicate e) in
     record { fits = omega (arith, r) }
 
 pub returns-else-numbers_wrong : goal.returns-else-numbers_wrong
 returns-else-numbers_wrong c =
     let x = c.args in
     λ n file out l.
-    ap not (c.all_at_most.ensures) ∙ sym (rw l at (by-given x.s (next_call n x.count x.size file out) (rw l (sym c.numbers_wrong.ensures ∙ c.if-numbers_wrong.false))))
+    ap not (c.all_at_most.ensures) ∙ sym (rw l at (by-given x.s.now (next_call n x.count x.size file out) (rw l (sym c.numbers_wrong.ensures ∙ c.if-numbers_wrong.false))))

@@ -22,22 +22,25 @@ returns-in_err-check c = let x = c.args in grind (arith, common_steps, c.check.e
 pub bounds-sender-channel : goal.bounds-sender-channel
 bounds-sender-channel c =
     let x = c.args in
-    let a = accepts x.sender (next_call x.channel x.count x.size x.file.now x.out.now) (passed _ _ _ (c.check.ensures x.file.now x.out.now refl) c.in_ok-check.was) in
+    let a = accepts x.sender.now (next_call x.channel x.count x.size x.file.now x.out.now) (passed _ _ _ (c.check.ensures x.file.now x.out.now refl) c.in_ok-check.was) in
     omega (arith, a.channel, a.count)
 
 pub offset_bounds-sender-channel : goal.offset_bounds-sender-channel
-offset_bounds-sender-channel c = omega (arith, bounds-sender-channel c)
+offset_bounds-sender-channel c =
+    let x = c.args in
+    let a = accepts x.sender.now (next_call x.channel x.count x.size x.file.now x.out.now) (passed _ _ _ (c.check.ensures x.file.now x.out.now refl) c.in_ok-check.was) in
+    omega (arith, a.channel, a.count)
 
 pub invariant_of-plan : goal.invariant_of-plan
 invariant_of-plan c =
     let x = c.args in
-    let a = accepts x.sender (next_call x.channel x.count x.size x.file.now x.out.now) (passed _ _ _ (c.check.ensures x.file.now x.out.now refl) c.in_ok-check.was) in
+    let a = accepts x.sender.now (next_call x.channel x.count x.size x.file.now x.out.now) (passed _ _ _ (c.check.ensures x.file.now x.out.now refl) c.in_ok-check.was) in
     record { fits = omega (arith, a.channel, a.count, a.size) }
 
 pub next_outline-o-requires : goal.next_outline-o-requires
 next_outline-o-requires c =
     let x = c.args in
-    let a = accepts x.sender (next_call x.channel x.count x.size x.file.now x.out.now) (passed _ _ _ (c.check.ensures x.file.now x.out.now refl) c.in_ok-check.was) in
+    let a = accepts x.sender.now (next_call x.channel x.count x.size x.file.now x.out.now) (passed _ _ _ (c.check.ensures x.file.now x.out.now refl) c.in_ok-check.was) in
     (a.channel, a.more)
 
 pub returns-then-out-n : goal.returns-then-out-n
@@ -45,9 +48,9 @@ returns-then-out-n c =
     let x = c.args in
     let k = next_call x.channel x.count x.size x.file.now x.out.now in
     let o = c.next_outline-o.result in
-    let z : call_refusal x.sender k ≡ 0 = passed _ _ _ (c.check.ensures x.file.now x.out.now refl) c.in_ok-check.was in
-    let e = length-outlined x.sender k o.third o.length (c.next_outline-o.ensures.2 x.file.now refl).1 c.next_outline-o.ensures.1 in
-    let r = refuses x.sender k 55 (number-55 x.sender k z (omega (arith, e, c.if-out-n.true))) (omega arith) in
+    let z : call_refusal x.sender.now k ≡ 0 = passed _ _ _ (c.check.ensures x.file.now x.out.now refl) c.in_ok-check.was in
+    let e = length-outlined x.sender.now k o.third o.length (c.next_outline-o.ensures.2 x.file.now refl).1 c.next_outline-o.ensures.1 in
+    let r = refuses x.sender.now k 55 (number-55 x.sender.now k z (omega (arith, e, c.if-out-n.true))) (omega arith) in
     (r.0, r.2)
 
 pub returns : goal.returns
@@ -55,8 +58,8 @@ returns c =
     let x = c.args in
     let k = next_call x.channel x.count x.size x.file.now x.out.now in
     let o = c.next_outline-o.result in
-    let z : call_refusal x.sender k ≡ 0 = passed _ _ _ (c.check.ensures x.file.now x.out.now refl) c.in_ok-check.was in
+    let z : call_refusal x.sender.now k ≡ 0 = passed _ _ _ (c.check.ensures x.file.now x.out.now refl) c.in_ok-check.was in
     let y = c.next_outline-o.ensures.2 x.file.now refl in
-    let e = length-outlined x.sender k o.third o.length y.1 c.next_outline-o.ensures.1 in
-    let r = writes x.sender k (number_0 x.sender k z (omega (arith, e, c.if-out-n.false))) in
-    (ap {B = Result ℕ ℕ} Ok e ∙ r.0, c.write.ensures ∙ outlined x.sender k _ o.third o.length y.0 y.1 e ∙ r.2)
+    let e = length-outlined x.sender.now k o.third o.length y.1 c.next_outline-o.ensures.1 in
+    let r = writes x.sender.now k (number_0 x.sender.now k z (omega (arith, e, c.if-out-n.false))) in
+    (ap {B = Result ℕ ℕ} Ok e ∙ r.0, c.write.ensures ∙ outlined x.sender.now k _ o.third o.length y.0 y.1 e ∙ r.2)
