@@ -37,6 +37,7 @@ fn has_malformed(text: &[u8]) -> bool
     requires { length text.now ≤ 2041 }
     ensures { result ≡ has_malformed text.now }
 {
+    // Stays: fixed memory, no heap.
     let mut ledger = [0; ENTRIES];
     ranges::read(text, &mut ledger).is_err()
 }

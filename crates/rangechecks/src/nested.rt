@@ -22,6 +22,7 @@ fn reaching(ledger: &[u64], place: u64) -> &[u64]
 }
 
 // Whether each pair of the inner ledger lies inside a pair of the outer one. For ledgers that break the rule the answer is left open.
+// Stays: that both obey the rule is a premise and no type, since docs/DECISIONS.md names this function, which answers for any ledgers.
 pub fn all_inside(inner: &[u64], outer: &[u64]) -> bool
     ensures { obeys inner.now ≡ true → obeys outer.now ≡ true → result ≡ all_inside (pairs_of inner.now) (pairs_of outer.now) }
 {

@@ -15,6 +15,7 @@ pub struct Started {
     pub answer: Result<(), Refusal>,
 }
 
+// Stays: arrays of fixed length, as the transfer has them, which a C host holds (transfer::state).
 #[tactic(auto, unfolding(transfer::specs::Transfer::fresh))]
 fn fresh(len: u64, pairs: u64) -> Transfer
     ensures { result ≡ fresh len pairs }

@@ -26,6 +26,7 @@ pub struct Turned {
 }
 
 // The screen line of a transfer and ledgers that fit.
+// Stays: the ledgers are lent one by one, as a screen line's writer takes them.
 fn put_screen(receiver: Receiver, claimed: &[u64], doubtful: &[u64], out: &mut [u8]) -> usize
     requires { (fits_without_file receiver.transfer claimed.now doubtful.now ≡ true) × (80 ≤ length out.old) }
     ensures { (length (line_for receiver.transfer claimed.now doubtful.now) ≤ 80) × WritesFront (line_for receiver.transfer claimed.now doubtful.now) out.old result out.new }
@@ -34,6 +35,7 @@ fn put_screen(receiver: Receiver, claimed: &[u64], doubtful: &[u64], out: &mut [
 }
 
 // After a piece that was not refused: how many of its bytes remain, where any does, then the screen line.
+// Stays: the ledgers are lent one by one, as a screen line's writer takes them.
 fn put_taken(
     receiver: Receiver,
     left: usize,

@@ -38,6 +38,7 @@ fn hold_bytes(x: ChannelState, bytes: &[u8]) -> ChannelState
 fn whole_header(x: ChannelState, last: u8) -> [u8; 17]
     ensures { result ≡ x.bytes ++ last ∷ [] }
 {
+    // Stays: fixed memory, no heap.
     let mut head = [last; 17];
     head[..HELD_LIMIT].copy_from_slice(&x.bytes);
     head

@@ -3,6 +3,7 @@ ghost use Rattle.std.specs.Prelude.{◌≡◌};
 ghost use Rattle.savedrecords.specs.Kind.{head_length};
 
 // What the second number of a pair is, after its start.
+// Stays: an enum and no closure, since the definitions speak of both (`end_of`, `second_of`).
 #[derive(Clone, Copy, Debug, PartialEq, Eq)]
 pub enum SecondNumber {
     End,

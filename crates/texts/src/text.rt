@@ -2,6 +2,7 @@
 ghost use Rattle.std.specs.Prelude.{◌≡◌};
 ghost use Rattle.texts.specs.Text.{is_of_kind, leading_count};
 
+// Stays: an enum and no closure, since the definitions speak of each kind (`is_of_kind`), and callers' laws do too.
 #[derive(Clone, Copy, Debug, PartialEq, Eq)]
 pub enum ByteKind {
     Digit,
