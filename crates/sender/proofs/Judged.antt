@@ -1,11 +1,10 @@
 -- What 71, 73 and 74 ask, as the rows of the table say it.
 use Prim.Native.Nat.{ℕ, ◌+◌, ◌≤◌, ◌<◌}
-use mathlib.Core.Path.{◌≡◌, refl, sym}
+use mathlib.Core.Path.{◌≡◌, refl}
 use mathlib.Core.Logic.{◌≢◌}
-use mathlib.Core.Bool.{Bool, true, false, ◌||◌, not, or-true, true≢false}
+use mathlib.Core.Bool.{Bool, true, false, not, or-true}
 use native.Mathlib.Omega.{arith}
 use native.Mathlib.Decide.{dec_lt, dec_le}
-use lib.Dec.{eqb}
 use lib.ListN.{length}
 use borrow.Author.Tests.{le-leb, lt-leb, eq-eqb, ne_eqb, eqb-true, not-false}
 use Rattle.std.proofs.lemmas.Bool.{or_parts}
@@ -24,22 +23,22 @@ module _ (s : Sender) (k : NextCall) where
   -- ---- 71: any one of its tests
 
   pub wrong-when : out_of_range k.count k.size ≡ true → is_mismatched s k ≡ true
-  unfolding is_mismatched
+  unfolding numbers_wrong is_mismatched
   wrong-when e = rw e
 
   pub wrong-range : Outside k.count k.size → is_mismatched s k ≡ true
   wrong-range h = wrong-when (outside-is k.count k.size h)
 
   pub wrong-count : k.count ≢ s.count → is_mismatched s k ≡ true
-  unfolding is_mismatched
+  unfolding numbers_wrong is_mismatched
   wrong-count n = simp (ne_eqb k.count s.count n, or-true)
 
   pub wrong_size : k.size ≢ s.size → is_mismatched s k ≡ true
-  unfolding is_mismatched
+  unfolding numbers_wrong is_mismatched
   wrong_size n = simp (ne_eqb k.size s.size n, or-true)
 
   pub wrong-file : length k.file ≢ s.len → is_mismatched s k ≡ true
-  unfolding is_mismatched
+  unfolding numbers_wrong is_mismatched
   wrong-file n = simp (ne_eqb (length k.file) s.len n, or-true)
 
   pub wrong-given : calls_can_give s ≡ false → is_mismatched s k ≡ true
@@ -47,15 +46,8 @@ module _ (s : Sender) (k : NextCall) where
   wrong-given e = simp (e, or-true)
 
   pub wrong-numbers : numbers_wrong s k.count k.size (length k.file) ≡ true → is_mismatched s k ≡ true
-  unfolding numbers_wrong is_mismatched
-  wrong-numbers e = more (out_of_range k.count k.size) (not (eqb k.count s.count)) (not (eqb k.size s.size)) (not (eqb (length k.file) s.len)) (not (calls_can_give s)) e
-    where
-      more : (a b c d e : Bool) → (a || (b || (c || d))) ≡ true → (a || (b || (c || (d || e)))) ≡ true
-      more true b c d e h = refl
-      more false true c d e h = refl
-      more false false true d e h = refl
-      more false false false true e h = refl
-      more false false false false e h = absurd (true≢false (sym h))
+  unfolding is_mismatched
+  wrong-numbers e = rw e
 
   -- where they are right it is left to those given
   pub right-range : numbers_wrong s k.count k.size (length k.file) ≡ false → InRange k.count k.size
@@ -76,22 +68,22 @@ module _ (s : Sender) (k : NextCall) where
 
   -- none of them
   pub none-wrong : Matches s k → is_mismatched s k ≡ false
-  unfolding is_mismatched
+  unfolding numbers_wrong is_mismatched
   none-wrong o = simp (within-range k.count k.size o.range, eq-eqb k.count s.count o.count, eq-eqb k.size s.size o.size, eq-eqb (length k.file) s.len o.file, o.given)
 
   pub matching : is_mismatched s k ≡ false → Matches s k
-  unfolding is_mismatched
+  unfolding numbers_wrong is_mismatched
   matching e =
-      let a = or_parts _ _ e in
+      let all = or_parts _ _ e in
+      let a = or_parts _ _ all.0 in
       let b = or_parts _ _ a.1 in
       let c = or_parts _ _ b.1 in
-      let d = or_parts _ _ c.1 in
       record {
         range = range-of k.count k.size a.0;
         count = eqb-true k.count s.count (not-false _ b.0);
         size = eqb-true k.size s.size (not-false _ c.0);
-        file = eqb-true (length k.file) s.len (not-false _ d.0);
-        given = not-false _ d.1;
+        file = eqb-true (length k.file) s.len (not-false _ c.1);
+        given = not-false _ all.1;
       }
 
   -- ---- 74: the channel's blocks and its ending are given

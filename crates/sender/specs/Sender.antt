@@ -66,9 +66,7 @@ numbers_wrong s count size len = out_of_range count size || (not (eqb count s.co
 
 -- what 71 asks: numbers out of range, numbers or a file length that are not the sender's, or a sender that the test above refuses
 unfoldable pub is_mismatched : Sender → NextCall → Bool
-is_mismatched s k =
-    out_of_range k.count k.size
-    || (not (eqb k.count s.count) || (not (eqb k.size s.size) || (not (eqb (length k.file) s.len) || not (calls_can_give s))))
+is_mismatched s k = numbers_wrong s k.count k.size (length k.file) || not (calls_can_give s)
 
 -- the channel's ending is sent
 unfoldable pub ending_sent : Sender → ℕ → Bool

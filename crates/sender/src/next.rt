@@ -20,6 +20,7 @@ pub struct Sent {
 }
 
 // Whether the numbers of a call are out of range, or not those of the sender.
+// Stays: count, size and len apart, here and below, since the `fits` of a Plan holds only once they are found right.
 #[tactic(auto, unfolding(crate::specs::Sender::numbers_wrong))]
 fn numbers_wrong(s: &Sender, count: u64, size: u64, len: u64) -> bool
     ensures { result ≡ numbers_wrong s.now count size len }
@@ -59,7 +60,7 @@ fn write(o: Outline, file: &[u8], out: &mut [u8])
     requires { (refusal_of o.descriptor o.third ≡ 0) × (0 < o.length → o.third + o.length ≤ length file.now) × (17 + o.length ≤ length out.old) }
     ensures { out.new ≡ header_bytes o.descriptor (second_field o.descriptor o.length) o.third ++ (take o.length (drop o.third file.now) ++ drop (17 + o.length) out.old) }
 {
-    let _ = header::write(o.descriptor, o.length, o.third, out);
+    header::write(o.descriptor, o.length, o.third, out).unwrap();
     if o.length == 0 {
         return;
     }

@@ -5,6 +5,7 @@ pub const CHANNELS: usize = 64;
 
 pub const SIZE_LIMIT: u64 = 65536;
 
+// Stays: a C host holds it by value, so its numbers stand in an array of fixed length.
 #[repr(C)]
 #[derive(Clone, Copy)]
 pub struct Sender {

@@ -1,11 +1,24 @@
 -- `next::write`.
 use Prim.Native.Nat.{◌+◌, ◌-◌, ◌≤◌}
-use mathlib.Core.Path.{◌≡◌, ◌∙◌}
+use mathlib.Core.Path.{◌≡◌, sym, ◌∙◌}
+use mathlib.Core.List.{[]}
 use native.Mathlib.Omega.{arith}
 use lib.ListN.{length, take, drop, length-drop}
 use lib.Seq.{take_all}
+use Rattle.answers.proofs.WrittenBy.{written}
+use Rattle.eblock.specs.Header.{write_of}
+use Rattle.eblock.proofs.HeaderAnswers.{number_0}
 use Rattle.sender.proofs.BlockStores.{header-stored, block-stored}
 use Rattle.sender.proofs.next.write.Goals as goal
+
+-- there is room for the header, and its descriptor and third field are right
+pub unwrap-requires : goal.unwrap-requires
+unfolding write_of
+unwrap-requires c =
+    let o = c.args.o in
+    let out = c.args.out.now in
+    let e = c.write.ensures.0 ∙ sym (written _ 17 [] out (number_0 o.descriptor o.third out (omega arith) (omega arith))).0 in
+    grind (arith, e)
 
 pub returns-then-o-eq0 : goal.returns-then-o-eq0
 returns-then-o-eq0 c =
