@@ -1,102 +1,58 @@
 // Replays a recording (document 02, Item 4): chunks of it from standard input, the printed lines to standard output.
 #![tactic(auto)]
 
-ghost use Rattle.std.specs.Counts.{IsPrefixLen};
 ghost use Rattle.std.specs.Prelude.{◌≡◌, length};
 
-use answers::written::Written;
+use answers::refusal::Refusal;
 use recordings::session::Session;
 use recordings::{feed, finish, session};
 use std::io::Read;
 
 // More reads than any night has; a proved loop has to end.
-const READS: u64 = 18446744073709551615;
+const READS: u64 = u64::MAX;
 
-// The session as a chunk left it, whether more is to be read, and whether all lines so far could be written.
-#[derive(Clone, Copy)]
-struct Turn {
+// The session, and what its calls are lent.
+#[derive(Drop)]
+struct Replay<'a> {
     session: Session,
-    goes_on: bool,
-    printed: bool,
+    held: &'a mut [u8; 16391],
+    file: &'a mut [u8; 32768],
+    claimed: &'a mut [u64; 512],
+    doubtful: &'a mut [u64; 512],
+    out: &'a mut [u8],
 }
 
-// Whether all of it could be written.
-fn print(rt: &impl Print, answer: Written, out: &[u8]) -> bool {
-    match answer {
-        Written::Bytes(n) => {
-            if out.len() < n {
-                return false;
+// Writes the lines at the front of the bytes; nothing is answered where not all of them could be written.
+fn print(rt: &impl Print, answer: Result<usize, Refusal>, out: &[u8]) -> Option<()> {
+    let lines = out.get(..answer.ok()?)?;
+    rt.write_all(lines).ok()
+}
+
+impl Replay<'_> {
+    // Feeds the library what each read puts at the front of the chunk, until the input ends, a read fails, a record is malformed or a line cannot
+    // be written.
+    fn run(&mut self, rt: &impl Print, input: &mut impl Read, chunk: &mut [u8]) -> Option<()> {
+        for _ in 0..READS {
+            let n = input.read(chunk).unwrap_or(0);
+            if n == 0 {
+                break;
             }
-            rt.write_all(&out[..n]).is_ok()
+            let fed = feed::feed(
+                self.session,
+                &chunk[..n],
+                self.held,
+                self.file,
+                self.claimed,
+                self.doubtful,
+                self.out,
+            );
+            self.session = fed.session;
+            print(rt, fed.answer, self.out)?;
+            if self.session.stopped {
+                break;
+            }
         }
-        Written::Refused(_) => false,
-    }
-}
-
-// What one read puts at the front of the chunk: nothing at the end of the input, and nothing where the read fails.
-fn read_some(input: &mut impl Read, chunk: &mut [u8]) -> usize
-    ensures { IsPrefixLen result chunk.new }
-{
-    match input.read(chunk) {
-        Ok(n) => n,
-        Err(_) => 0,
-    }
-}
-
-fn one_chunk(
-    rt: &impl Print,
-    input: &mut impl Read,
-    s: Session,
-    chunk: &mut [u8],
-    held: &mut [u8; 16391],
-    file: &mut [u8; 32768],
-    claimed: &mut [u64; 512],
-    doubtful: &mut [u64; 512],
-    out: &mut [u8],
-) -> Turn {
-    let n = read_some(input, chunk);
-    if n == 0 {
-        return Turn {
-            session: s,
-            goes_on: false,
-            printed: true,
-        };
-    }
-    let fed = feed::feed(s, &chunk[..n], held, file, claimed, doubtful, out);
-    let next = fed.session;
-    let answer = fed.answer;
-    let printed = print(rt, answer, out);
-    Turn {
-        session: next,
-        goes_on: printed && !next.stopped,
-        printed: printed,
-    }
-}
-
-fn run(
-    rt: &impl Print,
-    input: &mut impl Read,
-    chunk: &mut [u8],
-    held: &mut [u8; 16391],
-    file: &mut [u8; 32768],
-    claimed: &mut [u64; 512],
-    doubtful: &mut [u64; 512],
-    out: &mut [u8],
-) -> Turn {
-    let mut s = session::begin();
-    let mut reads: u64 = 0;
-    while reads < READS {
-        let turn = one_chunk(rt, input, s, chunk, held, file, claimed, doubtful, out);
-        if !turn.goes_on {
-            return turn;
-        }
-        s = turn.session;
-        reads += 1;
-    }
-    Turn {
-        session: s,
-        goes_on: false,
-        printed: true,
+        print(rt, finish::finish(self.session, self.out), self.out)
     }
 }
 
@@ -117,23 +73,13 @@ fn line_space() -> [u8; 1048768]
 fn main(rt: HostRuntime) {
     let mut input = rt.stdin();
     let mut chunk = chunk_space();
-    let mut held = [0u8; 16391];
-    let mut file = [0u8; 32768];
-    let mut claimed = [0u64; 512];
-    let mut doubtful = [0u64; 512];
-    let mut out = line_space();
-    let last = run(
-        &rt,
-        &mut input,
-        &mut chunk,
-        &mut held,
-        &mut file,
-        &mut claimed,
-        &mut doubtful,
-        &mut out,
-    );
-    if last.printed {
-        let s = last.session;
-        print(&rt, finish::finish(s, &mut out), &out);
-    }
+    let mut replay = Replay {
+        session: session::begin(),
+        held: &mut [0; 16391],
+        file: &mut [0; 32768],
+        claimed: &mut [0; 512],
+        doubtful: &mut [0; 512],
+        out: &mut line_space(),
+    };
+    let _ = replay.run(&rt, &mut input, &mut chunk);
 }
