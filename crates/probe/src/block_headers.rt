@@ -1,56 +1,34 @@
 // Kinds 32 and 33: the block header.
-use crate::{fill, part, print};
-use answers::written::Written;
+use crate::body::{Body, Malformed};
+use crate::part::{BYTE, front};
+use crate::print::{Counted, Hex, say};
 use eblock::header;
 use eblock::header::Header;
-use octets::little;
 
-fn print_values(rt: &impl Print, text: &[u8], descriptor: u8, n: u64) {
-    print::word(rt, text);
-    print::byte(rt, descriptor);
-    print::next(rt, n);
-}
-
-fn print_data(rt: &impl Print, descriptor: u8, length: u64, offset: u64) {
-    print_values(rt, b"DATA ", descriptor, length);
-    print::next(rt, offset);
-}
-
-pub fn read(rt: &impl Print, bytes: &[u8]) {
-    let answer = header::read(bytes);
-    match answer {
-        Header::Data {
-            descriptor,
-            length,
-            offset,
-        } => print_data(rt, descriptor, length, offset),
-        Header::Eodc { descriptor, count } => print_values(rt, b"EODC ", descriptor, count),
-        Header::Refused(k) => print::refused(rt, k),
+pub fn read(rt: &impl Print, body: Body) -> Result<(), Malformed> {
+    match header::read(body.rest()) {
+        Ok(
+            Header::Data {
+                descriptor,
+                length,
+                offset,
+            },
+        ) => say!(rt; "DATA {descriptor} {length} {offset}"),
+        Ok(Header::Eodc { descriptor, count }) => say!(rt; "EODC {descriptor} {count}"),
+        Err(refusal) => say!(rt; "REFUSED {refusal}"),
     }
-    print::end(rt);
+    Ok(())
 }
 
-fn write_into(rt: &impl Print, descriptor: u8, length: u64, third: u64, out: &mut [u8]) {
+pub fn write(rt: &impl Print, mut body: Body) -> Result<(), Malformed> {
+    let descriptor = body.u8()?;
+    let length = body.u64()?;
+    let third = body.u64()?;
+    let lent = body.u8()?;
+    body.end()?;
+    let mut space = [BYTE; 255];
+    let out = front(&mut space, u64::from(lent))?;
     let answer = header::write(descriptor, length, third, out);
-    match answer {
-        Written::Bytes(n) => print::counted(rt, b"WROTE ", n),
-        Written::Refused(k) => print::refused(rt, k),
-    }
-    print::last_bytes(rt, out);
-}
-
-fn write_lent(rt: &impl Print, descriptor: u8, length: u64, third: u64, lent: u8) {
-    let mut space = [fill::BYTE; 255];
-    let n = part::of_bytes(lent as u64, &space);
-    write_into(rt, descriptor, length, third, &mut space[..n]);
-}
-
-pub fn write(rt: &impl Print, body: &[u8]) -> bool {
-    if body.len() != 18 {
-        return false;
-    }
-    let length = little::read(&body[1..]);
-    let third = little::read(&body[9..]);
-    write_lent(rt, body[0], length, third, body[17]);
-    true
+    say!(rt; "{} {}", Counted("WROTE", answer), Hex(out));
+    Ok(())
 }

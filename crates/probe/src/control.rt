@@ -1,72 +1,42 @@
 // Kinds 34 to 36: the control channel.
-use crate::{fill, frame, part, print};
+use crate::body::{Body, Malformed};
+use crate::part::{ENTRY, front};
+use crate::print::{Counted, Hex, Numbers, Said, say};
 use commands::line;
-use commands::line::Line;
 use hostlists::list;
-use hostlists::list::Hosts;
 use replies::reply;
 use replies::reply::Class;
 
-pub fn command(rt: &impl Print, text: &[u8]) {
-    let answer = line::read(text);
-    match answer {
-        Line::Command {
-            verb,
-            from: _,
-            to: _,
-        } => {
-            print::word(rt, b"VERB ");
-            print::byte(rt, verb);
-            print::last_bytes(rt, line::argument(text));
-        }
-        Line::Refused(k) => {
-            print::refused(rt, k);
-            print::end(rt);
-        }
+pub fn command(rt: &impl Print, body: Body) -> Result<(), Malformed> {
+    let text = body.rest();
+    match line::read(text) {
+        Ok(command) => say!(rt; "VERB {} {}", u8::from(command.verb), Hex(line::argument(text))),
+        Err(refusal) => say!(rt; "REFUSED {refusal}"),
     }
+    Ok(())
 }
 
-fn print_class(rt: &impl Print, digit: u8) {
-    print::word(rt, b"CLASS ");
-    print::byte(rt, digit);
-}
-
-pub fn reply(rt: &impl Print, body: &[u8]) -> bool {
-    if body.len() != 2 {
-        return false;
-    }
-    let class = reply::class_of(frame::two(body[0], body[1]));
+fn word(class: Class) -> &'static str {
     match class {
-        Class::Preliminary => print_class(rt, 1),
-        Class::Completion => print_class(rt, 2),
-        Class::Intermediate => print_class(rt, 3),
-        Class::Transient => print_class(rt, 4),
-        Class::Permanent => print_class(rt, 5),
-        Class::Refused(k) => print::refused(rt, k),
+        Class::Preliminary => "CLASS 1",
+        Class::Completion => "CLASS 2",
+        Class::Intermediate => "CLASS 3",
+        Class::Transient => "CLASS 4",
+        Class::Permanent => "CLASS 5",
     }
-    print::end(rt);
-    true
 }
 
-fn hosts_into(rt: &impl Print, text: &[u8], list: &mut [u64]) {
-    let answer = list::fill(text, list);
-    match answer {
-        Hosts::Count(n) => print::counted(rt, b"HOSTS ", n),
-        Hosts::Refused(k) => print::refused(rt, k),
-    }
-    print::last_numbers(rt, list);
+pub fn reply(rt: &impl Print, mut body: Body) -> Result<(), Malformed> {
+    let code = body.u16()?;
+    body.end()?;
+    say!(rt; "{}", Said(reply::class_of(code).map(word)));
+    Ok(())
 }
 
-pub fn host_ports(rt: &impl Print, body: &[u8]) -> bool {
-    if body.len() < 2 {
-        return false;
-    }
-    let asked = frame::two(body[0], body[1]);
-    let mut space = [fill::ENTRY; 200];
-    let lent = part::of_entries(asked as u64, &space);
-    if lent < asked as usize {
-        return false;
-    }
-    hosts_into(rt, &body[2..], &mut space[..lent]);
-    true
+pub fn host_ports(rt: &impl Print, mut body: Body) -> Result<(), Malformed> {
+    let mut space = [ENTRY; 200];
+    let list = front(&mut space, u64::from(body.u16()?))?;
+    let answer = list::fill(body.rest(), list);
+    say!(rt; "{} {}", Counted("HOSTS", answer), Numbers(list));
+    Ok(())
 }

@@ -2,13 +2,20 @@
 ghost use Rattle.std.specs.Prelude.{◌≡◌, length};
 ghost use Rattle.std.specs.Counts.{IsPrefixLen};
 
-use crate::part;
+use crate::body::{Body, Malformed};
 use frames::frame;
-use frames::frame::{FIELD_LENGTH, First};
+use frames::frame::{FIELD_LENGTH, FRAME_LENGTH};
 use std::io::Read;
 
 // The most that the length field may say.
 const LIMIT: u64 = 70002;
+
+// A request of which all is there.
+#[derive(Clone, Copy)]
+pub struct Request<'a> {
+    pub kind: u64,
+    pub body: Body<'a>,
+}
 
 // As much as the longest request, with its length field.
 pub fn space() -> [u8; 70006]
@@ -17,62 +24,46 @@ pub fn space() -> [u8; 70006]
     [0; 70006]
 }
 
-// A number of two bytes.
-pub fn two(low: u8, high: u8) -> u16 {
-    low as u16 + 256 * high as u16
-}
-
-// What one read puts at the front: nothing at the end of the input, and nothing where the read fails.
-fn read_some(input: &mut impl Read, bytes: &mut [u8]) -> usize
-    ensures { IsPrefixLen result bytes.new }
-{
-    match input.read(bytes) {
-        Ok(n) => n,
-        Err(_) => 0,
-    }
-}
-
 // Reads until the bytes are full, the input ends or a read fails; how many came.
 fn read_full(input: &mut impl Read, bytes: &mut [u8]) -> usize
     ensures { IsPrefixLen result bytes.new }
 {
+    // Stays: no iterator, since each read gives as many bytes as it likes.
     let mut done = 0;
     while done < bytes.len() {
-        let n = read_some(input, &mut bytes[done..]);
-        if n == 0 {
-            break;
+        match input.read(&mut bytes[done..]) {
+            Ok(0) | Err(_) => break,
+            Ok(n) => done += n,
         }
-        done += n;
     }
     done
 }
 
-// Reads n bytes to the front, or as many as there is room for; how many came.
-fn read_up_to(input: &mut impl Read, n: u64, bytes: &mut [u8]) -> usize
-    ensures { IsPrefixLen result bytes.new }
-{
-    let room = part::of_bytes(n, bytes);
-    read_full(input, &mut bytes[..room])
-}
-
-// Reads what follows the length field.
-fn read_rest(input: &mut impl Read, request: &mut [u8]) -> First {
-    let n = frame::length_field(request);
-    let from = part::of_bytes(FIELD_LENGTH as u64, request);
-    let got = read_up_to(input, n, &mut request[from..]);
-    let end = part::of_bytes((from + got) as u64, request);
-    frame::first_record(&request[..end], LIMIT)
-}
-
-// The next request, at the front of the space.
-pub fn read(input: &mut impl Read, request: &mut [u8]) -> First {
-    let got = read_up_to(input, FIELD_LENGTH as u64, request);
-    let begun = frame::first_record(&request[..got], LIMIT);
-    if got < FIELD_LENGTH {
-        return begun;
+// The next request, at the front of the space; nothing where the input has ended.
+pub fn read<'a>(
+    input: &mut impl Read,
+    space: &'a mut [u8],
+) -> Result<Option<Request<'a>>, Malformed> {
+    let (field, rest) = space.split_at_mut_checked(FIELD_LENGTH).ok_or(Malformed)?;
+    match read_full(input, field) {
+        0 => return Ok(None),
+        FIELD_LENGTH => {}
+        _ => return Err(Malformed),
     }
-    match begun {
-        First::Cut => read_rest(input, request),
-        _ => begun,
+    let length = frame::length_field(field);
+    if LIMIT < length {
+        return Err(Malformed);
     }
+    let rest = rest.get_mut(..length as usize).ok_or(Malformed)?;
+    if read_full(input, rest) < rest.len() {
+        return Err(Malformed);
+    }
+    let record = space
+        .get(..FIELD_LENGTH + length as usize)
+        .ok_or(Malformed)?;
+    let body = record.get(FRAME_LENGTH..).ok_or(Malformed)?;
+    Ok(Some(Request {
+        kind: frame::kind(record),
+        body: Body::new(body),
+    }))
 }

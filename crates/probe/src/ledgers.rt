@@ -1,136 +1,81 @@
 // Kinds 37 to 41: a ledger as text and as a saved record.
 ghost use Rattle.std.specs.Prelude.{◌≡◌, length};
 
-use crate::{entries, fill, frame, part, print};
-use answers::loaded::Loaded;
-use answers::written::Written;
-use rangelists::ranges;
-use savedledgers::loaded_for::LoadedFor;
-use savedledgers::saved;
-
-// What a ledger is read from: a saved record is of kind 1, and with the file length of kind 2.
-#[derive(Clone, Copy)]
-pub enum Source {
-    Ranges,
-    Saved,
-    Sized,
-}
-
-// What a ledger is written as.
-#[derive(Clone, Copy)]
-pub enum Form {
-    Ranges,
-    Saved,
-}
+use crate::body::{Body, Malformed};
+use crate::part::{BYTE, ENTRY, front};
+use crate::print::{Counted, Hex, Said, say, used};
+use answers::refusal::Refusal;
+use std::fmt;
 
 // Above the most entries that a ledger may have, so that it can be lent too long.
 fn entry_space() -> [u64; 8200]
     ensures { 8200 ≡ length result }
 {
-    [fill::ENTRY; 8200]
+    [ENTRY; 8200]
 }
 
-// ---- reading
+// As many bytes as two bytes can name.
+pub fn byte_space() -> [u8; 65535]
+    ensures { 65535 ≡ length result }
+{
+    [BYTE; 65535]
+}
 
-fn print_loaded(rt: &impl Print, text: &[u8], answer: Loaded) {
-    match answer {
-        Loaded::Done => print::word(rt, text),
-        Loaded::Refused(k) => print::refused(rt, k),
+// What was read: a range list, a saved record of kind 1, or one of kind 2 with the file length that it has.
+#[derive(Clone, Copy)]
+pub enum Loaded {
+    Ranges,
+    Saved,
+    Sized(u64),
+}
+
+impl fmt::Display for Loaded {
+    fn fmt<W: fmt::Write>(&self, f: &mut fmt::Formatter<W>) -> fmt::Result {
+        match self {
+            Loaded::Ranges => write!(f, "RANGES"),
+            Loaded::Saved => write!(f, "LOADED"),
+            Loaded::Sized(length) => write!(f, "LOADED2 {length}"),
+        }
     }
 }
 
-fn print_length(rt: &impl Print, f: u64) {
-    print::word(rt, b"LOADED2");
-    print::next(rt, f);
-}
-
-fn print_loaded_for(rt: &impl Print, answer: LoadedFor) {
-    match answer {
-        LoadedFor::FileLength(f) => print_length(rt, f),
-        LoadedFor::Refused(k) => print::refused(rt, k),
-    }
-}
-
-fn load(rt: &impl Print, source: Source, bytes: &[u8], ledger: &mut [u64]) {
-    match source {
-        Source::Ranges => print_loaded(rt, b"RANGES", ranges::read(bytes, ledger)),
-        Source::Saved => print_loaded(rt, b"LOADED", saved::read(bytes, ledger)),
-        Source::Sized => print_loaded_for(rt, saved::read_sized(bytes, ledger)),
-    }
-}
-
-fn read_into(rt: &impl Print, source: Source, bytes: &[u8], ledger: &mut [u64]) {
-    load(rt, source, bytes, ledger);
-    print::last_used(rt, ledger);
-}
-
-pub fn read(rt: &impl Print, source: Source, body: &[u8]) -> bool {
-    if body.len() < 2 {
-        return false;
-    }
-    let asked = frame::two(body[0], body[1]);
+// By a reader of the bytes after the number of lent entries.
+pub fn read<F: FnOnce(&[u8], &mut [u64]) -> Result<Loaded, Refusal>>(
+    rt: &impl Print,
+    mut body: Body,
+    read: F,
+) -> Result<(), Malformed>
+    requires { F.IsAlwaysCallable read }
+{
     let mut space = entry_space();
-    let lent = part::of_entries(asked as u64, &space);
-    if lent < asked as usize {
-        return false;
-    }
-    read_into(rt, source, &body[2..], &mut space[..lent]);
-    true
+    let ledger = front(&mut space, u64::from(body.u16()?))?;
+    let answer = read(body.rest(), ledger);
+    say!(rt; "{} {}", Said(answer), used(ledger));
+    Ok(())
 }
 
-// ---- writing
-
-fn store(form: Form, ledger: &[u64], out: &mut [u8]) -> Written {
-    match form {
-        Form::Ranges => ranges::write(ledger, out),
-        Form::Saved => saved::write(ledger, out),
+// By a writer of the entries after the number of lent bytes.
+pub fn write<F: FnOnce(&[u64], &mut [u8]) -> Result<usize, Refusal>>(
+    rt: &impl Print,
+    mut body: Body,
+    word: &str,
+    write: F,
+) -> Result<(), Malformed>
+    requires { F.IsAlwaysCallable write }
+{
+    let lent = body.u16()?;
+    let (numbers, cut) = body.rest().as_chunks::<8>();
+    if !cut.is_empty() {
+        return Err(Malformed);
     }
-}
-
-fn print_written(rt: &impl Print, form: Form, n: usize) {
-    match form {
-        Form::Ranges => print::counted(rt, b"TEXT ", n),
-        Form::Saved => print::counted(rt, b"SAVED ", n),
+    let mut entries = entry_space();
+    let ledger = front(&mut entries, numbers.len() as u64)?;
+    for (entry, number) in ledger.iter_mut().zip(numbers) {
+        *entry = u64::from_le_bytes(*number);
     }
-}
-
-fn write_into(rt: &impl Print, form: Form, ledger: &[u64], out: &mut [u8]) {
-    let answer = store(form, ledger, out);
-    match answer {
-        Written::Bytes(n) => print_written(rt, form, n),
-        Written::Refused(k) => print::refused(rt, k),
-    }
-    print::last_bytes(rt, out);
-}
-
-fn write_lent(rt: &impl Print, form: Form, ledger: &[u64], lent: u16) {
-    let mut space = fill::byte_space();
-    let n = part::of_bytes(lent as u64, &space);
-    write_into(rt, form, ledger, &mut space[..n]);
-}
-
-fn write_decoded(rt: &impl Print, form: Form, bytes: &[u8], ledger: &mut [u64], lent: u16) {
-    entries::read(bytes, 0, ledger);
-    write_lent(rt, form, ledger, lent);
-}
-
-fn write_entries(rt: &impl Print, form: Form, bytes: &[u8], lent: u16) -> bool {
-    let count = bytes.len() / 8;
-    if bytes.len() % 8 != 0 {
-        return false;
-    }
-    let mut space = entry_space();
-    let n = part::of_entries(count as u64, &space);
-    if n < count {
-        return false;
-    }
-    write_decoded(rt, form, bytes, &mut space[..n], lent);
-    true
-}
-
-pub fn write(rt: &impl Print, form: Form, body: &[u8]) -> bool {
-    if body.len() < 2 {
-        return false;
-    }
-    write_entries(rt, form, &body[2..], frame::two(body[0], body[1]))
+    let mut space = byte_space();
+    let out = front(&mut space, u64::from(lent))?;
+    let answer = write(ledger, out);
+    say!(rt; "{} {}", Counted(word, answer), Hex(out));
+    Ok(())
 }

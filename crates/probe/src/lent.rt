@@ -1,201 +1,101 @@
 // Kinds 18 to 22 and 24 to 26: the file and the ledgers that calls are lent, changed and shown.
-use crate::session::{Session, Turn};
-use crate::{fill, part, print, screen_line, session};
-use octets::{entries, little};
+use crate::body::{Body, Malformed};
+use crate::part::{BYTE, Part};
+use crate::print::{Hex, begin, say, used};
+use crate::session::Receiving;
+use screen::line;
 
-pub fn fill_file(rt: &impl Print, s: Session, body: &[u8], file: &mut [u8]) -> Turn {
-    if body.len() != 1 {
-        return session::stop(s);
+fn poke(ledger: &mut Part<u64>, mut body: Body) -> Result<(), Malformed> {
+    let index = body.u64()?;
+    let value = body.u64()?;
+    body.end()?;
+    let entry = ledger.lent_mut().get_mut(index as usize).ok_or(Malformed)?;
+    *entry = value;
+    Ok(())
+}
+
+impl Receiving<'_> {
+    // The screen line, which ends the line that it is on.
+    pub fn print_screen(&self, rt: &impl Print) {
+        let mut out = [BYTE; 128];
+        match line::write(
+            self.receiver,
+            self.claimed.lent(),
+            self.doubtful.lent(),
+            &mut out,
+        ) {
+            Ok(n) => {
+                let _ = rt.write_all(&out[..n.min(out.len())]);
+            }
+            Err(refusal) => say!(rt; "REFUSED {refusal}"),
+        }
     }
-    let bytes = part::of_bytes(s.bytes as u64, file);
-    fill::bytes(&mut file[..bytes], body[0]);
-    print::word(rt, b"FILLED\n");
-    session::go_on(s)
-}
 
-// ---- an entry changed
-
-// Whether there is such an entry; it becomes the value.
-fn set_entry(index: u64, value: u64, ledger: &mut [u64]) -> bool {
-    if ledger.len() as u64 <= index {
-        return false;
+    pub fn fill_file(&mut self, rt: &impl Print, mut body: Body) -> Result<(), Malformed> {
+        let byte = body.u8()?;
+        body.end()?;
+        self.file.lent_mut().fill(byte);
+        say!(rt; "FILLED");
+        Ok(())
     }
-    ledger[index as usize] = value;
-    true
-}
 
-// The same among as many entries as are lent.
-fn set_lent(count: usize, index: u64, value: u64, ledger: &mut [u64]) -> bool {
-    let n = part::of_entries(count as u64, ledger);
-    set_entry(index, value, &mut ledger[..n])
-}
-
-fn show_poked(rt: &impl Print, s: Session, claimed: &[u64], doubtful: &[u64]) -> Turn {
-    print::word(rt, b"POKED ");
-    screen_line::show_lent(rt, s, claimed, doubtful);
-    session::go_on(s)
-}
-
-pub fn poke(
-    rt: &impl Print,
-    s: Session,
-    index: u64,
-    value: u64,
-    claimed: &mut [u64],
-    doubtful: &[u64],
-) -> Turn {
-    if !set_lent(s.claimed, index, value, claimed) {
-        return session::stop(s);
+    pub fn poke_claimed(&mut self, rt: &impl Print, body: Body) -> Result<(), Malformed> {
+        poke(&mut self.claimed, body)?;
+        begin!(rt; "POKED ");
+        self.print_screen(rt);
+        Ok(())
     }
-    show_poked(rt, s, claimed, doubtful)
-}
 
-pub fn poke_doubtful(
-    rt: &impl Print,
-    s: Session,
-    index: u64,
-    value: u64,
-    claimed: &[u64],
-    doubtful: &mut [u64],
-) -> Turn {
-    if !set_lent(s.doubtful, index, value, doubtful) {
-        return session::stop(s);
+    pub fn poke_doubtful(&mut self, rt: &impl Print, body: Body) -> Result<(), Malformed> {
+        poke(&mut self.doubtful, body)?;
+        begin!(rt; "POKED ");
+        self.print_screen(rt);
+        Ok(())
     }
-    show_poked(rt, s, claimed, doubtful)
-}
 
-// ---- more or less of it lent
-
-// All that is not lent becomes 0.
-fn clear_bytes(lent: usize, file: &mut [u8]) {
-    let end = part::of_bytes(lent as u64, file);
-    fill::bytes(&mut file[end..], 0);
-}
-
-fn clear_entries(lent: usize, ledger: &mut [u64]) {
-    let end = part::of_entries(lent as u64, ledger);
-    entries::clear(&mut ledger[end..]);
-}
-
-// What is lent from now on.
-fn show_lent(rt: &impl Print, s: Session, claimed: &[u64], doubtful: &[u64]) -> Turn {
-    print::word(rt, b"LENT ");
-    screen_line::show_lent(rt, s, claimed, doubtful);
-    session::go_on(s)
-}
-
-fn lend_cleared(
-    rt: &impl Print,
-    s: Session,
-    length: u64,
-    count: u64,
-    file: &[u8],
-    claimed: &[u64],
-    doubtful: &[u64],
-) -> Turn {
-    let bytes = part::of_bytes(length, file);
-    let c = part::of_entries(count, claimed);
-    show_lent(
-        rt,
-        session::lending(s, bytes, c, s.doubtful),
-        claimed,
-        doubtful,
-    )
-}
-
-pub fn lend(
-    rt: &impl Print,
-    s: Session,
-    length: u64,
-    count: u64,
-    file: &mut [u8],
-    claimed: &mut [u64],
-    doubtful: &[u64],
-) -> Turn {
-    if (file.len() as u64) < length {
-        return session::stop(s);
+    pub fn lend(&mut self, rt: &impl Print, mut body: Body) -> Result<(), Malformed> {
+        let length = body.u64()?;
+        let entries = body.u64()?;
+        body.end()?;
+        self.file.lend(length, 0)?;
+        self.claimed.lend(entries, 0)?;
+        begin!(rt; "LENT ");
+        self.print_screen(rt);
+        Ok(())
     }
-    if (claimed.len() as u64) < count {
-        return session::stop(s);
-    }
-    clear_bytes(s.bytes, file);
-    clear_entries(s.claimed, claimed);
-    lend_cleared(rt, s, length, count, file, claimed, doubtful)
-}
 
-fn lend_entries(
-    rt: &impl Print,
-    s: Session,
-    count: u64,
-    claimed: &[u64],
-    doubtful: &mut [u64],
-) -> Turn {
-    if (doubtful.len() as u64) < count {
-        return session::stop(s);
+    pub fn lend_doubtful(&mut self, rt: &impl Print, mut body: Body) -> Result<(), Malformed> {
+        let entries = body.u64()?;
+        body.end()?;
+        self.doubtful.lend(entries, 0)?;
+        begin!(rt; "LENT ");
+        self.print_screen(rt);
+        Ok(())
     }
-    clear_entries(s.doubtful, doubtful);
-    let d = part::of_entries(count, doubtful);
-    show_lent(
-        rt,
-        session::lending(s, s.bytes, s.claimed, d),
-        claimed,
-        doubtful,
-    )
-}
 
-pub fn lend_doubtful(
-    rt: &impl Print,
-    s: Session,
-    body: &[u8],
-    claimed: &[u64],
-    doubtful: &mut [u64],
-) -> Turn {
-    if body.len() != 8 {
-        return session::stop(s);
+    pub fn show_file(&self, rt: &impl Print, mut body: Body) -> Result<(), Malformed> {
+        let from = body.u64()?;
+        let length = body.u64()?;
+        body.end()?;
+        let end = from.checked_add(length).ok_or(Malformed)?;
+        let bytes = self
+            .file
+            .lent()
+            .get(from as usize..end as usize)
+            .ok_or(Malformed)?;
+        say!(rt; "FILE {}", Hex(bytes));
+        Ok(())
     }
-    lend_entries(rt, s, little::read(body), claimed, doubtful)
-}
 
-// ---- shown
-
-fn show_part(rt: &impl Print, from: u64, length: u64, file: &[u8]) -> bool {
-    if (file.len() as u64) < length {
-        return false;
+    pub fn show_claimed(&self, rt: &impl Print, body: Body) -> Result<(), Malformed> {
+        body.end()?;
+        say!(rt; "LEDGER {}", used(self.claimed.lent()));
+        Ok(())
     }
-    if file.len() as u64 - length < from {
-        return false;
-    }
-    print::word(rt, b"FILE");
-    print::last_bytes(rt, &file[from as usize..from as usize + length as usize]);
-    true
-}
 
-pub fn show_file(rt: &impl Print, s: Session, from: u64, length: u64, file: &[u8]) -> Turn {
-    let bytes = part::of_bytes(s.bytes as u64, file);
-    Turn {
-        session: s,
-        goes_on: show_part(rt, from, length, &file[..bytes]),
+    pub fn show_doubtful(&self, rt: &impl Print, body: Body) -> Result<(), Malformed> {
+        body.end()?;
+        say!(rt; "DOUBTFUL {}", used(self.doubtful.lent()));
+        Ok(())
     }
-}
-
-fn show_used(rt: &impl Print, word: &[u8], lent: usize, ledger: &[u64]) {
-    let n = part::of_entries(lent as u64, ledger);
-    print::word(rt, word);
-    print::last_used(rt, &ledger[..n]);
-}
-
-pub fn show_claimed(rt: &impl Print, s: Session, body: &[u8], claimed: &[u64]) -> Turn {
-    if body.len() != 0 {
-        return session::stop(s);
-    }
-    show_used(rt, b"LEDGER", s.claimed, claimed);
-    session::go_on(s)
-}
-
-pub fn show_doubtful(rt: &impl Print, s: Session, body: &[u8], doubtful: &[u64]) -> Turn {
-    if body.len() != 0 {
-        return session::stop(s);
-    }
-    show_used(rt, b"DOUBTFUL", s.doubtful, doubtful);
-    session::go_on(s)
 }

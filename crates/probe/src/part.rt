@@ -1,34 +1,70 @@
-// The lesser of a length and of what there is, so that a part of that length needs no precondition.
-ghost use Rattle.std.specs.Counts.{IsPrefixLen};
+// Bytes and entries that calls are lent: the front of what there is.
+use crate::body::Malformed;
 
-pub fn of_bytes(n: u64, bytes: &[u8]) -> usize
-    ensures { IsPrefixLen result bytes.now }
-{
-    if n < bytes.len() as u64 {
-        return n as usize;
-    }
-    bytes.len()
+// What lent bytes and entries hold before a call, so that it shows where they are unchanged.
+pub const BYTE: u8 = 238;
+
+pub const ENTRY: u64 = 7;
+
+// So many of them, from the first on.
+pub fn front<T>(all: &mut [T], count: u64) -> Result<&mut [T], Malformed> {
+    all.get_mut(..count as usize).ok_or(Malformed)
 }
 
-pub fn of_entries(n: u64, entries: &[u64]) -> usize
-    ensures { IsPrefixLen result entries.now }
-{
-    if n < entries.len() as u64 {
-        return n as usize;
-    }
-    entries.len()
+// What is lent from one request to the next.
+#[derive(Drop)]
+pub struct Part<'a, T> {
+    all: &'a mut [T],
+    lent: usize,
 }
 
-// Up to the last entry that is not 0.
-pub fn used(entries: &[u64]) -> usize
-    ensures { IsPrefixLen result entries.now }
-{
-    let mut n = entries.len();
-    while 0 < n {
-        if entries[n - 1] != 0 {
-            return n;
+impl<'a, T: Copy> Part<'a, T> {
+    pub fn new(all: &'a mut [T]) -> Part<'a, T> {
+        Part { all, lent: 0 }
+    }
+
+    pub fn lent(&self) -> &[T] {
+        &self.all[..self.lent.min(self.all.len())]
+    }
+
+    pub fn lent_mut(&mut self) -> &mut [T] {
+        let count = self.lent.min(self.all.len());
+        &mut self.all[..count]
+    }
+
+    // So many are lent from now on; each that was not lent before is `new`.
+    // Stays: a loop, since `fill` asks of a type parameter that its clone cannot fail, which `Copy` does not say.
+    pub fn lend(&mut self, count: u64, new: T) -> Result<(), Malformed> {
+        if (self.all.len() as u64) < count {
+            return Err(Malformed);
         }
-        n -= 1;
+        if let Some(rest) = self.all.get_mut(self.lent..) {
+            for item in rest {
+                *item = new;
+            }
+        }
+        self.lent = count as usize;
+        Ok(())
     }
-    0
+
+    // So many are lent from now on, each of them `value`.
+    pub fn start(&mut self, count: u64, value: T) -> Result<(), Malformed> {
+        self.lend(count, value)?;
+        for item in self.lent_mut() {
+            *item = value;
+        }
+        Ok(())
+    }
+
+    // As many as there is room for.
+    pub fn room(&self) -> u64 {
+        self.all.len() as u64
+    }
+
+    // These are lent from now on, or as many of them as there is room for.
+    pub fn store(&mut self, items: &[T]) {
+        let count = items.len().min(self.all.len());
+        self.all[..count].copy_from_slice(&items[..count]);
+        self.lent = count;
+    }
 }

@@ -1,97 +1,89 @@
-// The words of a line, on standard output. A write that fails is passed over, and the next one tried.
-use crate::part;
+// The lines, on standard output.
+use answers::refusal::Refusal;
+use std::fmt;
 
-pub fn word(rt: &impl Print, text: &[u8]) {
-    let _ = rt.write_all(text);
+// Prints a line. A write that fails is passed over, and the next one tried.
+macro_rules! say {
+    ($rt:expr; $($line:tt)+) => {{
+        let _ = println!($rt; $($line)+);
+    }};
 }
 
-pub fn number(rt: &impl Print, n: u64) {
-    let _ = print!(rt; "{n}");
+pub(crate) use say;
+
+// The beginning of a line.
+macro_rules! begin {
+    ($rt:expr; $($text:tt)+) => {{
+        let _ = print!($rt; $($text)+);
+    }};
 }
 
-pub fn byte(rt: &impl Print, b: u8) {
-    number(rt, b as u64);
-}
+pub(crate) use begin;
 
-// A word and the count that belongs to it.
-pub fn counted(rt: &impl Print, text: &[u8], n: usize) {
-    word(rt, text);
-    number(rt, n as u64);
-}
+// What an answer holds, or its refusal.
+#[derive(Clone, Copy)]
+pub struct Said<T>(pub Result<T, Refusal>);
 
-// One number more.
-pub fn next(rt: &impl Print, n: u64) {
-    word(rt, b" ");
-    number(rt, n);
-}
-
-pub fn refused(rt: &impl Print, k: u8) {
-    word(rt, b"REFUSED ");
-    byte(rt, k);
-}
-
-pub fn end(rt: &impl Print) {
-    word(rt, b"\n");
-}
-
-// The line of a request that is malformed.
-pub fn record(rt: &impl Print, k: u64) {
-    word(rt, b"RECORD ");
-    number(rt, k);
-    end(rt);
-}
-
-// ---- a run of bytes or of numbers, as the last word of a line
-
-fn hex(rt: &impl Print, b: u8) {
-    let _ = print!(rt; "{b:02x}");
-}
-
-fn listed(rt: &impl Print, n: u64, i: usize) {
-    if 0 < i {
-        word(rt, b",");
-    }
-    number(rt, n);
-}
-
-fn element(rt: &impl Print, bytes: &[u8], numbers: &[u64], i: usize) {
-    if i < bytes.len() {
-        hex(rt, bytes[i]);
-        return;
-    }
-    if i < numbers.len() {
-        listed(rt, numbers[i], i);
+impl<T: fmt::Display> fmt::Display for Said<T> {
+    fn fmt<W: fmt::Write>(&self, f: &mut fmt::Formatter<W>) -> fmt::Result {
+        match &self.0 {
+            Ok(value) => write!(f, "{value}"),
+            Err(refusal) => write!(f, "REFUSED {refusal}"),
+        }
     }
 }
 
-fn elements(rt: &impl Print, bytes: &[u8], numbers: &[u64], count: usize) {
-    let mut i = 0;
-    while i < count {
-        element(rt, bytes, numbers, i);
-        i += 1;
+// A word and the number that belongs to it, or a refusal.
+#[derive(Clone, Copy)]
+pub struct Counted<'a>(pub &'a str, pub Result<usize, Refusal>);
+
+impl fmt::Display for Counted<'_> {
+    fn fmt<W: fmt::Write>(&self, f: &mut fmt::Formatter<W>) -> fmt::Result {
+        match self.1 {
+            Ok(n) => write!(f, "{} {n}", self.0),
+            Err(refusal) => write!(f, "REFUSED {refusal}"),
+        }
     }
 }
 
-// One of the two is empty, and the other has that count.
-fn last(rt: &impl Print, bytes: &[u8], numbers: &[u64], count: usize) {
-    word(rt, b" ");
-    if count == 0 {
-        word(rt, b"-");
+// Bytes, two digits each.
+#[derive(Clone, Copy)]
+pub struct Hex<'a>(pub &'a [u8]);
+
+impl fmt::Display for Hex<'_> {
+    fn fmt<W: fmt::Write>(&self, f: &mut fmt::Formatter<W>) -> fmt::Result {
+        if self.0.is_empty() {
+            return f.write_str("-");
+        }
+        for byte in self.0 {
+            write!(f, "{byte:02x}")?;
+        }
+        Ok(())
     }
-    elements(rt, bytes, numbers, count);
-    end(rt);
 }
 
-pub fn last_bytes(rt: &impl Print, run: &[u8]) {
-    last(rt, run, &[0; 0], run.len());
-}
+// Numbers with commas between.
+#[derive(Clone, Copy)]
+pub struct Numbers<'a>(pub &'a [u64]);
 
-pub fn last_numbers(rt: &impl Print, run: &[u64]) {
-    last(rt, b"", run, run.len());
+impl fmt::Display for Numbers<'_> {
+    fn fmt<W: fmt::Write>(&self, f: &mut fmt::Formatter<W>) -> fmt::Result {
+        let Some((first, rest)) = self.0.split_first() else {
+            return f.write_str("-");
+        };
+        write!(f, "{first}")?;
+        for n in rest {
+            write!(f, ",{n}")?;
+        }
+        Ok(())
+    }
 }
 
 // Up to the last entry that is not 0.
-pub fn last_used(rt: &impl Print, entries: &[u64]) {
-    let n = part::used(entries);
-    last_numbers(rt, &entries[..n]);
+pub fn used(entries: &[u64]) -> Numbers<'_> {
+    let count = entries
+        .iter()
+        .rposition(|n| *n != 0)
+        .map_or(0, |last| last + 1);
+    Numbers(&entries[..count])
 }

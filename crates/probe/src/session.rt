@@ -1,4 +1,5 @@
-// What is kept from one request to the next, beside the file, the ledgers and the file that the sender is lent.
+// What is kept from one request to the next.
+use crate::part::Part;
 use console::state;
 use console::state::Console;
 use receiver::receive::Receiver;
@@ -6,109 +7,49 @@ use receiver::start;
 use sender::begin;
 use sender::state::Sender;
 
-// The receiver, and how much of the file and of either ledger a call is lent at present; the sender, and how much of its file; the console.
-#[derive(Clone, Copy)]
-pub struct Session {
+// The receiver, and what its calls are lent.
+#[derive(Drop)]
+pub struct Receiving<'a> {
     pub receiver: Receiver,
-    pub bytes: usize,
-    pub claimed: usize,
-    pub doubtful: usize,
+    pub file: Part<'a, u8>,
+    pub claimed: Part<'a, u64>,
+    pub doubtful: Part<'a, u64>,
+}
+
+// The sender, and the file that it is lent.
+#[derive(Drop)]
+pub struct Sending<'a> {
     pub sender: Sender,
-    pub source: usize,
+    pub source: Part<'a, u8>,
+}
+
+#[derive(Drop)]
+pub struct Session<'a> {
+    pub receiving: Receiving<'a>,
+    pub sending: Sending<'a>,
     pub console: Console,
 }
 
-// The session that a request left, and whether more requests may come: none after a malformed one.
-#[derive(Clone, Copy)]
-pub struct Turn {
-    pub session: Session,
-    pub goes_on: bool,
-}
-
-pub fn go_on(s: Session) -> Turn {
-    Turn {
-        session: s,
-        goes_on: true,
-    }
-}
-
-pub fn stop(s: Session) -> Turn {
-    Turn {
-        session: s,
-        goes_on: false,
-    }
-}
-
-// The session with another receiver, and so much lent to it.
-pub fn receiving(
-    s: Session,
-    receiver: Receiver,
-    bytes: usize,
-    claimed: usize,
-    doubtful: usize,
-) -> Session {
-    let sender = s.sender;
-    let console = s.console;
-    Session {
-        receiver: receiver,
-        bytes: bytes,
-        claimed: claimed,
-        doubtful: doubtful,
-        sender: sender,
-        source: s.source,
-        console: console,
-    }
-}
-
-// The session with so much lent to its receiver.
-pub fn lending(s: Session, bytes: usize, claimed: usize, doubtful: usize) -> Session {
-    let receiver = s.receiver;
-    receiving(s, receiver, bytes, claimed, doubtful)
-}
-
-// The session with another sender, and so much lent to it.
-pub fn sending(s: Session, sender: Sender, source: usize) -> Session {
-    let receiver = s.receiver;
-    let console = s.console;
-    Session {
-        receiver: receiver,
-        bytes: s.bytes,
-        claimed: s.claimed,
-        doubtful: s.doubtful,
-        sender: sender,
-        source: source,
-        console: console,
-    }
-}
-
-// The session with another console.
-pub fn at_console(s: Session, console: Console) -> Session {
-    let receiver = s.receiver;
-    let sender = s.sender;
-    Session {
-        receiver: receiver,
-        bytes: s.bytes,
-        claimed: s.claimed,
-        doubtful: s.doubtful,
-        sender: sender,
-        source: s.source,
-        console: console,
-    }
-}
-
-// What a start with no bytes and no entries leaves, a beginning that is refused, and a new console.
-pub fn first(claimed: &mut [u64], doubtful: &mut [u64]) -> Session {
-    let started = start::start(0, &mut claimed[..0], &mut doubtful[..0]);
-    let receiver = started.receiver;
-    let begun = begin::begin(0, 0, 0);
-    let sender = begun.sender;
-    Session {
-        receiver: receiver,
-        bytes: 0,
-        claimed: 0,
-        doubtful: 0,
-        sender: sender,
-        source: 0,
-        console: state::beginning(),
+impl<'a> Session<'a> {
+    // What a start with no bytes and no entries leaves, a beginning that is refused, and a new console.
+    pub fn new(
+        file: &'a mut [u8],
+        claimed: &'a mut [u64],
+        doubtful: &'a mut [u64],
+        source: &'a mut [u8],
+    ) -> Session<'a> {
+        Session {
+            receiving: Receiving {
+                receiver: start::start(0, &mut [], &mut []).receiver,
+                file: Part::new(file),
+                claimed: Part::new(claimed),
+                doubtful: Part::new(doubtful),
+            },
+            sending: Sending {
+                sender: begin::begin(0, 0, 0).sender,
+                source: Part::new(source),
+            },
+            console: state::beginning(),
+        }
     }
 }

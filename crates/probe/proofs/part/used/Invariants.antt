@@ -1,9 +1,0 @@
--- `part::used`.
-use Rattle.std.proofs.Common.{◌≤◌, length}
-use Rattle.probe.proofs.part.used.Given as goal
-
-abbrev pub invariant-loop-n : goal.invariant-loop-n
-invariant-loop-n l = l.n ≤ length l.entries
-
-abbrev pub decreases-loop-n : goal.decreases-loop-n
-decreases-loop-n l = l.n
