@@ -76,7 +76,7 @@ fn refused(t: Transfer, refusal: Refusal, doubtful: &[u64]) -> Received
 // What a call that is not refused answers, on channel c, for what FIT found.
 // Stays: file and ledgers are lent one by one: of one struct each contract would owe that its parts keep their `ghost_name`.
 fn taken(
-    t: Transfer,
+    t: &Transfer,
     c: usize,
     found: FitReport,
     piece: &[u8],
@@ -84,17 +84,17 @@ fn taken(
     claimed: &mut [u64],
     doubtful: &mut [u64],
 ) -> Received
-    requires { (c < 64) × (fits (world t file.old claimed.old doubtful.old) ≡ true) × (found.used ≡ used_of t) × (found.ended ≡ ended_of t) }
-    ensures { ((to_answer (numbered result.answer), world result.receiver.transfer file.new claimed.new doubtful.new) ≡ take_bytes_on c (world t file.old claimed.old doubtful.old) piece.now 0) × (to_verdict result.verdict ≡ verdict_of (world result.receiver.transfer file.new claimed.new doubtful.new)) }
+    requires { (c < 64) × (fits (world t.now file.old claimed.old doubtful.old) ≡ true) × (found.used ≡ used_of t.now) × (found.ended ≡ ended_of t.now) }
+    ensures { ((to_answer (numbered result.answer), world result.receiver.transfer file.new claimed.new doubtful.new) ≡ take_bytes_on c (world t.now file.old claimed.old doubtful.old) piece.now 0) × (to_verdict result.verdict ≡ verdict_of (world result.receiver.transfer file.new claimed.new doubtful.new)) }
 {
     let o = other_channels::counts_without(t.len, found, t.channels[c].state);
-    let x = transfer_channel::of(&t, c);
+    let x = transfer_channel::of(t, c);
     let r = take::take(x, c, o, piece, file, claimed, doubtful);
     let y = r.channel;
     let verdict = verdict::of(y.fault, y.count, o.ended, y.state, rule::has_pair(doubtful));
     Received {
         receiver: Receiver {
-            transfer: transfer_channel::write_back(t, c, y),
+            transfer: transfer_channel::write_back(*t, c, y),
         },
         verdict,
         answer: Ok(r.taken),
@@ -116,7 +116,7 @@ impl Receiver {
     {
         match accept(&self.transfer, channel, piece, file, claimed, doubtful) {
             Ok(found) => taken(
-                self.transfer,
+                &self.transfer,
                 channel as usize,
                 found,
                 piece,

@@ -57,12 +57,7 @@ pub fn write_back(before: Transfer, c: usize, x: ChannelState) -> Transfer
     requires { c < 64 }
     ensures { result ≡ write_back before c x }
 {
-    let mut t = Transfer {
-        count: x.count,
-        fault: x.fault,
-        on: x.on,
-        ..before
-    };
+    let mut t = before;
     put_bytes(&mut t.heads, c, &x.bytes);
     t.channels[c] = Channel {
         state: x.state,
@@ -70,5 +65,9 @@ pub fn write_back(before: Transfer, c: usize, x: ChannelState) -> Transfer
         next: x.next,
         left: x.left,
     };
+    // Stays: with `..before` the compiler copies the 1,024 held bytes twice more on each call.
+    t.count = x.count;
+    t.fault = x.fault;
+    t.on = x.on;
     t
 }
