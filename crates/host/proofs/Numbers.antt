@@ -5,24 +5,14 @@ use mathlib.Core.Logic.{◌⊎◌, inl, inr}
 use mathlib.Core.Bool.{Bool, true, false, cond}
 use borrow.Author.Tests.{lt-ltb, eqb-true}
 use lib.Dec.{ltb, eqb}
-use Rattle.eblock.specs.Header.{refusal_number as header_number}
+use Rattle.std.specs.Prelude.{Result as Answer, Ok, Err}
 use Rattle.eblock.specs.declared.header.Header.{Header}
-use Rattle.eblock.specs.declared.header.Header.TheVariants.{Data, Eodc, Refused as NotRead}
-use Rattle.answers.specs.Written.{written_number, written_bytes}
-use Rattle.answers.specs.declared.written.Written.{Written}
-use Rattle.answers.specs.declared.written.Written.TheVariants.{Bytes, Refused as NotWritten}
-use Rattle.commands.specs.Line.{refusal_number as line_number, verb}
-use Rattle.commands.specs.declared.line.Line.{Line}
-use Rattle.commands.specs.declared.line.Line.TheVariants.{Command, Refused as NoCommand}
-use Rattle.hostlists.specs.HostList.{refusal_number as list_number}
-use Rattle.hostlists.specs.declared.list.Hosts.{Hosts}
-use Rattle.hostlists.specs.declared.list.Hosts.TheVariants.{Count, Refused as NoList}
-use Rattle.savedledgers.specs.Saved.{loaded_for_number, loaded_for_length}
-use Rattle.savedledgers.specs.declared.loaded_for.LoadedFor.{LoadedFor}
-use Rattle.savedledgers.specs.declared.loaded_for.LoadedFor.TheVariants.{FileLength, Refused as NotLoaded}
-use Rattle.receiver.specs.declared.show.Screen.{Screen}
-use Rattle.receiver.specs.declared.show.Screen.TheVariants.{Shows, Refused as NotShown}
-use Rattle.receiver.specs.Shown.{screen_number}
+use Rattle.eblock.specs.declared.header.Header.TheVariants.{Data, Eodc}
+use Rattle.answers.specs.Refusal.{number_in}
+use Rattle.answers.specs.Written.{Written, written_bytes}
+use Rattle.commands.specs.Line.{Said, Says, verb}
+use Rattle.savedledgers.specs.Saved.{loaded_for_length}
+use Rattle.receiver.specs.declared.show.Shown.{Shown}
 use Rattle.verdicts.specs.Verdict.{to_verdict}
 use Rattle.verdicts.specs.declared.verdict.Verdict.{Verdict}
 use Rattle.verdicts.specs.declared.verdict.Verdict.TheVariants.{Guess, Result, Suspect, Broken}
@@ -38,40 +28,37 @@ use Rattle.host.specs.Shown.{shown_by}
 use Rattle.host.specs.Consoles.{endpoint_meant, verdict_meant, one_if, endpoint_code}
 use Rattle.host.specs.Numbers.{Numbers}
 
-header : (x : Header) → (fields_of x).refused ≡ header_number x
-unfolding header_number
-header (Data d n offset) = refl
-header (Eodc d n) = refl
-header (NotRead k) = refl
+header : (x : Answer Header ℕ) → (fields_of x).refused ≡ number_in x
+header (Ok (Data d n offset)) = refl
+header (Ok (Eodc d n)) = refl
+header (Err k) = refl
 
-line : (x : Line) → (command_of x).refused ≡ line_number x
-unfolding line_number
-line (Command v from to) = refl
-line (NoCommand k) = refl
+line : (x : Answer Said ℕ) → (command_of x).refused ≡ number_in x
+line (Ok (Says v from to)) = refl
+line (Err k) = refl
 
-verb_is : (x : Line) → (command_of x).verb ≡ verb x
+verb_is : (x : Answer Said ℕ) → (command_of x).verb ≡ verb x
 unfolding verb
-verb_is (Command v from to) = refl
-verb_is (NoCommand k) = refl
+verb_is (Ok (Says v from to)) = refl
+verb_is (Err k) = refl
 
-written : (x : Written) → ((written_of x).length ≡ written_bytes x) × ((written_of x).refused ≡ written_number x)
-unfolding written_bytes written_number
-written (Bytes n) = (refl, refl)
-written (NotWritten k) = (refl, refl)
+written : (x : Written) → ((written_of x).length ≡ written_bytes x) × ((written_of x).refused ≡ number_in x)
+unfolding written_bytes
+written (Ok n) = (refl, refl)
+written (Err k) = (refl, refl)
 
-loaded_for : (x : LoadedFor) → ((loaded_for_of x).length ≡ loaded_for_length x) × ((loaded_for_of x).refused ≡ loaded_for_number x)
-unfolding loaded_for_length loaded_for_number
-loaded_for (FileLength f) = (refl, refl)
-loaded_for (NotLoaded k) = (refl, refl)
+loaded_for : (x : Answer ℕ ℕ) → ((loaded_for_of x).length ≡ loaded_for_length x) × ((loaded_for_of x).refused ≡ number_in x)
+unfolding loaded_for_length
+loaded_for (Ok f) = (refl, refl)
+loaded_for (Err k) = (refl, refl)
 
-shown : (x : Screen) → (shown_by x).refused ≡ screen_number x
-shown (Shows n) = refl
-shown (NotShown k) = refl
+shown : (x : Answer Shown ℕ) → (shown_by x).refused ≡ number_in x
+shown (Ok n) = refl
+shown (Err k) = refl
 
-list : (x : Hosts) → (host_port_count_of x).refused ≡ list_number x
-unfolding list_number
-list (Count n) = refl
-list (NoList k) = refl
+list : (x : Answer ℕ ℕ) → (host_port_count_of x).refused ≡ number_in x
+list (Ok n) = refl
+list (Err k) = refl
 
 yes-back : (b : Bool) → ltb 0 (one_if b) ≡ b
 yes-back true = refl

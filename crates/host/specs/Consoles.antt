@@ -2,6 +2,7 @@
 use Rattle.std.specs.Prelude.{ℕ, Bool, cond, ltb, eqb}
 use Rattle.verdicts.specs.declared.verdict.Verdict.{Verdict}
 use Rattle.verdicts.specs.declared.verdict.Verdict.TheVariants.{Guess, Result, Suspect, Broken}
+use Rattle.console.specs.Console.{code_in}
 use Rattle.console.specs.declared.state.Console.{Console}
 use Rattle.console.specs.declared.state.Endpoint.{Endpoint}
 use Rattle.console.specs.declared.state.Endpoint.TheVariants.{None, Listening, Connecting}
@@ -34,4 +35,4 @@ abbrev pub numbers_of : Console → ConsoleNumbers
 numbers_of s = record { extended = one_if s.extended; endpoint = endpoint_code s.endpoint; running = one_if s.running }
 
 abbrev pub answered_by : Answer → Answered
-answered_by a = record { console = numbers_of a.console; code = a.code; suspect = one_if a.suspect }
+answered_by a = record { console = numbers_of a.console; code = code_in a.code; suspect = one_if a.suspect }

@@ -1,5 +1,5 @@
 -- What a call for the next block leaves, as a host has it: what a writer answers, and the sender.
-use Rattle.answers.specs.declared.written.Written.{Written as Answer}
+use Rattle.answers.specs.Written.{Written as Answer}
 use Rattle.sender.specs.declared.state.Sender.{Sender}
 use Rattle.host.specs.Written.{written_of}
 use Rattle.host.specs.declared.sending.Sent.{Sent}

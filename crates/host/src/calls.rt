@@ -5,7 +5,6 @@ ghost use Rattle.transfer.specs.Transfer.{world, start_refusal, start_of, start_
 ghost use Rattle.transfer.specs.Receive.{receive_of};
 ghost use Rattle.verdicts.specs.Verdict.{to_verdict};
 ghost use Rattle.receiver.specs.Shown.{shown_of};
-ghost use Rattle.receiver.specs.declared.show.Screen.TheVariants.{Shows, Refused};
 ghost use Rattle.screen.specs.Screen.{screen_of, screen_after};
 ghost use Rattle.host.specs.Received.{verdict_code, received_by};
 ghost use Rattle.host.specs.Shown.{shown_by};
@@ -13,13 +12,13 @@ ghost use Rattle.host.specs.Written.{written_of};
 
 use crate::written;
 use crate::written::Written;
-use receiver::receive::{Answer, Receiver};
-use receiver::show::{Screen, Shown};
+use receiver::receive::Receiver;
 use receiver::start;
 use screen::line;
 use transfer::state::Transfer;
 use verdicts::verdict::Verdict;
 
+// Stays: a C struct holds no enum with values, so a refusal, a kind and a code are numbers, 0 for none.
 #[repr(C)]
 #[derive(Clone, Copy)]
 pub struct Started {
@@ -27,6 +26,7 @@ pub struct Started {
     pub refused: u8,
 }
 
+// Stays: a C struct holds no enum with values, so a refusal, a kind and a code are numbers, 0 for none.
 #[repr(C)]
 #[derive(Clone, Copy)]
 pub struct Received {
@@ -39,8 +39,9 @@ pub struct Received {
 }
 
 // What the screen line says. Where it is refused, all other numbers are 0.
+// Stays: a C struct holds no enum with values, so a refusal, a kind and a code are numbers, 0 for none.
 #[repr(C)]
-#[derive(Clone, Copy)]
+#[derive(Clone, Copy, Default)]
 pub struct ScreenNumbers {
     // The channels that have ended.
     pub ended: u64,
@@ -62,14 +63,13 @@ pub extern "C" fn cob2_start(len: u64, claimed: &mut [u64], doubtful: &mut [u64]
     ensures { (result.refused ≡ start_refusal claimed.old doubtful.old) × (result.transfer ≡ start_of len claimed.old doubtful.old) × (claimed.new ≡ start_after claimed.old doubtful.old claimed.old) × (doubtful.new ≡ start_after claimed.old doubtful.old doubtful.old) }
 {
     let started = start::start(len, claimed, doubtful);
-    let receiver = started.receiver;
-    let fresh = receiver.transfer;
     Started {
-        transfer: fresh,
-        refused: started.refused,
+        transfer: started.receiver.transfer,
+        refused: written::number_of(started.answer),
     }
 }
 
+// Stays: the words' numbers are C's, so no conversion of the verdict's own crate has them; `verdict_code` of specs/ says them.
 fn verdict_code(v: Verdict) -> u8
     ensures { result ≡ verdict_code (to_verdict v) }
 {
@@ -81,6 +81,7 @@ fn verdict_code(v: Verdict) -> u8
     }
 }
 
+// Stays: the parameters are the C interface's.
 #[unsafe(no_mangle)]
 pub extern "C" fn cob2_receive(
     transfer: Transfer,
@@ -92,57 +93,16 @@ pub extern "C" fn cob2_receive(
 ) -> Received
     ensures { let left = receive_of (world transfer file.old claimed.old doubtful.old) channel piece.now in (result ≡ received_by left) × (file.new ≡ left.1.lent.file) × (claimed.new ≡ left.1.lent.claimed) × (doubtful.new ≡ left.1.lent.doubtful) }
 {
-    let receiver = Receiver { transfer: transfer };
-    let received = receiver.receive(channel, piece, file, claimed, doubtful);
-    let after = received.receiver;
-    let t = after.transfer;
-    let verdict = received.verdict;
-    let word = verdict_code(verdict);
-    let answer = received.answer;
-    match answer {
-        Answer::Took(n) => Received {
-            transfer: t,
-            taken: n,
-            verdict: word,
-            refused: 0,
-        },
-        Answer::Refused(k) => Received {
-            transfer: t,
-            taken: 0,
-            verdict: word,
-            refused: k,
-        },
-    }
-}
-
-fn shown(n: Shown) -> ScreenNumbers
-    ensures { result ≡ shown_by (Shows n) }
-{
-    let verdict = n.verdict;
-    ScreenNumbers {
-        ended: n.ended,
-        count: n.count,
-        fault: n.fault,
-        on: n.on,
-        bytes: n.bytes,
-        doubtful: n.doubtful,
-        verdict: verdict_code(verdict),
-        refused: 0,
-    }
-}
-
-fn not_shown(k: u8) -> ScreenNumbers
-    ensures { result ≡ shown_by (Refused k) }
-{
-    ScreenNumbers {
-        ended: 0,
-        count: 0,
-        fault: 0,
-        on: 0,
-        bytes: 0,
-        doubtful: 0,
-        verdict: 0,
-        refused: k,
+    let received = Receiver { transfer }.receive(channel, piece, file, claimed, doubtful);
+    let (taken, refused) = match received.answer {
+        Ok(taken) => (taken, 0),
+        Err(refusal) => (0, u8::from(refusal)),
+    };
+    Received {
+        transfer: received.receiver.transfer,
+        taken,
+        verdict: verdict_code(received.verdict),
+        refused,
     }
 }
 
@@ -151,14 +111,25 @@ fn not_shown(k: u8) -> ScreenNumbers
 pub extern "C" fn cob_shown(transfer: Transfer, claimed: &[u64], doubtful: &[u64]) -> ScreenNumbers
     ensures { result ≡ shown_by (shown_of transfer claimed.now doubtful.now) }
 {
-    let receiver = Receiver { transfer: transfer };
-    let screen = receiver.shown(claimed, doubtful);
-    match screen {
-        Screen::Shows(n) => shown(n),
-        Screen::Refused(k) => not_shown(k),
+    match (Receiver { transfer }).shown(claimed, doubtful) {
+        Ok(shown) => ScreenNumbers {
+            ended: shown.ended,
+            count: shown.count,
+            fault: shown.fault,
+            on: shown.on,
+            bytes: shown.bytes,
+            doubtful: shown.doubtful,
+            verdict: verdict_code(shown.verdict),
+            refused: 0,
+        },
+        Err(refusal) => ScreenNumbers {
+            refused: u8::from(refusal),
+            ..ScreenNumbers::default()
+        },
     }
 }
 
+// Stays: the parameters are the C interface's.
 #[unsafe(no_mangle)]
 pub extern "C" fn cob2_screen_line(
     transfer: Transfer,
@@ -168,6 +139,5 @@ pub extern "C" fn cob2_screen_line(
 ) -> Written
     ensures { (result ≡ written_of (screen_of transfer claimed.now doubtful.now out.old)) × (out.new ≡ screen_after transfer claimed.now doubtful.now out.old) }
 {
-    let receiver = Receiver { transfer: transfer };
-    written::from_answer(line::write(receiver, claimed, doubtful, out))
+    Written::from(line::write(Receiver { transfer }, claimed, doubtful, out))
 }

@@ -2,12 +2,13 @@
 ghost use Rattle.std.specs.Prelude.{◌≡◌};
 ghost use Rattle.console.specs.Console.{line, ending};
 ghost use Rattle.console.specs.Rows.{answer_to};
-ghost use Rattle.host.specs.Consoles.{one_if, endpoint_meant, endpoint_code, verdict_meant, console_meant, answered_by};
+ghost use Rattle.host.specs.Consoles.{endpoint_meant, endpoint_code, verdict_meant, console_meant, numbers_of, answered_by};
 
 use console::state::{Answer, Console, Endpoint};
 use console::{endings, lines};
 use verdicts::verdict::Verdict;
 
+// Stays: a C struct holds no enum with values, so a refusal, a kind and a code are numbers, 0 for none.
 #[repr(C)]
 #[derive(Clone, Copy)]
 pub struct ConsoleNumbers {
@@ -19,6 +20,7 @@ pub struct ConsoleNumbers {
     pub running: u8,
 }
 
+// Stays: a C struct holds no enum with values, so a refusal, a kind and a code are numbers, 0 for none.
 #[repr(C)]
 #[derive(Clone, Copy)]
 pub struct Answered {
@@ -30,15 +32,7 @@ pub struct Answered {
     pub suspect: u8,
 }
 
-fn one_if(b: bool) -> u8
-    ensures { result ≡ one_if b }
-{
-    if b {
-        return 1;
-    }
-    0
-}
-
+// Stays: the numbers are C's, and each of 256 means something, so no From or TryFrom of the console's crate, here and below.
 fn endpoint_meant(n: u8) -> Endpoint
     ensures { result ≡ endpoint_meant n }
 {
@@ -71,29 +65,39 @@ fn verdict_meant(n: u8) -> Verdict
     }
 }
 
-fn console_meant(n: ConsoleNumbers) -> Console
-    ensures { result ≡ console_meant n }
-{
-    Console {
-        extended: 0 < n.extended,
-        endpoint: endpoint_meant(n.endpoint),
-        running: 0 < n.running,
+impl From<ConsoleNumbers> for Console {
+    ghost from_gives = { λ numbers console. console ≡ console_meant numbers };
+
+    fn from(numbers: ConsoleNumbers) -> Console {
+        Console {
+            extended: numbers.extended != 0,
+            endpoint: endpoint_meant(numbers.endpoint),
+            running: numbers.running != 0,
+        }
     }
 }
 
-fn to_numbers(a: Answer) -> Answered
-    ensures { result ≡ answered_by a }
-{
-    let console = a.console;
-    let endpoint = console.endpoint;
-    Answered {
-        console: ConsoleNumbers {
-            extended: one_if(console.extended),
-            endpoint: endpoint_code(endpoint),
-            running: one_if(console.running),
-        },
-        code: a.code,
-        suspect: one_if(a.suspect),
+impl From<Console> for ConsoleNumbers {
+    ghost from_gives = { λ console numbers. numbers ≡ numbers_of console };
+
+    fn from(console: Console) -> ConsoleNumbers {
+        ConsoleNumbers {
+            extended: u8::from(console.extended),
+            endpoint: endpoint_code(console.endpoint),
+            running: u8::from(console.running),
+        }
+    }
+}
+
+impl From<Answer> for Answered {
+    ghost from_gives = { λ answer answered. answered ≡ answered_by answer };
+
+    fn from(answer: Answer) -> Answered {
+        Answered {
+            console: ConsoleNumbers::from(answer.console),
+            code: answer.code.unwrap_or(0),
+            suspect: u8::from(answer.suspect),
+        }
     }
 }
 
@@ -101,12 +105,12 @@ fn to_numbers(a: Answer) -> Answered
 pub extern "C" fn cob_console_line(console: ConsoleNumbers, bytes: &[u8]) -> Answered
     ensures { result ≡ answered_by (answer_to (console_meant console) (line bytes.now)) }
 {
-    to_numbers(lines::answer(console_meant(console), bytes))
+    Answered::from(lines::answer(Console::from(console), bytes))
 }
 
 #[unsafe(no_mangle)]
 pub extern "C" fn cob_console_end(console: ConsoleNumbers, verdict: u8) -> Answered
     ensures { result ≡ answered_by (answer_to (console_meant console) (ending (verdict_meant verdict))) }
 {
-    to_numbers(endings::answer(console_meant(console), verdict_meant(verdict)))
+    Answered::from(endings::answer(Console::from(console), verdict_meant(verdict)))
 }

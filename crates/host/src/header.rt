@@ -4,13 +4,13 @@ ghost use Rattle.eblock.specs.Header.{read_of, write_of, write_after};
 ghost use Rattle.host.specs.Header.{fields_of};
 ghost use Rattle.host.specs.Written.{written_of};
 
-use crate::written;
 use crate::written::Written;
 use eblock::header;
 use eblock::header::Header;
 
+// Stays: a C struct holds no enum with values, so a refusal, a kind and a code are numbers, 0 for none.
 #[repr(C)]
-#[derive(Clone, Copy)]
+#[derive(Clone, Copy, Default)]
 pub struct Fields {
     // The payload's length, 0 with EODC.
     pub length: u64,
@@ -26,33 +26,28 @@ pub struct Fields {
 pub extern "C" fn cob_header_read(bytes: &[u8]) -> Fields
     ensures { result ≡ fields_of (read_of bytes.now) }
 {
-    let answer = header::read(bytes);
-    match answer {
-        Header::Data {
-            descriptor,
-            length,
-            offset,
-        } => Fields {
-            length: length,
-            third: offset,
-            descriptor: descriptor,
-            is_eodc: 0,
-            refused: 0,
-        },
-        Header::Eodc { descriptor, count } => Fields {
-            length: 0,
-            third: count,
-            descriptor: descriptor,
-            is_eodc: 1,
-            refused: 0,
-        },
-        Header::Refused(k) => Fields {
-            length: 0,
-            third: 0,
-            descriptor: 0,
-            is_eodc: 0,
-            refused: k,
-        },
+    let (descriptor, length, third, is_eodc) = match header::read(bytes) {
+        Ok(
+            Header::Data {
+                descriptor,
+                length,
+                offset,
+            },
+        ) => (descriptor, length, offset, 0),
+        Ok(Header::Eodc { descriptor, count }) => (descriptor, 0, count, 1),
+        Err(refusal) => {
+            return Fields {
+                refused: u8::from(refusal),
+                ..Fields::default()
+            };
+        }
+    };
+    Fields {
+        length,
+        third,
+        descriptor,
+        is_eodc,
+        refused: 0,
     }
 }
 
@@ -66,5 +61,5 @@ pub extern "C" fn cob_header_write(
 ) -> Written
     ensures { (result ≡ written_of (write_of descriptor third out.old)) × (out.new ≡ write_after descriptor length third out.old) }
 {
-    written::from_answer(header::write(descriptor, length, third, out))
+    Written::from(header::write(descriptor, length, third, out))
 }

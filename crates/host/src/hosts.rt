@@ -5,20 +5,20 @@ ghost use Rattle.hostports.specs.HostPort.{host_port_at};
 ghost use Rattle.host.specs.Hosts.{host_port_count_of, host_port_at_of};
 
 use hostlists::list;
-use hostlists::list::Hosts;
 use hostports::host_port;
-use hostports::host_port::ParsedHostPort;
 
+// Stays: a C struct holds no enum with values, so a refusal, a kind and a code are numbers, 0 for none.
 #[repr(C)]
-#[derive(Clone, Copy)]
+#[derive(Clone, Copy, Default)]
 pub struct HostPortCount {
     // How many host-ports the text has.
     pub count: usize,
     pub refused: u8,
 }
 
+// Stays: a C struct holds no enum with values, so a refusal, a kind and a code are numbers, 0 for none.
 #[repr(C)]
-#[derive(Clone, Copy)]
+#[derive(Clone, Copy, Default)]
 pub struct HostPortAt {
     // address * 65,536 + port.
     pub value: u64,
@@ -32,15 +32,11 @@ pub struct HostPortAt {
 pub extern "C" fn cob_hosts_read(text: &[u8], list: &mut [u64]) -> HostPortCount
     ensures { (result ≡ host_port_count_of (fill_of text.now list.old)) × (list.new ≡ fill_after text.now list.old) }
 {
-    let answer = list::fill(text, list);
-    match answer {
-        Hosts::Count(n) => HostPortCount {
-            count: n,
-            refused: 0,
-        },
-        Hosts::Refused(k) => HostPortCount {
+    match list::fill(text, list) {
+        Ok(count) => HostPortCount { count, refused: 0 },
+        Err(refusal) => HostPortCount {
             count: 0,
-            refused: k,
+            refused: u8::from(refusal),
         },
     }
 }
@@ -50,17 +46,12 @@ pub extern "C" fn cob_hosts_read(text: &[u8], list: &mut [u64]) -> HostPortCount
 pub extern "C" fn cob_host_at(text: &[u8], at: usize) -> HostPortAt
     ensures { result ≡ host_port_at_of (host_port_at text.now at) }
 {
-    let parsed = host_port::read_at(text, at);
-    match parsed {
-        ParsedHostPort::HostPort { value, next } => HostPortAt {
-            value: value,
-            next: next,
+    match host_port::read_at(text, at) {
+        Some(parsed) => HostPortAt {
+            value: parsed.value,
+            next: parsed.next,
             found: 1,
         },
-        ParsedHostPort::Malformed => HostPortAt {
-            value: 0,
-            next: 0,
-            found: 0,
-        },
+        None => HostPortAt::default(),
     }
 }

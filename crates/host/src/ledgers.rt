@@ -1,6 +1,6 @@
 // A ledger as range list and as saved bytes, read and written, and saved bytes of one kind as those of the other.
 ghost use Rattle.std.specs.Prelude.{◌≡◌};
-ghost use Rattle.answers.specs.Loaded.{loaded_number};
+ghost use Rattle.answers.specs.Refusal.{number_in};
 ghost use Rattle.rangelists.specs.RangeText.{read_ranges, read_ranges_after, write_ranges, write_ranges_after};
 ghost use Rattle.savedledgers.specs.Saved.{read_saved, read_saved_after, read_sized, read_sized_after, write_saved, write_saved_after};
 ghost use Rattle.savedconversions.specs.Conversion.{to_two, to_two_after, to_one, to_one_after};
@@ -9,12 +9,12 @@ ghost use Rattle.host.specs.Written.{written_of};
 
 use crate::written;
 use crate::written::Written;
-use answers::loaded::Loaded;
 use rangelists::ranges;
 use savedconversions::conversion;
-use savedledgers::{loaded_for, saved};
+use savedledgers::saved;
 
 // What the reader of kind 2 answers.
+// Stays: a C struct holds no enum with values, so a refusal, a kind and a code are numbers, 0 for none.
 #[repr(C)]
 #[derive(Clone, Copy)]
 pub struct LoadedFor {
@@ -23,41 +23,32 @@ pub struct LoadedFor {
     pub refused: u8,
 }
 
-fn number_of(l: Loaded) -> u8
-    ensures { result ≡ loaded_number l }
-{
-    match l {
-        Loaded::Done => 0,
-        Loaded::Refused(k) => k,
-    }
-}
-
 #[unsafe(no_mangle)]
 pub extern "C" fn cob_ranges_read(text: &[u8], ledger: &mut [u64]) -> u8
-    ensures { (result ≡ loaded_number (read_ranges text.now ledger.old)) × (ledger.new ≡ read_ranges_after text.now ledger.old) }
+    ensures { (result ≡ number_in (read_ranges text.now ledger.old)) × (ledger.new ≡ read_ranges_after text.now ledger.old) }
 {
-    number_of(ranges::read(text, ledger))
+    written::number_of(ranges::read(text, ledger))
 }
 
 #[unsafe(no_mangle)]
 pub extern "C" fn cob_ranges_write(ledger: &[u64], out: &mut [u8]) -> Written
     ensures { (result ≡ written_of (write_ranges ledger.now out.old)) × (out.new ≡ write_ranges_after ledger.now out.old) }
 {
-    written::from_answer(ranges::write(ledger, out))
+    Written::from(ranges::write(ledger, out))
 }
 
 #[unsafe(no_mangle)]
 pub extern "C" fn cob_saved_read(bytes: &[u8], ledger: &mut [u64]) -> u8
-    ensures { (result ≡ loaded_number (read_saved bytes.now ledger.old)) × (ledger.new ≡ read_saved_after bytes.now ledger.old) }
+    ensures { (result ≡ number_in (read_saved bytes.now ledger.old)) × (ledger.new ≡ read_saved_after bytes.now ledger.old) }
 {
-    number_of(saved::read(bytes, ledger))
+    written::number_of(saved::read(bytes, ledger))
 }
 
 #[unsafe(no_mangle)]
 pub extern "C" fn cob_saved_write(ledger: &[u64], out: &mut [u8]) -> Written
     ensures { (result ≡ written_of (write_saved ledger.now out.old)) × (out.new ≡ write_saved_after ledger.now out.old) }
 {
-    written::from_answer(saved::write(ledger, out))
+    Written::from(saved::write(ledger, out))
 }
 
 // Reads kind 2, which says how long the file is.
@@ -65,15 +56,11 @@ pub extern "C" fn cob_saved_write(ledger: &[u64], out: &mut [u8]) -> Written
 pub extern "C" fn cob_saved2_read(bytes: &[u8], ledger: &mut [u64]) -> LoadedFor
     ensures { (result ≡ loaded_for_of (read_sized bytes.now ledger.old)) × (ledger.new ≡ read_sized_after bytes.now ledger.old) }
 {
-    let answer = saved::read_sized(bytes, ledger);
-    match answer {
-        loaded_for::LoadedFor::FileLength(f) => LoadedFor {
-            length: f,
-            refused: 0,
-        },
-        loaded_for::LoadedFor::Refused(k) => LoadedFor {
+    match saved::read_sized(bytes, ledger) {
+        Ok(length) => LoadedFor { length, refused: 0 },
+        Err(refusal) => LoadedFor {
             length: 0,
-            refused: k,
+            refused: u8::from(refusal),
         },
     }
 }
@@ -83,7 +70,7 @@ pub extern "C" fn cob_saved2_read(bytes: &[u8], ledger: &mut [u64]) -> LoadedFor
 pub extern "C" fn cob_saved_to_2(len: u64, bytes: &[u8], out: &mut [u8]) -> Written
     ensures { (result ≡ written_of (to_two len bytes.now out.old)) × (out.new ≡ to_two_after len bytes.now out.old) }
 {
-    written::from_answer(conversion::to_two(len, bytes, out))
+    Written::from(conversion::to_two(len, bytes, out))
 }
 
 // Kind 2 as kind 1.
@@ -91,5 +78,5 @@ pub extern "C" fn cob_saved_to_2(len: u64, bytes: &[u8], out: &mut [u8]) -> Writ
 pub extern "C" fn cob_saved_to_1(bytes: &[u8], out: &mut [u8]) -> Written
     ensures { (result ≡ written_of (to_one bytes.now out.old)) × (out.new ≡ to_one_after bytes.now out.old) }
 {
-    written::from_answer(conversion::to_one(bytes, out))
+    Written::from(conversion::to_one(bytes, out))
 }

@@ -4,10 +4,10 @@ ghost use Rattle.commands.specs.Line.{read_of};
 ghost use Rattle.host.specs.Line.{command_of};
 
 use commands::line;
-use commands::line::Line;
 
+// Stays: a C struct holds no enum with values, so a refusal, a kind and a code are numbers, 0 for none.
 #[repr(C)]
-#[derive(Clone, Copy)]
+#[derive(Clone, Copy, Default)]
 pub struct Command {
     // The places of the argument in the line, the second not counted.
     pub from: usize,
@@ -21,19 +21,16 @@ pub struct Command {
 pub extern "C" fn cob_line_read(line: &[u8]) -> Command
     ensures { result ≡ command_of (read_of line.now) }
 {
-    let answer = line::read(line);
-    match answer {
-        Line::Command { verb, from, to } => Command {
-            from: from,
-            to: to,
-            verb: verb,
+    match line::read(line) {
+        Ok(command) => Command {
+            from: command.from,
+            to: command.to,
+            verb: u8::from(command.verb),
             refused: 0,
         },
-        Line::Refused(k) => Command {
-            from: 0,
-            to: 0,
-            verb: 0,
-            refused: k,
+        Err(refusal) => Command {
+            refused: u8::from(refusal),
+            ..Command::default()
         },
     }
 }

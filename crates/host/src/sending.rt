@@ -4,9 +4,11 @@ ghost use Rattle.sender.specs.Sender.{begin_refusal, begin_of, next_call, next_o
 ghost use Rattle.host.specs.Sending.{sent_by};
 
 use crate::written;
+use crate::written::Written;
 use sender::state::Sender;
 use sender::{begin, next};
 
+// Stays: a C struct holds no enum with values, so a refusal, a kind and a code are numbers, 0 for none.
 #[repr(C)]
 #[derive(Clone, Copy)]
 pub struct Begun {
@@ -15,6 +17,7 @@ pub struct Begun {
     pub refused: u8,
 }
 
+// Stays: a C struct holds no enum with values, so a refusal, a kind and a code are numbers, 0 for none.
 #[repr(C)]
 #[derive(Clone, Copy)]
 pub struct Sent {
@@ -30,10 +33,9 @@ pub extern "C" fn cob_sender_begin(len: u64, count: u64, size: u64) -> Begun
     ensures { (result.refused ≡ begin_refusal count size) × (result.sender ≡ begin_of len count size) }
 {
     let begun = begin::begin(len, count, size);
-    let fresh = begun.sender;
     Begun {
-        sender: fresh,
-        refused: begun.refused,
+        sender: begun.sender,
+        refused: written::number_of(begun.answer),
     }
 }
 
@@ -50,12 +52,10 @@ pub extern "C" fn cob_sender_next(
     ensures { let k = next_call channel count size file.now out.old in (result ≡ sent_by (next_of sender k) (sender_after sender k)) × (out.new ≡ next_after sender k) }
 {
     let sent = next::next(sender, channel, count, size, file, out);
-    let after = sent.sender;
-    let answer = sent.answer;
-    let w = written::from_answer(answer);
+    let Written { length, refused } = Written::from(sent.answer);
     Sent {
-        sender: after,
-        length: w.length,
-        refused: w.refused,
+        sender: sent.sender,
+        length,
+        refused,
     }
 }

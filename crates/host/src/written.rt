@@ -1,9 +1,11 @@
-// What every writer answers.
+// What every writer answers, and the number in any answer.
 ghost use Rattle.std.specs.Prelude.{◌≡◌};
+ghost use Rattle.answers.specs.Refusal.{numbered, refusal_number};
 ghost use Rattle.host.specs.Written.{written_of};
 
-use answers::written;
+use answers::refusal::Refusal;
 
+// Stays: a C struct holds no enum with values, so a refusal, a kind and a code are numbers, 0 for none.
 #[repr(C)]
 #[derive(Clone, Copy)]
 pub struct Written {
@@ -12,17 +14,26 @@ pub struct Written {
     pub refused: u8,
 }
 
-pub fn from_answer(answer: written::Written) -> Written
-    ensures { result ≡ written_of answer }
+impl From<Result<usize, Refusal>> for Written {
+    ghost from_gives = { λ answer written. written ≡ written_of (numbered answer) };
+
+    fn from(answer: Result<usize, Refusal>) -> Written {
+        match answer {
+            Ok(length) => Written { length, refused: 0 },
+            Err(refusal) => Written {
+                length: 0,
+                refused: u8::from(refusal),
+            },
+        }
+    }
+}
+
+// 0 where nothing is refused.
+pub(crate) fn number_of(answer: Result<(), Refusal>) -> u8
+    ensures { result ≡ refusal_number answer }
 {
     match answer {
-        written::Written::Bytes(n) => Written {
-            length: n,
-            refused: 0,
-        },
-        written::Written::Refused(k) => Written {
-            length: 0,
-            refused: k,
-        },
+        Ok(()) => 0,
+        Err(refusal) => u8::from(refusal),
     }
 }
