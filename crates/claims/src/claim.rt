@@ -87,6 +87,7 @@ pub fn judge(ledger: &[u64], start: u64, end: u64) -> Result<Slot, Refusal>
 }
 
 // The number of pairs that start by end: those that end below it, and the one at its place where that one starts by it.
+// Stays: the rule is a premise here and below, since join and put, which these serve, answer any list.
 fn starting_by(ledger: &[u64], end: u64) -> usize
     ensures { (result ≤ capacity ledger.now) × (obeys ledger.now ≡ true → result ≡ count_starting_by end (pairs_of ledger.now)) }
 {

@@ -19,6 +19,7 @@ pub struct Place {
 }
 
 // Whether the pair with the number i is used and ends below start.
+// Stays: a pair by its number, as `FindResult` counts looks at numbered pairs; `first_pair` is for walks from the front.
 #[tactic(auto, unfolding(crate::specs::Place::ends_below))]
 fn ends_below(ledger: &[u64], i: usize, start: u64) -> bool
     requires { i < capacity ledger.now }

@@ -27,6 +27,7 @@ fn joined(entries: &[u64]) -> u64
 }
 
 // Whether the entries are all 0. It reads them all, by 64, so that the compiler can make vector code of it.
+// Stays: channelchecks asks this of bytes; one function of both widths would need a trait with the laws of `|` and 0 for one line there.
 fn all_zero(entries: &[u64]) -> bool
     ensures { result ≡ all_zero entries.now }
 {

@@ -26,6 +26,7 @@ pub fn write(rt: &impl Print, mut body: Body) -> Result<(), Malformed> {
     let third = body.u64()?;
     let lent = body.u8()?;
     body.end()?;
+    // Stays: fixed memory, no heap.
     let mut space = [BYTE; 255];
     let out = front(&mut space, u64::from(lent))?;
     let answer = header::write(descriptor, length, third, out);

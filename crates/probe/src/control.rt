@@ -34,6 +34,7 @@ pub fn reply(rt: &impl Print, mut body: Body) -> Result<(), Malformed> {
 }
 
 pub fn host_ports(rt: &impl Print, mut body: Body) -> Result<(), Malformed> {
+    // Stays: fixed memory, no heap.
     let mut space = [ENTRY; 200];
     let list = front(&mut space, u64::from(body.u16()?))?;
     let answer = list::fill(body.rest(), list);

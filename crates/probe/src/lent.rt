@@ -17,6 +17,7 @@ fn poke(ledger: &mut Part<u64>, mut body: Body) -> Result<(), Malformed> {
 impl Receiving<'_> {
     // The screen line, which ends the line that it is on.
     pub fn print_screen(&self, rt: &impl Print) {
+        // Stays: fixed memory, no heap.
         let mut out = [BYTE; 128];
         match line::write(
             self.receiver,

@@ -153,6 +153,7 @@ impl From<Shown> for Line {
 }
 
 // 1 where transfer and ledgers don't fit, then 55.
+// Stays: receiver, ledgers and out as parameters, since docs/ name this function, and a C host lends them one by one.
 pub fn write(
     receiver: Receiver,
     claimed: &[u64],

@@ -23,6 +23,7 @@ fn fresh(len: u64, count: u64, size: u64) -> Sender
         len,
         count,
         size,
+        // Stays: as long as the sender's, which a C host holds (state::Sender).
         given: [0; 64],
     }
 }
