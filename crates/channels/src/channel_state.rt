@@ -17,7 +17,7 @@ pub struct ChannelState {
     pub held: u8,
     pub next: u64,
     pub left: u64,
-    // Stays: of these, `held` are held; fixed memory, as in the transfer's.
+    // Stays: fixed memory, as the transfer has it; the field `held` says how many of them are held.
     pub bytes: [u8; 16],
 }
 

@@ -30,7 +30,7 @@ fn faulty(x: ChannelState, c: usize, fault: Refusal) -> NextState
     }
 }
 
-// Stays: the ledgers are lent one by one: of one struct each contract would owe that its parts keep their `ghost_name`.
+// Stays: the ledgers are lent one by one: with a struct of them each contract would also have to say that its parts keep their `ghost_name`.
 // A range that a header asks for: its fault, or it is claimed, in both ledgers where it is doubtful, and its payload opened.
 fn claim_or_fault(
     x: ChannelState,

@@ -8,7 +8,7 @@ use console::state::{Answer, Console, Endpoint};
 use console::{endings, lines};
 use verdicts::verdict::Verdict;
 
-// Stays: a C struct holds no enum with values, so a refusal, a kind and a code are numbers, 0 for none.
+// Stays: a C host may put any number there, so the parts of the state are numbers, and each number means something.
 #[repr(C)]
 #[derive(Clone, Copy)]
 pub struct ConsoleNumbers {

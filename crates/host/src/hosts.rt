@@ -16,7 +16,7 @@ pub struct HostPortCount {
     pub refused: u8,
 }
 
-// Stays: a C struct holds no enum with values, so a refusal, a kind and a code are numbers, 0 for none.
+// Stays: a C struct holds no Option, so `found` is 1 or 0.
 #[repr(C)]
 #[derive(Clone, Copy, Default)]
 pub struct HostPortAt {

@@ -31,7 +31,7 @@ fn inside(ledger: &[u64], start: u64, end: u64) -> bool
 
 // Whether so many places from start on lie inside one pair. No entry is above the largest number, so places that end past it lie in none.
 // For a ledger that breaks the rule, or no places, the answer is left open.
-// Stays: that the ledger obeys its rule is a premise, here and of `inside`, and no type, since contains_range answers for any list.
+// Stays: that the ledger obeys its rule is a premise, here and of `inside`, and no type: docs/PROMISES.md names contains_range, which answers any list.
 pub fn contains_range(ledger: &[u64], start: u64, length: u64) -> bool
     ensures { 0 < length → obeys ledger.now ≡ true → result ≡ inside start (start + length) (pairs_of ledger.now) }
 {

@@ -47,7 +47,7 @@ fn range_text_length(a: u64, b: u64) -> usize
 }
 
 // Writes the range from a up to b at a place, and answers the place after it.
-// Stays: places by hand: a line as in screen holds its bytes, and these are lent and can be more than is held.
+// Stays: places by hand: screen's Line holds its 116 bytes itself; these are lent, and can be more than fixed memory holds.
 fn put_range(out: &mut [u8], at: usize, a: u64, b: u64) -> usize
     requires { (0 < b) × (at + length (range_text a b) ≤ length out.old) }
     ensures { WritesAt out.old at (range_text a b) result out.new }

@@ -74,7 +74,7 @@ fn refused(t: Transfer, refusal: Refusal, doubtful: &[u64]) -> Received
 }
 
 // What a call that is not refused answers, on channel c, for what FIT found.
-// Stays: file and ledgers are lent one by one: of one struct each contract would owe that its parts keep their `ghost_name`.
+// Stays: file and ledgers are lent one by one: with a struct of them each contract would also have to say that its parts keep their `ghost_name`.
 fn taken(
     t: &Transfer,
     c: usize,
@@ -103,7 +103,7 @@ fn taken(
 
 impl Receiver {
     // Takes a piece on a channel. Refused by 1 to 4 it changes nothing; a fault is no refusal, it shows in the verdict.
-    // Stays: file and ledgers are lent one by one: of one struct each contract would owe that its parts keep their `ghost_name`.
+    // Stays: file and ledgers are lent one by one: with a struct of them each contract would also have to say that its parts keep their `ghost_name`.
     pub fn receive(
         self,
         channel: u64,

@@ -51,7 +51,7 @@ fn check(session: Session, held: &[u8], n: usize, out: &[u8]) -> Result<(), Refu
 }
 
 // Step by step to the chunk's end, or to a record that is malformed.
-// Stays: file and ledgers are lent one by one: of one struct each contract would owe that its parts keep their `ghost_name`.
+// Stays: file and ledgers are lent one by one: with a struct of them each contract would also have to say that its parts keep their `ghost_name`.
 fn take(
     session: Session,
     chunk: &[u8],
@@ -97,7 +97,7 @@ fn take(
 }
 
 // The same, and the held bytes that are not in use become 0.
-// Stays: file and ledgers are lent one by one: of one struct each contract would owe that its parts keep their `ghost_name`.
+// Stays: file and ledgers are lent one by one: with a struct of them each contract would also have to say that its parts keep their `ghost_name`.
 fn take_and_clear(
     session: Session,
     chunk: &[u8],
@@ -118,7 +118,7 @@ fn take_and_clear(
 // Takes a chunk, of any length, and writes what its records print to the front of the lent bytes. 1 where the held bytes are not the beginning of
 // one record that is not whole, 55 where fewer bytes are lent than 192 and 16 for each of the chunk; nothing changes then. After a malformed record
 // nothing is read.
-// Stays: file and ledgers are lent one by one: of one struct each contract would owe that its parts keep their `ghost_name`.
+// Stays: file and ledgers are lent one by one: with a struct of them each contract would also have to say that its parts keep their `ghost_name`.
 pub fn feed(
     session: Session,
     chunk: &[u8],

@@ -24,7 +24,7 @@ pub enum Looked {
 }
 
 // The first n bytes are a record.
-// Stays: file and ledgers are lent one by one: of one struct each contract would owe that its parts keep their `ghost_name`.
+// Stays: file and ledgers are lent one by one: with a struct of them each contract would also have to say that its parts keep their `ghost_name`.
 fn answered(
     p: Progress,
     bytes: &[u8],
@@ -47,7 +47,7 @@ fn answered(
     }
 }
 
-// Stays: file and ledgers are lent one by one: of one struct each contract would owe that its parts keep their `ghost_name`.
+// Stays: file and ledgers are lent one by one: with a struct of them each contract would also have to say that its parts keep their `ghost_name`.
 pub fn look(
     p: Progress,
     bytes: &[u8],

@@ -42,7 +42,7 @@ fn after_look(p: Progress, looked: Looked, waiting: usize, taken: usize) -> Step
 }
 
 // Where nothing is held: the chunk's own first record, or all of it held.
-// Stays: file and ledgers are lent one by one: of one struct each contract would owe that its parts keep their `ghost_name`.
+// Stays: file and ledgers are lent one by one: with a struct of them each contract would also have to say that its parts keep their `ghost_name`.
 fn step_chunk(
     s: Session,
     chunk: &[u8],
@@ -65,7 +65,7 @@ fn step_chunk(
 }
 
 // Where a record has begun: the bytes that it lacks, as far as its length is known and the chunk has them.
-// Stays: file and ledgers are lent one by one: of one struct each contract would owe that its parts keep their `ghost_name`.
+// Stays: file and ledgers are lent one by one: with a struct of them each contract would also have to say that its parts keep their `ghost_name`.
 fn step_held(
     s: Session,
     chunk: &[u8],
@@ -87,7 +87,7 @@ fn step_held(
     after_look(s.progress, looked, end, n)
 }
 
-// Stays: file and ledgers are lent one by one: of one struct each contract would owe that its parts keep their `ghost_name`.
+// Stays: file and ledgers are lent one by one: with a struct of them each contract would also have to say that its parts keep their `ghost_name`.
 pub fn step(
     s: Session,
     chunk: &[u8],

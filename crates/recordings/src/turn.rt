@@ -51,7 +51,7 @@ fn put_taken(
 }
 
 // A start: the file's bytes become 0, and so do the pairs of both ledgers.
-// Stays: file and ledgers are lent one by one: of one struct each contract would owe that its parts keep their `ghost_name`.
+// Stays: file and ledgers are lent one by one: with a struct of them each contract would also have to say that its parts keep their `ghost_name`.
 fn start_turn(
     p: Progress,
     len: u64,
@@ -85,7 +85,7 @@ fn start_turn(
 }
 
 // A piece after a start.
-// Stays: file and ledgers are lent one by one: of one struct each contract would owe that its parts keep their `ghost_name`.
+// Stays: file and ledgers are lent one by one: with a struct of them each contract would also have to say that its parts keep their `ghost_name`.
 fn piece_turn(
     p: Progress,
     channel: u8,
@@ -129,7 +129,7 @@ fn piece_turn(
 }
 
 // A record with its frame; nothing where it is malformed, which writes nothing.
-// Stays: file and ledgers are lent one by one: of one struct each contract would owe that its parts keep their `ghost_name`.
+// Stays: file and ledgers are lent one by one: with a struct of them each contract would also have to say that its parts keep their `ghost_name`.
 pub fn of_record(
     p: Progress,
     bytes: &[u8],

@@ -52,7 +52,7 @@ fn room(x: ChannelState) -> usize
 }
 
 // The piece has the bytes up to the 16th, so many, and the 17th too: the header is made whole and judged.
-// Stays: the ledgers are lent one by one: of one struct each contract would owe that its parts keep their `ghost_name`.
+// Stays: the ledgers are lent one by one: with a struct of them each contract would also have to say that its parts keep their `ghost_name`.
 fn judge_run(
     x: ChannelState,
     c: usize,
@@ -76,7 +76,7 @@ fn judge_run(
 }
 
 // Bytes for a header.
-// Stays: the ledgers are lent one by one: of one struct each contract would owe that its parts keep their `ghost_name`.
+// Stays: the ledgers are lent one by one: with a struct of them each contract would also have to say that its parts keep their `ghost_name`.
 pub fn header_run(
     x: ChannelState,
     c: usize,

@@ -32,7 +32,7 @@ fn gives_19(x: ChannelState, o: OtherChannels) -> bool
 }
 
 // Takes the bytes of the header or of the payload at hand. The last case is that of an ended channel, which takes none.
-// Stays: file and ledgers are lent one by one: of one struct each contract would owe that its parts keep their `ghost_name`.
+// Stays: file and ledgers are lent one by one: with a struct of them each contract would also have to say that its parts keep their `ghost_name`.
 pub fn run(
     x: ChannelState,
     c: usize,

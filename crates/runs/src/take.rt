@@ -20,7 +20,7 @@ pub struct CallResult {
 }
 
 // The bytes of a piece, run by run, until they are all taken or the call stops.
-// Stays: file and ledgers are lent one by one: of one struct each contract would owe that its parts keep their `ghost_name`.
+// Stays: file and ledgers are lent one by one: with a struct of them each contract would also have to say that its parts keep their `ghost_name`.
 pub fn take(
     x: ChannelState,
     c: usize,
