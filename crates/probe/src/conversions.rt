@@ -1,8 +1,9 @@
 // Kinds 42 and 43: a saved record of one kind as one of the other.
 use crate::body::{Body, Malformed};
-use crate::ledgers::byte_space;
-use crate::part::front;
+use crate::ledgers::BYTES;
+use crate::part::{BYTE, front};
 use crate::print::{Counted, Hex, say};
+use crate::space;
 use answers::refusal::Refusal;
 use savedconversions::conversion;
 
@@ -14,7 +15,7 @@ fn convert<F: FnOnce(&[u8], &mut [u8]) -> Result<usize, Refusal>>(
 ) -> Result<(), Malformed>
     requires { F.IsAlwaysCallable convert }
 {
-    let mut space = byte_space();
+    let mut space = space::bytes::<BYTES>(BYTE);
     let out = front(&mut space, u64::from(body.u16()?))?;
     let answer = convert(body.rest(), out);
     say!(rt; "{} {}", Counted("CONVERTED", answer), Hex(out));

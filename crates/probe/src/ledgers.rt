@@ -1,25 +1,16 @@
 // Kinds 37 to 41: a ledger as text and as a saved record.
-ghost use Rattle.std.specs.Prelude.{◌≡◌, length};
-
 use crate::body::{Body, Malformed};
 use crate::part::{BYTE, ENTRY, front};
 use crate::print::{Counted, Hex, Said, say, used};
+use crate::space;
 use answers::refusal::Refusal;
 use std::fmt;
 
 // Above the most entries that a ledger may have, so that it can be lent too long.
-fn entry_space() -> [u64; 8200]
-    ensures { 8200 ≡ length result }
-{
-    [ENTRY; 8200]
-}
+const ENTRIES: usize = 8200;
 
 // As many bytes as two bytes can name.
-pub fn byte_space() -> [u8; 65535]
-    ensures { 65535 ≡ length result }
-{
-    [BYTE; 65535]
-}
+pub const BYTES: usize = 65535;
 
 // What was read: a range list, a saved record of kind 1, or one of kind 2 with the file length that it has.
 #[derive(Clone, Copy)]
@@ -47,7 +38,7 @@ pub fn read<F: FnOnce(&[u8], &mut [u64]) -> Result<Loaded, Refusal>>(
 ) -> Result<(), Malformed>
     requires { F.IsAlwaysCallable read }
 {
-    let mut space = entry_space();
+    let mut space = space::entries::<ENTRIES>(ENTRY);
     let ledger = front(&mut space, u64::from(body.u16()?))?;
     let answer = read(body.rest(), ledger);
     say!(rt; "{} {}", Said(answer), used(ledger));
@@ -68,12 +59,12 @@ pub fn write<F: FnOnce(&[u64], &mut [u8]) -> Result<usize, Refusal>>(
     if !cut.is_empty() {
         return Err(Malformed);
     }
-    let mut entries = entry_space();
+    let mut entries = space::entries::<ENTRIES>(ENTRY);
     let ledger = front(&mut entries, numbers.len() as u64)?;
     for (entry, number) in ledger.iter_mut().zip(numbers) {
         *entry = u64::from_le_bytes(*number);
     }
-    let mut space = byte_space();
+    let mut space = space::bytes::<BYTES>(BYTE);
     let out = front(&mut space, u64::from(lent))?;
     let answer = write(ledger, out);
     say!(rt; "{} {}", Counted(word, answer), Hex(out));

@@ -15,8 +15,7 @@ mod part;
 mod print;
 mod sending;
 mod session;
-
-ghost use Rattle.std.specs.Prelude.{◌≡◌, length};
+mod space;
 
 use print::say;
 use session::Session;
@@ -26,7 +25,7 @@ use std::io::Read;
 const REQUESTS: u64 = 1099511627776;
 
 fn run(rt: &impl Print, input: &mut impl Read, session: &mut Session) {
-    let mut space = frame::space();
+    let mut space = space::bytes::<{ frame::SPACE }>(0);
     for number in 0..REQUESTS {
         let served = match frame::read(input, &mut space) {
             Ok(Some(request)) => kinds::serve(rt, session, request),
@@ -40,32 +39,15 @@ fn run(rt: &impl Print, input: &mut impl Read, session: &mut Session) {
     }
 }
 
-// Stays: a function for each long array, since the check of a larger function that makes one runs out of stack (tried in the main of replay).
-fn file_space() -> [u8; 65536]
-    ensures { 65536 ≡ length result }
-{
-    [0; 65536]
-}
-
-fn ledger_space() -> [u64; 8200]
-    ensures { 8200 ≡ length result }
-{
-    [0; 8200]
-}
-
 // As much as the longest body.
-fn source_space() -> [u8; 70000]
-    ensures { 70000 ≡ length result }
-{
-    [0; 70000]
-}
+const SOURCE: usize = 70000;
 
 fn main(rt: HostRuntime) {
     let mut input = rt.stdin();
-    let mut file = file_space();
-    let mut claimed = ledger_space();
-    let mut doubtful = ledger_space();
-    let mut source = source_space();
+    let mut file = space::bytes::<65536>(0);
+    let mut claimed = space::entries::<8200>(0);
+    let mut doubtful = space::entries::<8200>(0);
+    let mut source = space::bytes::<SOURCE>(0);
     let mut session = Session::new(&mut file, &mut claimed, &mut doubtful, &mut source);
     run(&rt, &mut input, &mut session);
 }

@@ -1,18 +1,13 @@
 // Kinds 48 to 51: the sender, and the file that it is lent.
-ghost use Rattle.std.specs.Prelude.{◌≡◌, length};
-
 use crate::body::{Body, Malformed};
 use crate::part::{BYTE, front};
 use crate::print::{Counted, Hex, Said, say};
 use crate::session::Sending;
+use crate::space;
 use sender::{begin, next};
 
 // As much as a call can be lent.
-fn byte_space() -> [u8; 70000]
-    ensures { 70000 ≡ length result }
-{
-    [BYTE; 70000]
-}
+const BYTES: usize = 70000;
 
 impl Sending<'_> {
     pub fn begin(&mut self, rt: &impl Print, mut body: Body) -> Result<(), Malformed> {
@@ -31,7 +26,7 @@ impl Sending<'_> {
         let size = body.u64()?;
         let lent = body.u32()?;
         body.end()?;
-        let mut space = byte_space();
+        let mut space = space::bytes::<BYTES>(BYTE);
         let out = front(&mut space, u64::from(lent))?;
         let sent = next::next(
             self.sender,

@@ -57,29 +57,28 @@ impl Replay<'_> {
 }
 
 // As much as is read at once.
-fn chunk_space() -> [u8; 65536]
-    ensures { 65536 ≡ length result }
-{
-    [0; 65536]
-}
+const CHUNK: usize = 65536;
 
 // As much as is lent for such a chunk: 192 bytes, and 16 for each of its own.
-fn line_space() -> [u8; 1048768]
-    ensures { 1048768 ≡ length result }
+const LINES: usize = 1048768;
+
+// A long array, made by a function of its own, since the check of a larger function that makes one runs out of stack.
+fn space<const N: usize>() -> [u8; N]
+    ensures { N ≡ length result }
 {
-    [0; 1048768]
+    [0; N]
 }
 
 fn main(rt: HostRuntime) {
     let mut input = rt.stdin();
-    let mut chunk = chunk_space();
+    let mut chunk = space::<CHUNK>();
     let mut replay = Replay {
         session: session::begin(),
         held: &mut [0; 16391],
         file: &mut [0; 32768],
         claimed: &mut [0; 512],
         doubtful: &mut [0; 512],
-        out: &mut line_space(),
+        out: &mut space::<LINES>(),
     };
     let _ = replay.run(&rt, &mut input, &mut chunk);
 }
