@@ -11,7 +11,7 @@ use ledger::ruled::Ruled;
 use rangechecks::disjoint::Range;
 use transfer::state::{Channel, Transfer};
 
-#[derive(Drop)]
+#[derive(Clone, Copy)]
 pub struct ChannelTotals {
     // The bytes left of each channel that has some, at the front.
     // Stays: fixed memory, no heap.

@@ -3,6 +3,7 @@ ghost use Rattle.std.specs.Prelude.{◌≡◌};
 ghost use Rattle.channels.specs.OtherChannels.{others_of};
 
 use channelchecks::report::FitReport;
+use sums::sum;
 
 // The file's length, and how many of the other channels are not unused and have ended.
 #[derive(Clone, Copy)]
@@ -20,7 +21,7 @@ pub fn counts_without(len: u64, found: FitReport, state: u8) -> OtherChannels
 {
     OtherChannels {
         len,
-        used: found.used.saturating_sub(u64::from(state != 0)),
-        ended: found.ended.saturating_sub(u64::from(state == 4)),
+        used: sum::saturating_sub(found.used, u64::from(state != 0)),
+        ended: sum::saturating_sub(found.ended, u64::from(state == 4)),
     }
 }

@@ -10,7 +10,7 @@ use lib.Dec.{ltb}
 use Rattle.ledger.specs.Pairs.{Pairs, size, join, overlaps}
 use Rattle.ledger.specs.Ledger.{obeys, pairs_of, capacity}
 use Rattle.answers.specs.Refusal.{number_in}
-use Rattle.claims.specs.Claim.{slot_of, judged, PutResult}
+use Rattle.claims.specs.Claim.{slot_of, shares_number, full_number, judged, PutResult}
 use Rattle.claims.specs.declared.claim.Slot.{Slot}
 use Rattle.std.specs.Prelude.{Result, Ok, Err}
 use Rattle.ledger.proofs.PairsJoinSlot.{count_starting_by-le}
@@ -19,15 +19,15 @@ use Rattle.claims.proofs.JoinRoom.{fits, at-past}
 -- ---- the three cases
 
 pub data Case (r s e : ℕ) (ps : Pairs) : Result Slot ℕ → Type 0 where
-  shared : overlaps s e ps ≡ true → Case r s e ps (Err 17)
-  full : overlaps s e ps ≡ false → r < size (join s e ps) → Case r s e ps (Err 18)
+  shared : overlaps s e ps ≡ true → Case r s e ps (Err shares_number)
+  full : overlaps s e ps ≡ false → r < size (join s e ps) → Case r s e ps (Err full_number)
   there : overlaps s e ps ≡ false → size (join s e ps) ≤ r → Case r s e ps (Ok (slot_of s e ps))
 
 pub by-case : (r s e : ℕ) (ps : Pairs) → Case r s e ps (judged r s e ps)
 unfolding judged
 by-case r s e ps = go (overlaps s e ps) (ltb r (size (join s e ps))) refl refl
   where
-    go : (t u : Bool) → overlaps s e ps ≡ t → ltb r (size (join s e ps)) ≡ u → Case r s e ps (cond t (Err 17) (cond u (Err 18) (Ok (slot_of s e ps))))
+    go : (t u : Bool) → overlaps s e ps ≡ t → ltb r (size (join s e ps)) ≡ u → Case r s e ps (cond t (Err shares_number) (cond u (Err full_number) (Ok (slot_of s e ps))))
     go true u x y = shared x
     go false true x y = full x (ltb-true r (size (join s e ps)) y)
     go false false x y = there x (ltb-false r (size (join s e ps)) y)

@@ -3,6 +3,7 @@ use Prim.Native.Nat.{ℕ, suc, ◌+◌, ◌*◌, ◌-◌, ◌≤◌, ◌<◌}
 use mathlib.Core.Path.{◌≡◌, refl, sym, ap}
 use mathlib.Core.Bool.{Bool, true, false, cond, ◌&&◌, ◌||◌, and-eq-true_iff}
 use mathlib.Core.List.{List}
+use mathlib.Core.Logic.{◌⊎◌, inl, inr}
 use native.Mathlib.Omega.{arith}
 use native.Mathlib.Numerals.{add-one}
 use native.Mathlib.Decide.{dec_lt, ℕ_discrete}
@@ -11,7 +12,7 @@ use lib.Dec.{leb, ltb, eqb}
 use lib.ListN.{get_or, get_or-eq_default}
 use Rattle.ledger.specs.Pairs.{size, join, overlaps, count_ending_below, count_starting_by}
 use Rattle.ledger.specs.Ledger.{obeys, pairs_of, capacity}
-use Rattle.claims.specs.Claim.{slot_of, judged}
+use Rattle.claims.specs.Claim.{slot_of, shares_number, full_number, judged}
 use Rattle.claims.specs.Neighbours.{Pair, pair_at, shared_by, starts_by, slot_by, lacks_pair, judged_by}
 use Rattle.claims.specs.declared.claim.Slot.{Slot}
 use Rattle.std.specs.Prelude.{Result, Ok, Err}
@@ -61,8 +62,8 @@ module _ (l : List ℕ) (o : obeys l ≡ true) (s e : ℕ) (h : s < e) where
       at = count_ending_below s (pairs_of l)
 
       go : (t : Bool) → overlaps s e (pairs_of l) ≡ t
-          → cond {A = Result Slot ℕ} t (Err 17) (cond (ltb (capacity l) (size (join s e (pairs_of l)))) (Err 18) (Ok (slot_of s e (pairs_of l))))
-          ≡ cond {A = Result Slot ℕ} t (Err 17) (cond (lacks_pair (capacity l) (slot_by e at (pair_at l at) (pair_at l (at + 1))) (pair_at l (capacity l - 1))) (Err 18) (Ok (slot_by e at (pair_at l at) (pair_at l (at + 1)))))
+          → cond {A = Result Slot ℕ} t (Err shares_number) (cond (ltb (capacity l) (size (join s e (pairs_of l)))) (Err full_number) (Ok (slot_of s e (pairs_of l))))
+          ≡ cond {A = Result Slot ℕ} t (Err shares_number) (cond (lacks_pair (capacity l) (slot_by e at (pair_at l at) (pair_at l (at + 1))) (pair_at l (capacity l - 1))) (Err full_number) (Ok (slot_by e at (pair_at l at) (pair_at l (at + 1)))))
       go true x = refl
       go false x = rw (lacks-is (slot_by e at (pair_at l at) (pair_at l (at + 1))) (slot_is x), slot_is x)
 
@@ -92,10 +93,20 @@ pub free-slot : (r s e at : ℕ) (here next last : Pair) (slot : Slot) → judge
 unfolding judged_by
 free-slot r s e at here next last slot q = go (shared_by s e here || shared_by s e next) (lacks_pair r (slot_by e at here next) last) q
   where
-    go : (t u : Bool) → cond {A = Result Slot ℕ} t (Err 17) (cond u (Err 18) (Ok (slot_by e at here next))) ≡ Ok slot → slot_by e at here next ≡ slot
+    go : (t u : Bool) → cond {A = Result Slot ℕ} t (Err shares_number) (cond u (Err full_number) (Ok (slot_by e at here next))) ≡ Ok slot → slot_by e at here next ≡ slot
     go true u k = cc
     go false true k = cc
     go false false k = cc
+
+-- what is refused is refused by one of the two numbers
+pub refused_by : (r s e at : ℕ) (here next last : Pair) (k : ℕ) → judged_by r s e at here next last ≡ Err k → (k ≡ shares_number) ⊎ (k ≡ full_number)
+unfolding judged_by
+refused_by r s e at here next last k q = go (shared_by s e here || shared_by s e next) (lacks_pair r (slot_by e at here next) last) q
+  where
+    go : (t u : Bool) → cond {A = Result Slot ℕ} t (Err shares_number) (cond u (Err full_number) (Ok (slot_by e at here next))) ≡ Err k → (k ≡ shares_number) ⊎ (k ≡ full_number)
+    go true u x = inl cc
+    go false true x = inr cc
+    go false false x = absurd (cc)
 
 -- ---- the pairs that start by an end
 
@@ -104,4 +115,4 @@ unfolding starts_by
 starting-is e at l o a =
     rw (start_is (capacity l) l (even l o) o at, end_is (capacity l) l (even l o) o at, a) (sym (starting-at e 0 (pairs_of l) (ruled l o)))
 
-pub ruleset judging = (judged_is, slot_inside, free-slot)
+pub ruleset judging = (judged_is, slot_inside, free-slot, refused_by)

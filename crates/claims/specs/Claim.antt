@@ -2,7 +2,7 @@
 --
 --     pairs that end below its start   those it shares a place with or touches   pairs that start above its end
 --     0 .. at                          at .. past                                past ..
-use Rattle.std.specs.Prelude.{ℕ, ◌≤◌, ◌<◌, ◌≡◌, ◌↔◌, true, cond, Result, Ok, Err, List, ltb, length}
+use Rattle.std.specs.Prelude.{ℕ, ◌≤◌, ◌<◌, ◌≡◌, ◌⊎◌, ◌↔◌, true, cond, Result, Ok, Err, List, ltb, length}
 use Rattle.answers.specs.Loaded.{Loaded}
 use Rattle.ledger.specs.Pairs.{Pairs, size, join, overlaps, count_ending_below, count_starting_by}
 use Rattle.ledger.specs.Ledger.{obeys, pairs_of, laid_out, capacity}
@@ -12,9 +12,17 @@ use Rattle.claims.specs.declared.claim.Slot.{Slot}
 unfoldable pub slot_of : ℕ → ℕ → Pairs → Slot
 slot_of s e ps = record { at = count_ending_below s ps; past = count_starting_by e ps }
 
--- 17, then 18: the range shares a place with a claimed one; the ledger would need more pairs than it has
+-- the range shares a place with a claimed one
+abbrev pub shares_number : ℕ
+shares_number = 17
+
+-- the ledger would need more pairs than it has
+abbrev pub full_number : ℕ
+full_number = 18
+
+-- 17, then 18, then where it goes
 unfoldable pub judged : ℕ → ℕ → ℕ → Pairs → Result Slot ℕ
-judged r s e ps = cond (overlaps s e ps) (Err 17) (cond (ltb r (size (join s e ps))) (Err 18) (Ok (slot_of s e ps)))
+judged r s e ps = cond (overlaps s e ps) (Err shares_number) (cond (ltb r (size (join s e ps))) (Err full_number) (Ok (slot_of s e ps)))
 
 -- ---- what the calls answer and leave
 --
@@ -26,6 +34,8 @@ pub record JudgeResult (s e : ℕ) (ledger : List ℕ) (r : Result Slot ℕ) : T
   pub by_rule : obeys ledger ≡ true → s < e → r ≡ judged (capacity ledger) s e (pairs_of ledger)
   -- a slot lies inside any ledger
   pub slot_inside : (slot : Slot) → r ≡ Ok slot → (slot.at ≤ slot.past) × (slot.past ≤ capacity ledger)
+  -- in no ledger is a range refused by a third number
+  pub refused_by : (k : ℕ) → r ≡ Err k → (k ≡ shares_number) ⊎ (k ≡ full_number)
 
 -- the ledger l is m once the range from s to e is put at the slot
 pub record PutResult (slot : Slot) (s e : ℕ) (l m : List ℕ) : Type 0 where

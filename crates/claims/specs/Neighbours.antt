@@ -1,5 +1,6 @@
 -- A range judged from its place (document 02, Item 2): by the pair there, the one after it and the ledger's last pair.
 use Rattle.std.specs.Prelude.{ℕ, ◌+◌, ◌*◌, Bool, cond, Result, Ok, Err, ◌&&◌, ◌||◌, List, leb, ltb, eqb, get_or}
+use Rattle.claims.specs.Claim.{shares_number, full_number}
 use Rattle.claims.specs.declared.claim.Slot.{Slot}
 
 -- a pair as it is read: its two entries, 0 and 0 past the last pair
@@ -30,4 +31,4 @@ lacks_pair r slot last = eqb slot.at slot.past && (eqb r 0 || ltb 0 last.end)
 unfoldable pub judged_by : ℕ → ℕ → ℕ → ℕ → Pair → Pair → Pair → Result Slot ℕ
 judged_by r s e at here next last =
     let slot = slot_by e at here next in
-    cond (shared_by s e here || shared_by s e next) (Err 17) (cond (lacks_pair r slot last) (Err 18) (Ok slot))
+    cond (shared_by s e here || shared_by s e next) (Err shares_number) (cond (lacks_pair r slot last) (Err full_number) (Ok slot))

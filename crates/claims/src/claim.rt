@@ -76,7 +76,8 @@ fn judge_at(ledger: &[u64], at: usize, range: Range) -> Result<Slot, Refusal>
 }
 
 // Where the range from start to end can be claimed, or the refusal: it shares a byte with a claimed one, or the ledger lacks a pair for it. For a
-// ledger that breaks the rule, or an empty range, the answer is left open, but that a slot lies inside the ledger: document 01 has no such call.
+// ledger that breaks the rule, or an empty range, the answer is left open, but that a slot lies inside the ledger and that a refusal is 17 or 18:
+// document 01 has no such call.
 // Stays: the rule is a premise, here and of put and join, and no type, since the three answer any list.
 #[tactic(auto, using(crate::proofs::JudgedByPlace::judging))]
 pub fn judge(ledger: &[u64], start: u64, end: u64) -> Result<Slot, Refusal>

@@ -2,6 +2,8 @@
 ghost use Rattle.std.specs.Prelude.{◌≡◌, ◌+◌, ◌≤◌, length};
 ghost use Rattle.claims.specs.Shift.{inserted, closed};
 
+use octets::entries;
+
 // Makes room for a pair and puts it there; the two entries from end on are given up.
 //
 //     .. at ..... end _ _ ..        ..  a b  at ..... ..
@@ -22,5 +24,5 @@ pub fn close(ledger: &mut [u64], to: usize, from: usize, end: usize)
     ensures { ledger.new ≡ closed ledger.old to from end }
 {
     ledger.copy_within(from..end, to);
-    ledger[to + (end - from)..end].fill(0);
+    entries::clear(&mut ledger[to + (end - from)..end]);
 }

@@ -2,8 +2,10 @@
 ghost use Rattle.std.specs.Prelude.{◌≡◌, min};
 ghost use Rattle.transfer.specs.Transfer.{one_if_ended, ended_of, left_of};
 
+use sums::sum;
 use transfer::state::{Channel, Transfer};
 
+// How many channels a transfer has; `ended` and `left` read so many.
 pub const CHANNELS: usize = 64;
 
 // The state of a channel that has ended.
@@ -21,14 +23,17 @@ pub fn one_if_ended(k: Channel) -> u64
 pub fn ended(t: Transfer) -> u64
     ensures { result ≡ ended_of t }
 {
-    t.channels.iter().map(|k| one_if_ended(*k)).sum()
+    t.channels[..CHANNELS]
+        .iter()
+        .map(|k| one_if_ended(*k))
+        .sum()
 }
 
 // The bytes left in all payloads, or the largest number where there are more.
 pub fn left(t: Transfer) -> u64
     ensures { result ≡ min 18446744073709551615 (left_of t) }
 {
-    t.channels
+    t.channels[..CHANNELS]
         .iter()
-        .fold(0, |n: u64, k| n.saturating_add(k.left))
+        .fold(0, |n: u64, k| sum::saturating_add(n, k.left))
 }

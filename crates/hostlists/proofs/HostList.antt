@@ -14,7 +14,7 @@ use Rattle.std.specs.Result.{result_unwrap_or}
 use Rattle.answers.specs.Refusal.{numbered}
 use Rattle.answers.specs.declared.refusal.Refusal.{Refusal}
 use Rattle.hostports.specs.HostPort.{read_as, host_port_at}
-use Rattle.hostlists.specs.HostList.{host_limit, space, count, ParsedList, parsed, trouble, prepend, host_port_then, list_at, hosts_of, answer_of, host_ports, StoreResult, entries_of, fill_of, fill_after}
+use Rattle.hostlists.specs.HostList.{short_number, longer_number, host_limit, space, count, ParsedList, parsed, trouble, prepend, host_port_then, list_at, hosts_of, answer_of, host_ports, StoreResult, entries_of, fill_of, fill_after}
 
 -- ---- a list with zeros from an entry on
 
@@ -52,7 +52,7 @@ pub list-empty : (n : ℕ) (text : List ℕ) (at : ℕ) → n ≡ 0 → at ≡ l
 unfolding list_at
 list-empty n text at z e = rw (z, eq-eqb at (length text) e)
 
-pub list_full : (n : ℕ) (text : List ℕ) (at : ℕ) → n ≡ 0 → (at ≡ length text → ⊥) → list_at n text at ≡ trouble 42
+pub list_full : (n : ℕ) (text : List ℕ) (at : ℕ) → n ≡ 0 → (at ≡ length text → ⊥) → list_at n text at ≡ trouble longer_number
 unfolding list_at
 list_full n text at z e = rw (z, ne_eqb at (length text) e)
 
@@ -107,7 +107,7 @@ unfolding entries_of host_ports
 entries-are n (parsed vs) = refl
 entries-are n (trouble k) = rw (sub-zero n)
 
-pub fills-short : (text list : List ℕ) → length list < host_limit → (Err 43 ≡ fill_of text list) × (list ≡ fill_after text list)
+pub fills-short : (text list : List ℕ) → length list < host_limit → (Err short_number ≡ fill_of text list) × (list ≡ fill_after text list)
 unfolding fill_of fill_after
 fills-short text list h = (rw (lt-ltb (length list) host_limit h), rw (lt-ltb (length list) host_limit h))
 

@@ -11,6 +11,13 @@ host_limit = 64
 abbrev pub space : ℕ
 space = 32
 
+-- the numbers of a list that is too short, and of a text with more host-ports than 64
+abbrev pub short_number : ℕ
+short_number = 43
+
+abbrev pub longer_number : ℕ
+longer_number = 42
+
 -- ---- the text
 
 -- what a text says: host-ports, or the number of the first trouble in reading order
@@ -32,7 +39,7 @@ host_port_then text (Some p) on =
 -- from a place on, where n more host-ports may come. Where none may, a space is before the place: the end of the text there is an empty
 -- host-port (41), and any further byte is a 65th (42).
 unfoldable pub list_at : ℕ → List ℕ → ℕ → ParsedList
-list_at zero text at = cond (eqb at (length text)) (trouble 41) (trouble 42)
+list_at zero text at = cond (eqb at (length text)) (trouble 41) (trouble longer_number)
 list_at (suc n) text at = host_port_then text (host_port_at text at) (list_at n text)
 
 unfoldable pub hosts_of : List ℕ → ParsedList
@@ -56,7 +63,7 @@ entries_of n (trouble k) = replicate n 0
 
 -- 43 first, where the list is too short; then the first trouble in the text
 unfoldable pub fill_of : List ℕ → List ℕ → Result ℕ ℕ
-fill_of text list = cond (ltb (length list) host_limit) (Err 43) (answer_of (hosts_of text))
+fill_of text list = cond (ltb (length list) host_limit) (Err short_number) (answer_of (hosts_of text))
 
 unfoldable pub fill_after : List ℕ → List ℕ → List ℕ
 fill_after text list = cond (ltb (length list) host_limit) list (entries_of (length list) (hosts_of text))

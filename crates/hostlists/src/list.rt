@@ -5,6 +5,7 @@ ghost use Rattle.hostlists.specs.HostList.{host_limit, StoreResult, fill_of, fil
 
 use answers::refusal::Refusal;
 use hostports::host_port;
+use octets::entries;
 
 // The most host-ports of a list, and the fewest entries that may be lent.
 pub const HOST_LIMIT: usize = 64;
@@ -44,6 +45,6 @@ pub fn fill(text: &[u8], list: &mut [u64]) -> Result<usize, Refusal>
     }
     let answer = store(text, list);
     let stored = answer.unwrap_or(0);
-    list[stored..].fill(0);
+    entries::clear(&mut list[stored..]);
     answer
 }

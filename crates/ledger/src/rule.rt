@@ -5,6 +5,7 @@ ghost use Rattle.ledger.specs.Pairs.{total, ends_at_most};
 ghost use Rattle.ledger.specs.Ledger.{length_wrong, all_zero, obeys_from, obeys, ledger_refusal, pairs_of, has_pair};
 
 use answers::refusal::Refusal;
+use sums::sum;
 
 // The most entries that a ledger may have.
 pub const ENTRY_LIMIT: usize = 8192;
@@ -109,7 +110,7 @@ pub fn total(ledger: &[u64]) -> u64
     let mut total: u64 = 0;
     let mut rest = ledger;
     while let Some((start, end, after)) = first_pair(rest) {
-        total = total.saturating_add(end.saturating_sub(start));
+        total = sum::saturating_add(total, sum::saturating_sub(end, start));
         rest = after;
     }
     total

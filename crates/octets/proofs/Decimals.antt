@@ -58,8 +58,8 @@ width_is (suc w) n h (inr g) =
     let one : 1 ≤ 10 ^ w = one-le-pow w 10 (omega arith) in
     width-step n (omega arith) ∙ ap suc (width_is w (n / 10) (omega arith) (inr (omega arith)))
 
--- by the logarithm, that of 0 being taken as that of 1
-pub width_of_log : (n k : ℕ) → 10 ^ k ≤ max n 1 → max n 1 < 10 * 10 ^ k → digit_count n ≡ k + 1
+-- by the logarithm
+pub width_of_log : (n k : ℕ) → 10 ^ k ≤ n → n < 10 * 10 ^ k → digit_count n ≡ k + 1
 width_of_log n zero h g = width_small n (omega arith)
 width_of_log n (suc k) h g =
     let p : 10 ^ suc k ≡ 10 ^ k * 10 = pow-suc 10 k in

@@ -34,7 +34,3 @@ take-eight s i e =
 -- v stored at j, after what is before j
 pub stored-after : (p out : List ℕ) (v j : ℕ) → j < length out → take (suc j) (set out j v) ++ p ≡ take j out ++ (v ∷ p)
 stored-after p out v j h = rw (take-suc-set out j v) (append_snoc (take j out) v p)
-
-pub map_reverse : (f : ℕ → ℕ) (xs : List ℕ) → map f (reverse xs) ≡ reverse (map f xs)
-map_reverse f [] = refl
-map_reverse f (x ∷ xs) = rw (reverse-cons x xs, map-append f (reverse xs) (x ∷ []), map_reverse f xs) (sym (reverse-cons (f x) (map f xs)))

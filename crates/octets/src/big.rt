@@ -18,10 +18,8 @@ pub fn read(bytes: &[u8]) -> u64
 }
 
 // Fills all of out with the low bytes of n.
-#[tactic(auto, unfolding(crate::specs::Digits::to_big_endian))]
 pub fn write(n: u64, out: &mut [u8])
     ensures { out.new ≡ to_big_endian 256 (length out.old) n }
 {
-    digit_bytes::write::<256, 0>(n, out);
-    out.reverse();
+    digit_bytes::write_from_end::<256, 0>(n, out);
 }

@@ -23,18 +23,17 @@ pub fn read(text: &[u8], limit: u64) -> Option<u64>
 }
 
 // How many digits n has without leading zeros.
-#[tactic(auto, using(crate::proofs::Decimals::width_of_log))]
+#[tactic(auto, using(crate::proofs::Decimals::width_small, crate::proofs::Decimals::width_of_log))]
 pub fn length(n: u64) -> usize
     ensures { result ≡ digit_count n }
 {
-    n.max(1).ilog10() as usize + 1
+    if n < 10 { 1 } else { n.ilog10() as usize + 1 }
 }
 
 // Fills all of out with the low digits of n: with as many bytes as `length` says, n without leading zeros.
-#[tactic(auto, using(crate::proofs::LoopStep::map_reverse), unfolding(crate::specs::Decimal::in_digits, crate::specs::Digits::to_big_endian))]
+#[tactic(auto, unfolding(crate::specs::Decimal::in_digits))]
 pub fn write(n: u64, out: &mut [u8])
     ensures { out.new ≡ in_digits (length out.old) n }
 {
-    digit_bytes::write::<10, 48>(n, out);
-    out.reverse();
+    digit_bytes::write_from_end::<10, 48>(n, out);
 }

@@ -1,15 +1,17 @@
 -- The used pairs of a ledger, as the code holds them.
 use Prim.Native.Nat.{ℕ, zero, suc, ◌+◌, ◌/◌, ◌≤◌, ◌<◌}
-use mathlib.Core.Path.{◌≡◌, refl, ap}
-use mathlib.Core.Bool.{Bool, true, false, cond, not}
+use mathlib.Core.Path.{◌≡◌, refl, sym, ap, ◌∙◌}
+use mathlib.Core.Bool.{Bool, true, false, cond}
 use mathlib.Core.List.{List, [], ◌∷◌}
 use native.Mathlib.Omega.{arith}
 use native.Mathlib.Numerals.{add-one}
-use borrow.Author.Tests.{eqb-false}
-use lib.Dec.{eqb}
+use native.Mathlib.Decide.{dec_lt}
+use borrow.Author.Tests.{lt-ltb, le-ltb, eqb-false}
+use lib.Dec.{eqb, ltb}
 use lib.ListN.{length, get_or, take, drop, drop_of_length-le}
-use lib.Seq.{drop-cons}
-use Rattle.std.specs.List.{prefix_len}
+use lib.Seq.{drop-cons, take_all, take-length}
+use Rattle.std.specs.List.{position_or_len}
+use Rattle.std.specs.Prelude.{Some, None, unwrap_or}
 use Rattle.std.specs.Simd.{first_chunks}
 use Rattle.ledger.specs.Pairs.{Pairs, none, pair, size}
 use Rattle.ledger.specs.Ledger.{pairs_of}
@@ -30,12 +32,22 @@ module _ (ps : List (List ℕ)) (k : ℕ) where
   unfolding pairs_in
   pairs_in-over h = rw (drop_of_length-le ps h)
 
--- the test of a pair that is used
-abbrev pub is_used : List ℕ → Bool
-is_used p = not (eqb (get_or p 1 0) 0)
+-- the test of a pair that is not used
+abbrev pub is_unused : List ℕ → Bool
+is_unused p = eqb (get_or p 1 0) 0
 
 abbrev pub used_of : ℕ → List ℕ → List (List ℕ)
-used_of k l = take (prefix_len is_used (first_chunks 2 k l)) (first_chunks 2 k l)
+used_of k l = take (position_or_len is_unused (first_chunks 2 k l)) (first_chunks 2 k l)
+
+-- where none is found, all are taken
+pub take-found : (n : ℕ) (ps : List (List ℕ)) → take (unwrap_or (cond (ltb n (length ps)) (Some n) None) (length ps)) ps ≡ take n ps
+take-found n ps = go (dec_lt n (length ps))
+  where
+    go : Dec (n < length ps) → take (unwrap_or (cond (ltb n (length ps)) (Some n) None) (length ps)) ps ≡ take n ps
+    go (yes h) = rw (lt-ltb n (length ps) h) refl
+    go (no h) =
+        let m : length ps ≤ n = omega arith in
+        rw (le-ltb n (length ps) m) (take-length ps ∙ sym (take_all n ps m))
 
 no_pair : IsUsed [] none
 unfolding pairs_in
@@ -61,5 +73,5 @@ used_is (suc k) (a ∷ b ∷ rest) e = go (eqb b 0) refl (used_is k rest (omega 
     go : (t : Bool) → eqb b 0 ≡ t → IsUsed (used_of k rest) (pairs_of rest) → IsUsed (used_of (suc k) (a ∷ b ∷ rest)) (cond t none (pair a b (pairs_of rest)))
     go true h u = rw h no_pair
     go false h u =
-        let s : 1 + prefix_len is_used (first_chunks 2 k rest) ≡ suc (prefix_len is_used (first_chunks 2 k rest)) = omega arith in
+        let s : 1 + position_or_len is_unused (first_chunks 2 k rest) ≡ suc (position_or_len is_unused (first_chunks 2 k rest)) = omega arith in
         rw (h, s) (one_more a b _ _ (eqb-false b 0 h) u)

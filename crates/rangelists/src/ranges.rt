@@ -1,15 +1,15 @@
 // Restart range lists, as text.
-ghost use Rattle.std.specs.Prelude.{◌≡◌, true, ◌+◌, ◌≤◌, ◌<◌, length};
+ghost use Rattle.std.specs.Prelude.{◌≡◌, true, ◌+◌, ◌*◌, ◌≤◌, ◌<◌, length};
 ghost use Rattle.std.proofs.lemmas.List.Edits.{sets};
 ghost use Rattle.answers.specs.Refusal.{numbered, refusal_number};
 ghost use Rattle.ledger.specs.Ledger.{entry_limit, largest, obeys, pairs_of, capacity};
-ghost use Rattle.rangelists.specs.RangeText.{position_of, range_of, merge_range, merged_from, Represents, merged, parts, IsUsed, read_ranges, read_ranges_after, separator_after, range_text, ranges_text, write_ranges, write_ranges_after};
+ghost use Rattle.rangelists.specs.RangeText.{position_of, range_of, merge_range, merged_from, Represents, merged, parts, pairs_in, IsUsed, read_ranges, read_ranges_after, separator_after, range_text, ranges_text, write_ranges, write_ranges_after};
 ghost use Rattle.answers.specs.WritesAt.{WritesAt};
 
 use answers::refusal::Refusal;
 use claims::claim;
 use ledger::rule;
-use octets::decimal;
+use octets::{decimal, entries};
 use texts::text;
 use texts::text::ByteKind;
 
@@ -33,7 +33,10 @@ fn used_pairs(ledger: &[u64]) -> &[[u64; 2]]
     ensures { IsUsed result.now (pairs_of ledger.now) }
 {
     let (pairs, _) = ledger.as_chunks::<2>();
-    let used = pairs.iter().take_while(|pair| pair[1] != 0).count();
+    let used = pairs
+        .iter()
+        .position(|pair| pair[1] == 0)
+        .unwrap_or(pairs.len());
     &pairs[..used]
 }
 
@@ -70,12 +73,12 @@ fn after_comma(n: usize) -> usize
     if n == 0 { 0 } else { n + 1 }
 }
 
-// The number of bytes of a ledger's ranges.
-fn list_text_length(ledger: &[u64]) -> usize
-    requires { length ledger.now ≤ entry_limit }
-    ensures { result ≡ length (ranges_text (pairs_of ledger.now)) }
+// The number of bytes of the ranges of used pairs.
+fn list_text_length(pairs: &[[u64; 2]]) -> usize
+    requires few { 2 * length pairs.now ≤ entry_limit }
+    requires used { IsUsed pairs.now (pairs_in pairs.now) }
+    ensures { result ≡ length (ranges_text (pairs_in pairs.now)) }
 {
-    let pairs = used_pairs(ledger);
     let mut n = 0;
     for &[a, b] in pairs {
         n = after_comma(n) + range_text_length(a, b);
@@ -94,12 +97,12 @@ fn put_comma(out: &mut [u8], n: usize) -> usize
     after_comma(n)
 }
 
-// Writes a ledger's ranges.
-fn put_list(ledger: &[u64], out: &mut [u8])
-    requires { length (ranges_text (pairs_of ledger.now)) ≤ length out.old }
-    ensures { out.new ≡ sets out.old 0 (ranges_text (pairs_of ledger.now)) }
+// Writes the ranges of used pairs.
+fn put_list(pairs: &[[u64; 2]], out: &mut [u8])
+    requires fits { length (ranges_text (pairs_in pairs.now)) ≤ length out.old }
+    requires used { IsUsed pairs.now (pairs_in pairs.now) }
+    ensures { out.new ≡ sets out.old 0 (ranges_text (pairs_in pairs.now)) }
 {
-    let pairs = used_pairs(ledger);
     let mut n = 0;
     for &[a, b] in pairs {
         let from = put_comma(out, n);
@@ -111,14 +114,15 @@ pub fn write(ledger: &[u64], out: &mut [u8]) -> Result<usize, Refusal>
     ensures { (numbered result ≡ write_ranges ledger.now out.old) × (out.new ≡ write_ranges_after ledger.now out.old) }
 {
     rule::check(ledger)?;
-    let n = list_text_length(ledger);
-    if n == 0 {
+    let pairs = used_pairs(ledger);
+    if pairs.is_empty() {
         return Err(Refusal::EmptyLedger);
     }
+    let n = list_text_length(pairs);
     if out.len() < n {
         return Err(Refusal::TooFewBytes);
     }
-    put_list(ledger, out);
+    put_list(pairs, out);
     Ok(n)
 }
 
@@ -168,7 +172,7 @@ fn join_list(text: &[u8], ledger: &mut [u64]) -> Result<(), Refusal>
     requires { obeys ledger.old ≡ true }
     ensures { Represents (merged_from (capacity ledger.old) (pairs_of ledger.old) (parts text.now)) (refusal_number result) ledger.new }
 {
-    for part in text.split(|b| *b == b',') {
+    for part in text.split(|b| !text::is_of_kind(ByteKind::NotComma, *b)) {
         join_text(part, ledger)?;
     }
     Ok(())
@@ -180,10 +184,10 @@ pub fn read(text: &[u8], ledger: &mut [u64]) -> Result<(), Refusal>
     if rule::length_wrong(ledger) {
         return Err(Refusal::LedgerLength);
     }
-    ledger.fill(0);
+    entries::clear(ledger);
     let answer = join_list(text, ledger);
     if answer.is_err() {
-        ledger.fill(0);
+        entries::clear(ledger);
     }
     answer
 }

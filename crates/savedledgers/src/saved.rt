@@ -12,7 +12,7 @@ use answers::refusal::Refusal;
 use frames::frame;
 use frames::frame::FRAME_LENGTH;
 use ledger::rule;
-use octets::little;
+use octets::{entries, little};
 use savedrecords::kind::{Kind, SecondNumber};
 use savedrecords::pair::Pair;
 use savedrecords::record;
@@ -62,7 +62,7 @@ fn load(kind: Kind, bytes: &[u8], ledger: &mut [u64]) -> Result<(), Refusal>
     let pairs = record::pair_part(kind, bytes);
     let filled = 2 * (pairs.len() / PAIR_LENGTH);
     fill(kind.second, pairs, &mut ledger[..filled]);
-    ledger[filled..].fill(0);
+    entries::clear(&mut ledger[filled..]);
     Ok(())
 }
 

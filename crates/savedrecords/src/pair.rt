@@ -6,6 +6,7 @@ ghost use Rattle.savedrecords.specs.Record.{start_in, end_in, may_follow};
 
 use crate::kind::SecondNumber;
 use octets::little;
+use sums::sum;
 
 // Where a pair starts and how long it is. Its end need not fit 64 bits.
 #[derive(Clone, Copy, Debug, PartialEq, Eq)]
@@ -43,7 +44,7 @@ impl SecondNumber {
         ensures { result ≡ end_of self start number - start }
     {
         match self {
-            SecondNumber::End => number.saturating_sub(start),
+            SecondNumber::End => sum::saturating_sub(number, start),
             SecondNumber::Length => number,
         }
     }
@@ -54,7 +55,7 @@ impl SecondNumber {
     {
         match self {
             SecondNumber::End => number <= limit,
-            SecondNumber::Length => start.checked_add(number).is_some_and(|end| end <= limit),
+            SecondNumber::Length => sum::sum_at_most(start, number, limit),
         }
     }
 }

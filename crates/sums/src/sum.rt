@@ -1,7 +1,8 @@
 // Sums and differences that a u64 may not hold.
 ghost use Rattle.std.specs.Prelude.{◌≡◌, ◌+◌, ◌-◌, min, leb};
 
-// Stays: what u64's methods do, as functions, since edits are of them: saturating_add_past_largest, saturating_sub_turned, sum_at_most_less.
+// Stays: what u64's methods do, as functions of this repository's own: docs/PROMISES.md names their contracts, and the edits saturating_add_past_largest,
+// saturating_sub_turned and sum_at_most_less are of them.
 
 // a + b, or the largest number where that is more.
 pub fn saturating_add(a: u64, b: u64) -> u64
@@ -21,5 +22,5 @@ pub fn saturating_sub(a: u64, b: u64) -> u64
 pub fn sum_at_most(a: u64, x: u64, b: u64) -> bool
     ensures { result ≡ leb (a + x) b }
 {
-    a.checked_add(x).is_some_and(|sum| sum <= b)
+    a <= b && x <= b - a
 }

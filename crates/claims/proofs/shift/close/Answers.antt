@@ -15,5 +15,5 @@ returns c =
     let k = x.end - at in
     let m : c.copy_within.new.self ≡ paste l x.to (drop x.from l) (x.end - x.from) = c.copy_within.ensures.after in
     let e : length (take k (drop at c.copy_within.new.self)) ≡ k = simp (length-take, length-drop, c.copy_within.ensures.len) (omega arith) in
-    let z : c.fill.new.self ≡ replicate k 0 = c.fill.ensures.after (λ y q. q) ∙ ap (λ n. replicate n 0) e in
+    let z : c.clear.new.entries ≡ replicate k 0 = c.clear.ensures ∙ ap (λ n. replicate n 0) e in
     rw (z, m) (down-cleared l x.to x.from x.end k (omega arith) (omega arith) (omega arith) refl)

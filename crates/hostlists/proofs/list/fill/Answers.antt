@@ -16,15 +16,15 @@ returns-then-list-lt-HOST_LIMIT c = fills-short c.args.text.now c.args.list.now 
 pub offset_bounds-list-stored : goal.offset_bounds-list-stored
 offset_bounds-list-stored c = omega (arith, fits c)
 
-pub slice_bounds-fill-count : goal.slice_bounds-fill-count
-slice_bounds-fill-count c = fits c
+pub slice_bounds-clear-count : goal.slice_bounds-clear-count
+slice_bounds-clear-count c = fits c
 
-pub slice_bounds-fill-start : goal.slice_bounds-fill-start
-slice_bounds-fill-start c = omega (arith, fits c)
+pub slice_bounds-clear-start : goal.slice_bounds-clear-start
+slice_bounds-clear-start c = omega (arith, fits c)
 
 pub returns : goal.returns
 returns c =
     let x = c.args in
     let kept = c.store-answer.new.list in
     let f = fills x.text.now _ _ c.store-answer.ensures x.list.now c.if-list-lt-HOST_LIMIT.false c.store-answer.auto.list in
-    (f.0, cleared-part kept c.fill.new.self c.unwrap_or-stored.result (c.fill.ensures.after (λ y h. h)) ∙ ap (λ n. cleared_from n kept) c.unwrap_or-stored.ensures ∙ f.1)
+    (f.0, cleared-part kept c.clear.new.entries c.unwrap_or-stored.result c.clear.ensures ∙ ap (λ n. cleared_from n kept) c.unwrap_or-stored.ensures ∙ f.1)

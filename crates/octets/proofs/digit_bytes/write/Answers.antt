@@ -21,7 +21,9 @@ turn B shift out i m h =
     rw (length-set out i v, e, add-one i) (stored-after (map (λ d. shift + d) (to_little_endian B (length out - suc i) (m / B))) out v i h)
 
 pub loop-byte-preserved : goal.loop-byte-preserved
-loop-byte-preserved g c = turn g.row.BASE g.row.ZERO c.loop-byte.out c.loop-byte.byte-index c.loop-byte.rest (omega arith) ∙ c.loop-byte.invariant
+loop-byte-preserved g c =
+    rw (c.last_digit.ensures.0, c.last_digit.ensures.1)
+    (turn g.row.BASE g.row.ZERO c.loop-byte.out c.loop-byte.byte-index c.loop-byte.rest (omega arith) ∙ c.loop-byte.invariant)
 
 pub returns : goal.returns
 unfolding to_little_endian

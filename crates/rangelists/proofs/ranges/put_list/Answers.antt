@@ -6,7 +6,6 @@ use native.Mathlib.Omega.{arith}
 use lib.ListN.{length, get_or, drop}
 use lib.Seq.{sets}
 use Rattle.ledger.specs.Pairs.{pair}
-use Rattle.ledger.specs.Ledger.{pairs_of}
 use Rattle.rangelists.specs.RangeText.{pairs_in, separator_after, range_text, ranges_text}
 use Rattle.rangelists.proofs.RangeText.{list_from, list_from-none, list_from-all, comma-fits, range-fits, list_left, list_put, next-all}
 use Rattle.rangelists.proofs.UsedPairs.{pairs_in-next, pairs_in-over}
@@ -14,29 +13,29 @@ use Rattle.rangelists.proofs.ranges.put_list.Goals as goal
 use Rattle.rangelists.proofs.ranges.put_list.Goals.{In-loop-a}
 
 -- what is left of the text begins with the range at hand
-left : (c : In-loop-a) → let ps = c.used_pairs-pairs.result.now in let i = c.loop-a.a-index in
-    drop c.loop-a.n (ranges_text (pairs_of c.args.ledger.now))
+left : (c : In-loop-a) → let ps = c.args.pairs.now in let i = c.loop-a.a-index in
+    drop c.loop-a.n (ranges_text (pairs_in c.args.pairs.now))
     ≡ list_from c.loop-a.n (pair (get_or (get_or ps i []) 0 0) (get_or (get_or ps i []) 1 0) (pairs_in (drop (i + 1) ps)))
-left c = c.loop-a.invariant.2 ∙ ap (list_from c.loop-a.n) (pairs_in-next c.used_pairs-pairs.result.now c.loop-a.a-index c.loop-a-test.true)
+left c = c.loop-a.invariant.2 ∙ ap (list_from c.loop-a.n) (pairs_in-next c.args.pairs.now c.loop-a.a-index c.loop-a-test.true)
 
 pub loop-a-init : goal.loop-a-init
 loop-a-init c =
-    (omega arith, c.requires, sym (list_from-all (pairs_of c.args.ledger.now)) ∙ ap (list_from 0) (sym c.used_pairs-pairs.ensures.are), refl)
+    (omega arith, c.requires.fits, sym (list_from-all (pairs_in c.args.pairs.now)), refl)
 
 pub put_comma-from-requires : goal.put_comma-from-requires
 put_comma-from-requires c =
-    omega (arith, comma-fits (ranges_text (pairs_of c.args.ledger.now)) c.loop-a.n _ _ _ c.loop-a.invariant.0 (left (goal.at.put_comma-from-requires c).In-loop-a))
+    omega (arith, comma-fits (ranges_text (pairs_in c.args.pairs.now)) c.loop-a.n _ _ _ c.loop-a.invariant.0 (left (goal.at.put_comma-from-requires c).In-loop-a))
 
 pub put_range-n-requires : goal.put_range-n-requires
 put_range-n-requires c = (
-  c.used_pairs-pairs.ensures.ends c.loop-a.a-index c.loop-a-test.true,
-  omega (arith, range-fits (ranges_text (pairs_of c.args.ledger.now)) c.loop-a.n _ _ _ c.loop-a.invariant.0 (left (goal.at.put_range-n-requires c).In-loop-a)),
+  c.requires.used.ends c.loop-a.a-index c.loop-a-test.true,
+  omega (arith, range-fits (ranges_text (pairs_in c.args.pairs.now)) c.loop-a.n _ _ _ c.loop-a.invariant.0 (left (goal.at.put_range-n-requires c).In-loop-a)),
 )
 
 pub loop-a-preserved : goal.loop-a-preserved
 loop-a-preserved c =
-    let text = ranges_text (pairs_of c.args.ledger.now) in
-    let p = get_or c.used_pairs-pairs.result.now c.loop-a.a-index [] in
+    let text = ranges_text (pairs_in c.args.pairs.now) in
+    let p = get_or c.args.pairs.now c.loop-a.a-index [] in
     let a = get_or p 0 0 in
     let b = get_or p 1 0 in
     let n = c.loop-a.n in
@@ -52,5 +51,5 @@ loop-a-preserved c =
 
 pub returns : goal.returns
 returns c =
-    let over = list_from-none c.loop-a.n _ (pairs_in-over c.used_pairs-pairs.result.now c.loop-a.a-index (omega arith)) in
-    c.loop-a.invariant.3 ∙ next-all (ranges_text (pairs_of c.args.ledger.now)) c.args.out.now c.loop-a.n (c.loop-a.invariant.2 ∙ over)
+    let over = list_from-none c.loop-a.n _ (pairs_in-over c.args.pairs.now c.loop-a.a-index (omega arith)) in
+    c.loop-a.invariant.3 ∙ next-all (ranges_text (pairs_in c.args.pairs.now)) c.args.out.now c.loop-a.n (c.loop-a.invariant.2 ∙ over)

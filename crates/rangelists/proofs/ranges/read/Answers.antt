@@ -10,7 +10,7 @@ use Rattle.rangelists.specs.RangeText.{ranges_of, Represents}
 use Rattle.rangelists.proofs.RangeReading.{reads-53, reads-err, reads-ok}
 use Rattle.rangelists.proofs.RangeMerging.{cleared-obeys, cleared-merged, obeyed-lent}
 use Rattle.rangelists.proofs.ranges.read.Goals as goal
-use Rattle.rangelists.proofs.ranges.read.Goals.{After-fill, After-join_list-answer, Else-length_wrong}
+use Rattle.rangelists.proofs.ranges.read.Goals.{After-clear, After-join_list-answer, Else-length_wrong}
 
 right : (c : Else-length_wrong) → length_wrong c.args.ledger.now ≡ false
 right c = sym c.length_wrong.ensures ∙ c.if-length_wrong.false
@@ -18,8 +18,8 @@ right c = sym c.length_wrong.ensures ∙ c.if-length_wrong.false
 even : (c : Else-length_wrong) → length c.args.ledger.now % 2 ≡ 0
 even c = (length-fits c.args.ledger.now (right c)).0
 
-zeros : (c : After-fill) → c.fill.new.self ≡ replicate (length c.args.ledger.now) 0
-zeros c = c.fill.ensures.after (λ y h. h)
+zeros : (c : After-clear) → c.clear.new.entries ≡ replicate (length c.args.ledger.now) 0
+zeros c = c.clear.ensures
 
 -- the list was joined to a ledger of zeros
 said : (c : After-join_list-answer) → let x = c.args in
@@ -27,10 +27,10 @@ said : (c : After-join_list-answer) → let x = c.args in
 said c =
     let x = c.args in
     let h = goal.at.After-join_list-answer c in
-    rw (cleared-merged x.ledger.now c.fill.new.self (even h.Else-length_wrong) (zeros h.After-fill) x.text.now) at c.join_list-answer.ensures
+    rw (cleared-merged x.ledger.now c.clear.new.entries (even h.Else-length_wrong) (zeros h.After-clear) x.text.now) at c.join_list-answer.ensures
 
 kept : (c : After-join_list-answer) → length c.join_list-answer.new.ledger ≡ length c.args.ledger.now
-kept c = c.join_list-answer.auto.ledger ∙ c.fill.auto.self
+kept c = c.join_list-answer.auto.ledger ∙ c.clear.auto.entries
 
 pub returns-then-length_wrong : goal.returns-then-length_wrong
 returns-then-length_wrong c =
@@ -40,14 +40,14 @@ returns-then-length_wrong c =
 pub join_list-answer-requires : goal.join_list-answer-requires
 join_list-answer-requires c =
     let h = goal.at.join_list-answer-requires c in
-    cleared-obeys c.args.ledger.now c.fill.new.self (even h.Else-length_wrong) (zeros h.After-fill)
+    cleared-obeys c.args.ledger.now c.clear.new.entries (even h.Else-length_wrong) (zeros h.After-clear)
 
 pub returns-then-is_err : goal.returns-then-is_err
 returns-then-is_err c =
     let x = c.args in
     let h = goal.at.returns-then-is_err c in
     let t = reads-err x.text.now x.ledger.now (right h.Else-length_wrong) c.join_list-answer.result _ (said h.After-join_list-answer) (sym c.is_err.ensures.value ∙ c.if-is_err.true) in
-    (t.0, c.fill-then-is_err.ensures.after (λ y h. h) ∙ ap (λ n. replicate n 0) (kept h.After-join_list-answer) ∙ t.1)
+    (t.0, c.clear-then-is_err.ensures ∙ ap (λ n. replicate n 0) (kept h.After-join_list-answer) ∙ t.1)
 
 pub returns-else-is_err : goal.returns-else-is_err
 returns-else-is_err c =

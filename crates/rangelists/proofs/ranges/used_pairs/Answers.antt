@@ -1,20 +1,21 @@
--- `ranges::used_pairs`: as many as `take_while` gives.
-use mathlib.Core.Path.{◌≡◌, refl, ◌∙◌}
+-- `ranges::used_pairs`: as many as there are before the place that `position` finds.
+use mathlib.Core.Path.{◌≡◌, refl}
+use mathlib.Core.Bool.{cond}
+use lib.Dec.{ltb}
+use lib.ListN.{length}
 use Rattle.std.proofs.Common.{rules, tests}
 use Rattle.std.proofs.lemmas.Iterator.{YieldsList-from_slice}
-use Rattle.std.proofs.lemmas.Iterator.Consumers.{YieldsList-at, count_from_yields_List}
-use Rattle.std.proofs.lemmas.Iterator.Search.{YieldsList-from_take_while}
-use Rattle.std.proofs.lemmas.List.Folds.{length-prefix_len}
-use Rattle.std.specs.List.{prefix_len}
-use Rattle.rangelists.proofs.UsedPairs.{is_used, used_is}
+use Rattle.std.proofs.lemmas.Iterator.Search.{position_from_yields_List}
+use Rattle.std.specs.List.{position_or_len}
+use Rattle.std.specs.Prelude.{Some, None}
+use Rattle.rangelists.proofs.UsedPairs.{is_unused, used_is, take-found}
 use Rattle.rangelists.proofs.ranges.used_pairs.Goals as goal
 
 pub returns : goal.returns
 returns c =
     let pairs = c.as_chunks.result.0.now in
-    let n : c.count-used.result ≡ prefix_len is_used pairs =
-    count_from_yields_List c.take_while.result c.count-used.result c.count-used.ensures.ran
-    (YieldsList-from_take_while _ is_used (YieldsList-at c.take_while.ensures.source (YieldsList-from_slice pairs cc)) c.take_while.ensures.closure c.take_while.ensures.done (λ x b q k. search (rules, tests)))
-    ∙ length-prefix_len is_used pairs
+    let n = position_or_len is_unused pairs in
+    let found : c.position.result ≡ cond (ltb n (length pairs)) (Some n) None =
+    position_from_yields_List is_unused _ _ c.position.result c.position.ensures.ran (YieldsList-from_slice pairs cc) (λ x b q k. search (rules, tests))
     in
-    rw (n, c.as_chunks.ensures.front) (used_is _ c.args.ledger.now refl)
+    rw (c.unwrap_or-used.ensures, found, take-found n pairs, c.as_chunks.ensures.front) (used_is _ c.args.ledger.now refl)

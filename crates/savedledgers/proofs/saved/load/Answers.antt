@@ -43,11 +43,11 @@ fill-requires c =
     let ends = ends-fit-entries x.kind x.bytes.now x.ledger.now below c.requires s in
     (length-take-le (2 * (length c.pair_part-pairs.result.now / 16)) x.ledger.now (room at.After-pair_part-pairs).1, rw c.pair_part-pairs.ensures (refusal-sound x.kind x.bytes.now s.right).ruled, rw c.pair_part-pairs.ensures ends)
 
-pub slice_bounds-fill-count : goal.slice_bounds-fill-count
-slice_bounds-fill-count c = let h = (room (goal.at.slice_bounds-fill-count c).After-pair_part-pairs).1 in search (rules, h)
+pub slice_bounds-clear-count : goal.slice_bounds-clear-count
+slice_bounds-clear-count c = let h = (room (goal.at.slice_bounds-clear-count c).After-pair_part-pairs).1 in search (rules, h)
 
-pub slice_bounds-fill-start : goal.slice_bounds-fill-start
-slice_bounds-fill-start c = let h = (room (goal.at.slice_bounds-fill-start c).After-pair_part-pairs).1 in search (rules, h)
+pub slice_bounds-clear-start : goal.slice_bounds-clear-start
+slice_bounds-clear-start c = let h = (room (goal.at.slice_bounds-clear-start c).After-pair_part-pairs).1 in search (rules, h)
 
 pub returns : goal.returns
 returns c =
