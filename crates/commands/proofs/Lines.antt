@@ -9,7 +9,7 @@ use lib.Dec.{ltb, eqb}
 use lib.ListN.{length, get_or, length-take, length-drop}
 use Rattle.texts.specs.Text.{all, is_letter, is_printable, is_space, leading_count}
 use Rattle.std.specs.Prelude.{Result, Ok, Err}
-use Rattle.commands.specs.Line.{Said, Says, line_limit, takes_no_argument, text_of, ends_in_cr_lf, verb_of, after_verb, has_verb, argument_start, argument_accepted, read_text_of, refusal_of, read_of}
+use Rattle.commands.specs.Line.{Said, Says, line_limit, argument_number, takes_no_argument, text_of, ends_in_cr_lf, verb_of, after_verb, has_verb, argument_start, argument_accepted, read_text_of, refusal_of, read_of}
 use Rattle.texts.proofs.Texts.{leading_le}
 
 -- ---- the text before CR LF
@@ -41,7 +41,7 @@ module _ (text : List ℕ) where
   text-not-ended n = rw (n, and-false (ltb 0 (verb_of text)))
 
   module _ (v : 0 < verb_of text) (e : eqb (get_or (after_verb text) 0 32) 32 ≡ true) where
-    pub text-wrong : argument_accepted text ≡ false → read_text_of text ≡ Err 35
+    pub text-wrong : argument_accepted text ≡ false → read_text_of text ≡ Err argument_number
     unfolding read_text_of has_verb
     text-wrong a = rw (lt-ltb 0 (verb_of text) v, e, a)
 
@@ -81,8 +81,8 @@ module _ (line : List ℕ) where
           rw (le-ltb line_limit (length line) l, e, p)
           (by_tests (Ok (Says (verb_of text) (argument_start text) (length text))) (has_verb text) (argument_accepted text))
         where
-          by_tests : (c : Result Said ℕ) (v a : Bool) → let k : ℕ = cond (not v) 34 (cond (not a) 35 0) in
-              cond (ltb 0 k) (Err k) c ≡ cond (not v) (Err 34) (cond (not a) (Err 35) c)
+          by_tests : (c : Result Said ℕ) (v a : Bool) → let k : ℕ = cond (not v) 34 (cond (not a) argument_number 0) in
+              cond (ltb 0 k) (Err k) c ≡ cond (not v) (Err 34) (cond (not a) (Err argument_number) c)
           by_tests c false a = refl
           by_tests c true false = refl
           by_tests c true true = refl
@@ -92,7 +92,7 @@ module _ (line : List ℕ) where
         unfolding read_of refusal_of
         reads-34 v = rw (le-ltb line_limit (length line) l, e, p, v)
 
-        pub reads-35 : has_verb (text_of line) ≡ true → argument_accepted (text_of line) ≡ false → read_of line ≡ Err 35
+        pub reads-35 : has_verb (text_of line) ≡ true → argument_accepted (text_of line) ≡ false → read_of line ≡ Err argument_number
         unfolding read_of refusal_of
         reads-35 v a = rw (le-ltb line_limit (length line) l, e, p, v, a)
 

@@ -9,15 +9,16 @@ use native.Mathlib.Numerals.{add-one}
 use native.Mathlib.Decide.{ℕ_discrete}
 use borrow.Author.Tests.{ne_eqb, eqb-true}
 use lib.Dec.{eqb}
-use lib.ListN.{length, get_or, drop}
+use lib.ListN.{length, get_or, drop, length-map}
 use lib.Seq.{drop-cons}
 use Rattle.texts.specs.Text.{is_letter, all}
 use Rattle.std.specs.Bool.{Decides}
 use Rattle.std.specs.List.{zip}
-use Rattle.std.specs.Char.{to_ascii_lowercase}
-use Rattle.std.proofs.lemmas.Bool.Decides.{nat_tests}
-use Rattle.std.proofs.lemmas.Slice.Eq.{compares_Decides}
-use Rattle.commands.specs.Line.{upper, verbs, number_of, takes_no_argument, equal_texts, verb_number_from}
+use Rattle.std.specs.Char.{to_ascii_uppercase}
+use Rattle.std.specs.Str.{bytes_eq}
+use Rattle.std.proofs.lemmas.Bool.Decides.{nat_tests, not_from_Decides}
+use Rattle.std.proofs.lemmas.Slice.Eq.{compares_Decides, bytes_eq-Decides}
+use Rattle.commands.specs.Line.{upper, verbs, number_of, takes_no_argument, equal_texts, verb_number_from, verb_number}
 use Rattle.commands.specs.declared.line.Verb.{Verb}
 use Rattle.commands.specs.declared.line.Verb.TheVariants.{Mode, Pasv, Port, Rest, Retr, Stor, Spas, Spor, Eret, Esto, Sbuf, Opts}
 use Rattle.commands.specs.Accepted.{TakesNoArgument}
@@ -28,28 +29,13 @@ equal_is : (x y : List ℕ) → Decides (equal_texts x y) (x ≡ y)
 unfolding equal_texts
 equal_is = compares_Decides equal_texts (record { empty = refl; shorter = λ y ys. refl; longer = λ x xs. refl; heads = λ x y xs ys. refl })
 
--- two words are the same in lower case where they are the same in upper case
+-- a letter made upper case, in the code's word and in the rule's
+capital : (b : ℕ) → to_ascii_uppercase b ≡ upper b
+capital b = grind (arith, nat_tests)
 
-letter : (a b : ℕ) → (to_ascii_lowercase a ≡ to_ascii_lowercase b → upper a ≡ upper b) × (upper a ≡ upper b → to_ascii_lowercase a ≡ to_ascii_lowercase b)
-letter a b = (λ e. grind (arith, nat_tests), λ e. grind (arith, nat_tests))
-
-lower-upper : (x y : List ℕ) → map to_ascii_lowercase x ≡ map to_ascii_lowercase y → map upper x ≡ map upper y
-lower-upper [] [] e = refl
-lower-upper [] (b ∷ y) e = cc
-lower-upper (a ∷ x) [] e = cc
-lower-upper (a ∷ x) (b ∷ y) e =
-    let h = (letter a b).0 cc in
-    let t = lower-upper x y cc in
-    cc
-
-upper-lower : (x y : List ℕ) → map upper x ≡ map upper y → map to_ascii_lowercase x ≡ map to_ascii_lowercase y
-upper-lower [] [] e = refl
-upper-lower [] (b ∷ y) e = cc
-upper-lower (a ∷ x) [] e = cc
-upper-lower (a ∷ x) (b ∷ y) e =
-    let h = (letter a b).1 cc in
-    let t = upper-lower x y cc in
-    cc
+pub capitals : (word : List ℕ) → map to_ascii_uppercase word ≡ map upper word
+capitals [] = refl
+capitals (b ∷ word) = rw (capital b, capitals word)
 
 -- ---- the place in a table
 
@@ -132,18 +118,28 @@ number_is : (v : ℕ) → v < 12 → number_of (entry v).1 ≡ v + 1
 unfolding all_below
 number_is v h = eqb-true (number_of (entry v).1) (v + 1) (each_below (λ v. eqb (number_of (entry v).1) (v + 1)) 12 refl v h)
 
--- a word is compared with a verb in letters of either case
+-- a word in capital letters is compared with a verb's name
 module _ (word : List ℕ) (v : ℕ) (h : v < 12) where
-  same_case : map upper (entry v).0 ≡ get_or verbs v []
-  same_case = ap (map upper) (name_is v h) ∙ own-capitals v h
+  pub listed : bytes_eq (entry v).0 word ≡ true → verb_number_from (v + 1) (drop v verbs) word ≡ number_of (entry v).1
+  listed e =
+      let same : (entry v).0 ≡ word = (bytes_eq-Decides (entry v).0 word).0 e in
+      number-from-found verbs word v h ((equal_is word (get_or verbs v [])).1 (sym same ∙ name_is v h)) ∙ sym (number_is v h)
 
-  pub listed : map to_ascii_lowercase word ≡ map to_ascii_lowercase (entry v).0 → verb_number_from (v + 1) (drop v verbs) (map upper word) ≡ number_of (entry v).1
-  listed e = number-from-found verbs (map upper word) v h ((equal_is (map upper word) (get_or verbs v [])).1 (lower-upper word (entry v).0 e ∙ same_case)) ∙ sym (number_is v h)
-
-  pub not-listed : (map to_ascii_lowercase word ≡ map to_ascii_lowercase (entry v).0 → ⊥)
-      → verb_number_from (v + 1) (drop v verbs) (map upper word) ≡ verb_number_from (v + 1 + 1) (drop (v + 1) verbs) (map upper word)
+  pub not-listed : bytes_eq (entry v).0 word ≡ false → verb_number_from (v + 1) (drop v verbs) word ≡ verb_number_from (v + 1 + 1) (drop (v + 1) verbs) word
   not-listed n =
-      number-from-next verbs (map upper word) v h ((not-eq-not {b = false}).0 (λ e. n (upper-lower word (entry v).0 ((equal_is (map upper word) (get_or verbs v [])).0 e ∙ sym same_case))))
+      number-from-next verbs word v h
+      ((not-eq-not {b = false}).0 (λ e. not_from_Decides _ (bytes_eq-Decides (entry v).0 word) n (name_is v h ∙ sym ((equal_is word (get_or verbs v [])).0 e))))
+
+-- a verb has four letters
+pub not-four : (word : List ℕ) → (length word ≡ 4 → ⊥) → 0 ≡ verb_number word
+unfolding verb_number
+not-four word n = go (ℕ_discrete (verb_number_from 1 verbs (map upper word)) 0)
+  where
+    go : Dec (verb_number_from 1 verbs (map upper word) ≡ 0) → 0 ≡ verb_number_from 1 verbs (map upper word)
+    go (yes e) = sym e
+    go (no e) =
+        let r = number-from-is 1 verbs (map upper word) (omega arith) in
+        absurd (n (sym (length-map word upper) ∙ ap length r.2 ∙ four-letters (verb_number_from 1 verbs (map upper word) - 1) (omega arith)))
 
 -- ---- PASV and SPAS
 

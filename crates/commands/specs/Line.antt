@@ -72,6 +72,10 @@ verb_number_from n (v ∷ vs) word = cond (equal_texts word v) n (verb_number_fr
 unfoldable pub verb_number : List ℕ → ℕ
 verb_number word = verb_number_from 1 verbs (map upper word)
 
+-- the number of an argument that is missing, or not allowed
+abbrev pub argument_number : ℕ
+argument_number = 35
+
 -- ---- the parts of a line
 
 -- what is before CR LF
@@ -113,7 +117,7 @@ said (Err r) = Err (number r)
 unfoldable pub read_text_of : List ℕ → Result Said ℕ
 read_text_of text =
     cond (not (has_verb text)) (Err 34)
-    (cond (not (argument_accepted text)) (Err 35)
+    (cond (not (argument_accepted text)) (Err argument_number)
     (Ok (Says (verb_of text) (argument_start text) (length text))))
 
 -- ---- the line's reading
@@ -125,7 +129,7 @@ refusal_of line =
     (cond (not (ends_in_cr_lf line)) 32
     (cond (not (all is_printable (text_of line))) 33
     (cond (not (has_verb (text_of line))) 34
-    (cond (not (argument_accepted (text_of line))) 35 0))))
+    (cond (not (argument_accepted (text_of line))) argument_number 0))))
 
 unfoldable pub read_of : List ℕ → Result Said ℕ
 read_of line =

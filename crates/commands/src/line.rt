@@ -82,9 +82,13 @@ pub struct Command {
 fn verb_of(word: &[u8]) -> Option<Verb>
     ensures { found_number result ≡ verb_number word.now }
 {
-    for (name, verb) in VERBS {
-        if word.eq_ignore_ascii_case(&name) {
-            return Some(verb);
+    let Ok(mut upper) = <[u8; 4]>::try_from(word) else {
+        return None;
+    };
+    upper.make_ascii_uppercase();
+    for (name, verb) in &VERBS {
+        if *name == upper {
+            return Some(*verb);
         }
     }
     None
@@ -141,8 +145,8 @@ pub fn read(line: &[u8]) -> Result<Command, Refusal>
 pub fn argument(line: &[u8]) -> &[u8]
     ensures { result.now ≡ argument_of (read_of line.now) line.now }
 {
-    match read(line) {
-        Ok(Command { from, to, .. }) => &line[from..to],
-        Err(_) => &line[..0],
-    }
+    let Ok(Command { from, to, .. }) = read(line) else {
+        return &line[..0];
+    };
+    &line[from..to]
 }

@@ -1,6 +1,6 @@
 -- Which row a line leads to, by what is read of it.
 use Prim.Native.Nat.{ℕ, ◌≤◌, ◌<◌}
-use mathlib.Core.Path.{◌≡◌, sym, ap}
+use mathlib.Core.Path.{◌≡◌, sym, ap, ◌∙◌}
 use mathlib.Core.Bool.{true, false}
 use mathlib.Core.List.{List}
 use borrow.Author.Tests.{lt-ltb}
@@ -9,6 +9,7 @@ use Rattle.std.specs.Prelude.{Ok}
 use Rattle.answers.specs.Refusal.{number_in}
 use Rattle.commands.specs.Line.{read_of, argument_of, said, number_of, verb}
 use Rattle.commands.specs.declared.line.Command.{Command}
+use Rattle.commands.proofs.LineAnswers.{line-answers}
 use Rattle.commands.proofs.Accepted.{accepted-lines}
 use Rattle.commands.proofs.WrittenLines.{written-lines}
 use Rattle.console.specs.declared.state.Console.{Console}
@@ -25,8 +26,9 @@ module _ (l : List ℕ) where
     argument-short = let a = accepted-lines.accepted_is l e in written-lines.longest_argument l a.0 _ _ a.1 a.2
 
   pub command-reads : (c : Command) → said (Ok c) ≡ read_of l → (number_in (read_of l) ≡ 0) × (verb (read_of l) ≡ number_of c.verb)
-  unfolding verb
-  command-reads c e = (ap number_in (sym e), ap verb (sym e))
+  command-reads c e =
+      let a = line-answers.command (number_of c.verb) c.from c.to in
+      (ap number_in (sym e) ∙ a.0, ap verb (sym e) ∙ a.1)
 
 -- ---- the row
 

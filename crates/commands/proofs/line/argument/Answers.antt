@@ -15,13 +15,13 @@ slice_bounds-result-count c = omega (arith, within c)
 pub slice_bounds-result-start : goal.slice_bounds-result-start
 slice_bounds-result-start c = omega (arith, within c)
 
-pub slice_bounds-result-end : goal.slice_bounds-result-end
-slice_bounds-result-end c = omega (arith, within c)
+pub slice_bounds-result-end-2 : goal.slice_bounds-result-end-2
+slice_bounds-result-end-2 c = omega (arith, within c)
 
-pub returns-in-Ok : goal.returns-in-Ok
+pub returns-in_default : goal.returns-in_default
 unfolding argument_of
-returns-in-Ok c = rw (sym c.in-Ok.ensures)
+returns-in_default c = rw (sym c.in_default.ensures)
 
-pub returns-in-Err : goal.returns-in-Err
+pub returns : goal.returns
 unfolding argument_of
-returns-in-Err c = rw (sym c.in-Err.ensures)
+returns c = rw (sym c.in-Ok.ensures)

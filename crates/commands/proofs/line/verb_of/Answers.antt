@@ -1,22 +1,27 @@
 -- `line::verb_of`: the search from a place on finds what the whole search finds.
-use mathlib.Core.Path.{◌≡◌, refl, sym, ◌∙◌}
-use mathlib.Core.Bool.{true≢false}
+use mathlib.Core.Path.{◌≡◌, sym, ap, ◌∙◌}
+use mathlib.Core.List.{map}
 use native.Mathlib.Omega.{arith}
-use Rattle.commands.specs.Line.{verb_number_from, verb_number}
-use Rattle.commands.proofs.VerbTable.{listed, not-listed}
+use Rattle.std.specs.Char.{to_ascii_uppercase}
+use Rattle.commands.specs.Line.{verbs, verb_number_from, verb_number}
+use Rattle.commands.proofs.VerbTable.{listed, not-listed, not-four, capitals}
 use Rattle.commands.proofs.line.verb_of.Goals as goal
+
+pub returns-in_default : goal.returns-in_default
+returns-in_default c = not-four c.args.word.now c.in_default.ensures.1
 
 pub loop-name-init : goal.loop-name-init
 unfolding verb_number
-loop-name-init c = refl
+loop-name-init c =
+    ap (verb_number_from 1 verbs) (c.make_ascii_uppercase.ensures.after ∙ ap (map to_ascii_uppercase) c.in-Ok.ensures.1.same ∙ capitals c.args.word.now)
 
-pub returns-then-eq_ignore_ascii_case : goal.returns-then-eq_ignore_ascii_case
-returns-then-eq_ignore_ascii_case c =
-    sym (listed c.args.word.now c.loop-name.name-index (omega arith) (c.eq_ignore_ascii_case.ensures.test.0 c.if-eq_ignore_ascii_case.true)) ∙ c.loop-name.invariant
+pub returns-then-eq : goal.returns-then-eq
+returns-then-eq c =
+    sym (listed _ c.loop-name.name-index (omega arith) (sym c.if-eq.ensures)) ∙ c.loop-name.invariant
 
 pub loop-name-preserved : goal.loop-name-preserved
 loop-name-preserved c =
-    sym (not-listed c.args.word.now c.loop-name.name-index (omega arith) (λ e. true≢false (sym (c.eq_ignore_ascii_case.ensures.test.1 e) ∙ c.if-eq_ignore_ascii_case.false))) ∙ c.loop-name.invariant
+    sym (not-listed _ c.loop-name.name-index (omega arith) (sym c.if-eq.ensures)) ∙ c.loop-name.invariant
 
 pub returns : goal.returns
 unfolding verb_number_from
