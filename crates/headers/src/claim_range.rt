@@ -10,7 +10,7 @@ use claims::claim;
 
 // Stays: a struct of both ledgers, lent as `&mut`, would need a clause more here and in each caller: that its `claimed` and its `doubtful` keep
 // their `ghost_name`. What is known of the ledgers comes from the clause of `apply_header`, which docs/PROMISES.md names.
-// A range that a header asks for is claimed, or it has a fault: 17 by the claimed ledger, then 18 by either.
+// A range that a header asks for is claimed, or it has a fault. Where the ledgers fit: 17 by the claimed one, then 18 by either.
 pub fn claim_range(
     start: u64,
     end: u64,
@@ -24,8 +24,10 @@ pub fn claim_range(
     let slot = claim::judge(claimed, start, end)?;
     if doubt {
         let other = claim::judge(doubtful, start, end)?;
+        claim::put(claimed, slot, start, end);
         claim::put(doubtful, other, start, end);
+    } else {
+        claim::put(claimed, slot, start, end);
     }
-    claim::put(claimed, slot, start, end);
     Ok(())
 }

@@ -7,6 +7,7 @@ ghost use Rattle.headers.specs.Request.{to_header_request};
 use answers::refusal::Refusal;
 use eblock::{descriptor, header};
 use octets::big;
+use sums::sum;
 
 // What a header asks for: a count, a range, doubtful or not, or neither.
 // Stays: no Option: to ask for nothing is one of three requests, each followed by its own step.
@@ -42,14 +43,14 @@ fn judge_payload(len: u64, length: u64, offset: u64, doubtful: bool) -> Result<R
     if length == 0 {
         return Ok(Request::Nothing);
     }
-    match offset.checked_add(length) {
-        Some(end) if end <= len => Ok(Request::Claims {
-            start: offset,
-            end,
-            doubtful,
-        }),
-        _ => Err(Refusal::PastFileEnd),
+    if !sum::sum_at_most(offset, length, len) {
+        return Err(Refusal::PastFileEnd);
     }
+    Ok(Request::Claims {
+        start: offset,
+        end: offset + length,
+        doubtful,
+    })
 }
 
 // Judged by the transfer alone: a file of len bytes, the known count or 0, and the other channels used; this one is used with them.

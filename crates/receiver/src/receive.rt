@@ -2,7 +2,7 @@
 ghost use Rattle.std.specs.Prelude.{◌≡◌, true, List, ℕ, ◌<◌, Err, IfOk};
 ghost use Rattle.answers.specs.Refusal.{numbered, refusal_number};
 ghost use Rattle.transfer.specs.Transfer.{used_of, ended_of, world, verdict_of};
-ghost use Rattle.transfer.specs.Receive.{refusal_of, receive_of};
+ghost use Rattle.transfer.specs.Receive.{took, refusal_of, receive_of};
 ghost use Rattle.transfer.specs.Fit.{fits};
 ghost use Rattle.verdicts.specs.Verdict.{to_verdict};
 ghost use Rattle.runs.specs.Runs.{take_bytes_on};
@@ -62,43 +62,29 @@ fn accept(
     Ok(found)
 }
 
-// What a refused call answers.
-fn refused(t: Transfer, refusal: Refusal, doubtful: &[u64]) -> Received
-    ensures { (result.receiver.transfer ≡ t) × (result.answer ≡ Err refusal) × ((file claimed : List ℕ) → to_verdict result.verdict ≡ verdict_of (world t file claimed doubtful.now)) }
-{
-    Received {
-        receiver: Receiver { transfer: t },
-        verdict: verdict::of_transfer(t, doubtful),
-        answer: Err(refusal),
-    }
-}
-
-// What a call that is not refused answers, on channel c, for what FIT found.
+// Takes a piece on channel c, for what FIT found: the verdict then, and how many of its bytes were taken.
+// Not inlined: in one function with `receive` the compiler sets the whole answer to 0 before it is made.
 // Stays: file and ledgers are lent one by one: with a struct of them each contract would also have to say that its parts keep their `ghost_name`.
+#[inline(never)]
 fn taken(
-    t: &Transfer,
+    t: &mut Transfer,
     c: usize,
     found: FitReport,
     piece: &[u8],
     file: &mut [u8],
     claimed: &mut [u64],
     doubtful: &mut [u64],
-) -> Received
-    requires { (c < 64) × (fits (world t.now file.old claimed.old doubtful.old) ≡ true) × (found.used ≡ used_of t.now) × (found.ended ≡ ended_of t.now) }
-    ensures { ((to_answer (numbered result.answer), world result.receiver.transfer file.new claimed.new doubtful.new) ≡ take_bytes_on c (world t.now file.old claimed.old doubtful.old) piece.now 0) × (to_verdict result.verdict ≡ verdict_of (world result.receiver.transfer file.new claimed.new doubtful.new)) }
+) -> (Verdict, usize)
+    requires { (c < 64) × (fits (world t.old file.old claimed.old doubtful.old) ≡ true) × (found.used ≡ used_of t.old) × (found.ended ≡ ended_of t.old) }
+    ensures { ((took result.1, world t.new file.new claimed.new doubtful.new) ≡ take_bytes_on c (world t.old file.old claimed.old doubtful.old) piece.now 0) × (to_verdict result.0 ≡ verdict_of (world t.new file.new claimed.new doubtful.new)) }
 {
     let o = other_channels::counts_without(t.len, found, t.channels[c].state);
     let x = transfer_channel::of(t, c);
     let r = take::take(x, c, o, piece, file, claimed, doubtful);
     let y = r.channel;
+    transfer_channel::write_back(t, c, y);
     let verdict = verdict::of(y.fault, y.count, o.ended, y.state, rule::has_pair(doubtful));
-    Received {
-        receiver: Receiver {
-            transfer: transfer_channel::write_back(*t, c, y),
-        },
-        verdict,
-        answer: Ok(r.taken),
-    }
+    (verdict, r.taken)
 }
 
 impl Receiver {
@@ -114,17 +100,27 @@ impl Receiver {
     ) -> Received
         ensures { ((to_answer (numbered result.answer), world result.receiver.transfer file.new claimed.new doubtful.new) ≡ receive_of (world self.transfer file.old claimed.old doubtful.old) channel piece.now) × (to_verdict result.verdict ≡ verdict_of (world result.receiver.transfer file.new claimed.new doubtful.new)) }
     {
-        match accept(&self.transfer, channel, piece, file, claimed, doubtful) {
-            Ok(found) => taken(
-                &self.transfer,
-                channel as usize,
-                found,
-                piece,
-                file,
-                claimed,
-                doubtful,
-            ),
-            Err(refusal) => refused(self.transfer, refusal, doubtful),
+        let mut receiver = self;
+        let t = &mut receiver.transfer;
+        let (verdict, answer) = match accept(t, channel, piece, file, claimed, doubtful) {
+            Ok(found) => {
+                let (verdict, n) = taken(
+                    t,
+                    channel as usize,
+                    found,
+                    piece,
+                    file,
+                    claimed,
+                    doubtful,
+                );
+                (verdict, Ok(n))
+            }
+            Err(refusal) => (verdict::of_transfer(*t, doubtful), Err(refusal)),
+        };
+        Received {
+            receiver,
+            verdict,
+            answer,
         }
     }
 }

@@ -10,6 +10,7 @@ use answers::refusal::Refusal;
 use checks::fit;
 use counts::count;
 use ledger::rule;
+use sums::sum;
 use transfer::state::Transfer;
 use verdicts::verdict;
 use verdicts::verdict::Verdict;
@@ -36,7 +37,9 @@ fn stored(t: Transfer, claimed: &[u64], doubtful: &[u64]) -> u64
     requires { fits_without_file t claimed.now doubtful.now ≡ true }
     ensures { result ≡ stored_of (world t [] claimed.now doubtful.now) }
 {
-    rule::total(claimed).saturating_sub(count::left(t))
+    let all = rule::total(claimed);
+    let left = count::left(t);
+    sum::saturating_sub(all, left)
 }
 
 impl Receiver {

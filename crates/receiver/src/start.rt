@@ -6,6 +6,7 @@ ghost use Rattle.transfer.specs.Transfer.{fresh, lengths_wrong, start_refusal, s
 use crate::receive::Receiver;
 use answers::refusal::Refusal;
 use ledger::rule;
+use octets::entries;
 use transfer::state::{Channel, Transfer};
 
 // The receiver that start gives, and whether it was refused.
@@ -60,8 +61,8 @@ pub fn start(len: u64, claimed: &mut [u64], doubtful: &mut [u64]) -> Started
         };
     }
     let pairs = claimed.len() / 2;
-    claimed.fill(0);
-    doubtful.fill(0);
+    entries::clear(claimed);
+    entries::clear(doubtful);
     Started {
         receiver: Receiver {
             transfer: fresh(len, pairs as u64),

@@ -52,12 +52,11 @@ fn put_bytes(heads: &mut [u8; 1024], c: usize, bytes: &[u8; 16])
     heads[at..at + HELD_LIMIT].copy_from_slice(bytes);
 }
 
-// The transfer with what a call left of channel c.
-pub fn write_back(before: Transfer, c: usize, x: ChannelState) -> Transfer
+// What a call left of channel c, written back into the transfer.
+pub fn write_back(t: &mut Transfer, c: usize, x: ChannelState)
     requires { c < 64 }
-    ensures { result ≡ write_back before c x }
+    ensures { t.new ≡ write_back t.old c x }
 {
-    let mut t = before;
     put_bytes(&mut t.heads, c, &x.bytes);
     t.channels[c] = Channel {
         state: x.state,
@@ -65,9 +64,8 @@ pub fn write_back(before: Transfer, c: usize, x: ChannelState) -> Transfer
         next: x.next,
         left: x.left,
     };
-    // Stays: three fields set on the copy: `..before` would be no shorter, and with it the compiler copies the held bytes twice more on each call.
+    // Stays: three fields set on the lent transfer: made anew by `..*t` the compiler would copy the held bytes again.
     t.count = x.count;
     t.fault = x.fault;
     t.on = x.on;
-    t
 }

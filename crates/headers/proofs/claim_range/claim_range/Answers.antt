@@ -9,7 +9,6 @@ use Rattle.ledger.specs.Ledger.{pairs_of}
 use Rattle.claims.specs.Claim.{judged}
 use Rattle.headers.proofs.ClaimRange.{answer_is, claimed-refuses, claimed-alone, doubtful-refuses, claimed-in-both}
 use Rattle.headers.proofs.claim_range.claim_range.Goals as goal
-use Rattle.headers.proofs.claim_range.claim_range.Goals.{then-doubt+in_ok-other, else-doubt}
 
 pub returns-in_err-slot : goal.returns-in_err-slot
 returns-in_err-slot c R o n f =
@@ -32,17 +31,19 @@ returns-in_err-other c R o n f =
     let d : x.doubt ≡ true = c.if-doubt.true in
     rw d (doubtful-refuses R x.start x.end c.requires x.claimed.now x.doubtful.now o n f c.in_ok-slot.slot q (numbered c.judge-then-doubt.result) c.judge-then-doubt.ensures _ (rw e (above_0 r)) k)
 
-pub returns : goal.returns
-returns c R o n f =
+pub returns-in_ok-other : goal.returns-in_ok-other
+returns-in_ok-other c R o n f =
     let x = c.args in
     let s : c.judge.result ≡ Ok c.in_ok-slot.slot = search rules in
     let q : judged R x.start x.end (pairs_of x.claimed.now) ≡ Ok c.in_ok-slot.slot = answer_is R x.start x.end c.requires x.claimed.now o n (numbered c.judge.result) c.judge.ensures ∙ rw s in
-    elim c.if-doubt.branch [
-      | then-doubt+in_ok-other w ↦
-          let d : x.doubt ≡ true = w.if-doubt.true in
-          let j : w.judge-then-doubt.result ≡ Ok w.in_ok-other.other = search rules in
-          rw (d, w.doubtful-is) (claimed-in-both R x.start x.end c.requires x.claimed.now x.doubtful.now o n f c.in_ok-slot.slot q (numbered w.judge-then-doubt.result) w.judge-then-doubt.ensures w.in_ok-other.other _ _ (rw j) c.put-2.ensures w.put.ensures)
-      | else-doubt w ↦
-          let d : x.doubt ≡ false = w.if-doubt.false in
-          rw (d, w.doubtful-is) (claimed-alone R x.start x.end c.requires x.claimed.now x.doubtful.now o n c.in_ok-slot.slot _ q c.put-2.ensures)
-    ]
+    let d : x.doubt ≡ true = c.if-doubt.true in
+    let j : c.judge-then-doubt.result ≡ Ok c.in_ok-other.other = search rules in
+    rw d (claimed-in-both R x.start x.end c.requires x.claimed.now x.doubtful.now o n f c.in_ok-slot.slot q (numbered c.judge-then-doubt.result) c.judge-then-doubt.ensures c.in_ok-other.other _ _ (rw j) c.put.ensures c.put-then-doubt.ensures)
+
+pub returns-else-doubt : goal.returns-else-doubt
+returns-else-doubt c R o n f =
+    let x = c.args in
+    let s : c.judge.result ≡ Ok c.in_ok-slot.slot = search rules in
+    let q : judged R x.start x.end (pairs_of x.claimed.now) ≡ Ok c.in_ok-slot.slot = answer_is R x.start x.end c.requires x.claimed.now o n (numbered c.judge.result) c.judge.ensures ∙ rw s in
+    let d : x.doubt ≡ false = c.if-doubt.false in
+    rw d (claimed-alone R x.start x.end c.requires x.claimed.now x.doubtful.now o n c.in_ok-slot.slot _ q c.put-else-doubt.ensures)
