@@ -30,6 +30,6 @@ pub fn write(rt: &impl Print, mut body: Body) -> Result<(), Malformed> {
     let mut space = [BYTE; 255];
     let out = front(&mut space, u64::from(lent))?;
     let answer = header::write(descriptor, length, third, out);
-    say!(rt; "{} {}", Counted("WROTE", answer), Hex(out));
+    say!(rt; "{}{}", Counted("WROTE ", answer), Hex(out));
     Ok(())
 }

@@ -8,10 +8,10 @@ use verdicts::verdict::Verdict;
 
 fn word(verdict: Verdict) -> &'static str {
     match verdict {
-        Verdict::Guess => "GUESS",
-        Verdict::Result => "RESULT",
-        Verdict::Suspect => "SUSPECT",
-        Verdict::Broken => "BROKEN",
+        Verdict::Guess => " GUESS ",
+        Verdict::Result => " RESULT ",
+        Verdict::Suspect => " SUSPECT ",
+        Verdict::Broken => " BROKEN ",
     }
 }
 
@@ -28,7 +28,7 @@ impl Receiving<'_> {
         let bytes = length.min(self.file.room());
         self.file.start(bytes, 0)?;
         let started = start::start(length, self.claimed.lent_mut(), self.doubtful.lent_mut());
-        self.receiver = started.receiver;
+        *self.receiver = started.receiver;
         match started.answer {
             Ok(()) => begin!(rt; "STARTED "),
             Err(refusal) => begin!(rt; "REFUSED {refusal} "),
@@ -63,9 +63,9 @@ impl Receiving<'_> {
             self.claimed.lent_mut(),
             self.doubtful.lent_mut(),
         );
-        self.receiver = received.receiver;
+        *self.receiver = received.receiver;
         match received.answer {
-            Ok(taken) => begin!(rt; "TOOK {taken} {} ", word(received.verdict)),
+            Ok(taken) => begin!(rt; "TOOK {taken}{}", word(received.verdict)),
             Err(refusal) => begin!(rt; "REFUSED {refusal} "),
         }
         self.print_screen(rt);

@@ -1,6 +1,6 @@
 // Kinds 56 to 58: the console.
 use crate::body::{Body, Malformed};
-use crate::print::say;
+use crate::print::begin;
 use console::state::{Answer, Console};
 use console::{endings, lines, state};
 use verdicts::verdict::Verdict;
@@ -8,13 +8,13 @@ use verdicts::verdict::Verdict;
 pub fn begin(rt: &impl Print, console: &mut Console, body: Body) -> Result<(), Malformed> {
     body.end()?;
     *console = state::beginning();
-    say!(rt; "CONSOLE");
+    begin!(rt; "CONSOLE\n");
     Ok(())
 }
 
 fn print(rt: &impl Print, answer: Answer) {
-    let word = if answer.suspect { "SUSPECT" } else { "-" };
-    say!(rt; "ANSWER {} {word}", answer.code.unwrap_or(0));
+    let end = if answer.suspect { " SUSPECT\n" } else { " -\n" };
+    begin!(rt; "ANSWER {}{end}", answer.code.unwrap_or(0));
 }
 
 pub fn line(rt: &impl Print, console: &mut Console, body: Body) -> Result<(), Malformed> {

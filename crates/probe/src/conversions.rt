@@ -8,6 +8,8 @@ use answers::refusal::Refusal;
 use savedconversions::conversion;
 
 // By a converter of the record after the number of lent bytes.
+// Never inlined: what it is lent is on the stack during its own calls alone.
+#[inline(never)]
 fn convert<F: FnOnce(&[u8], &mut [u8]) -> Result<usize, Refusal>>(
     rt: &impl Print,
     mut body: Body,
@@ -18,7 +20,7 @@ fn convert<F: FnOnce(&[u8], &mut [u8]) -> Result<usize, Refusal>>(
     let mut space = space::bytes::<BYTES>(BYTE);
     let out = front(&mut space, u64::from(body.u16()?))?;
     let answer = convert(body.rest(), out);
-    say!(rt; "{} {}", Counted("CONVERTED", answer), Hex(out));
+    say!(rt; "{}{}", Counted("CONVERTED ", answer), Hex(out));
     Ok(())
 }
 

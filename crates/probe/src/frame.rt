@@ -4,7 +4,7 @@ ghost use Rattle.std.specs.Counts.{IsPrefixLen};
 
 use crate::body::{Body, Malformed};
 use frames::frame;
-use frames::frame::{FIELD_LENGTH, FRAME_LENGTH};
+use frames::frame::{FIELD_LENGTH, FRAME_LENGTH, First};
 use std::io::Read;
 
 // The most that the length field may say.
@@ -41,25 +41,23 @@ pub fn read<'a>(
     space: &'a mut [u8],
 ) -> Result<Option<Request<'a>>, Malformed> {
     let (field, rest) = space.split_at_mut_checked(FIELD_LENGTH).ok_or(Malformed)?;
-    match read_full(input, field) {
-        0 => return Ok(None),
-        FIELD_LENGTH => {}
-        _ => return Err(Malformed),
+    let mut got = read_full(input, field);
+    // Above the limit nothing of the rest is read.
+    if got == FIELD_LENGTH && frame::first_record(field, LIMIT) == First::Cut {
+        let length = frame::length_field(field) as usize;
+        got += read_full(input, rest.get_mut(..length).ok_or(Malformed)?);
     }
-    let length = frame::length_field(field);
-    if LIMIT < length {
-        return Err(Malformed);
+    let come = space.get(..got).ok_or(Malformed)?;
+    match frame::first_record(come, LIMIT) {
+        First::Nothing => Ok(None),
+        First::Cut | First::TooLong => Err(Malformed),
+        First::Whole(n) => {
+            let record = come.get(..n).ok_or(Malformed)?;
+            let body = record.get(FRAME_LENGTH..).ok_or(Malformed)?;
+            Ok(Some(Request {
+                kind: frame::kind(record),
+                body: Body::new(body),
+            }))
+        }
     }
-    let rest = rest.get_mut(..length as usize).ok_or(Malformed)?;
-    if read_full(input, rest) < rest.len() {
-        return Err(Malformed);
-    }
-    let record = space
-        .get(..FIELD_LENGTH + length as usize)
-        .ok_or(Malformed)?;
-    let body = record.get(FRAME_LENGTH..).ok_or(Malformed)?;
-    Ok(Some(Request {
-        kind: frame::kind(record),
-        body: Body::new(body),
-    }))
 }

@@ -25,12 +25,15 @@ impl fmt::Display for Loaded {
         match self {
             Loaded::Ranges => write!(f, "RANGES"),
             Loaded::Saved => write!(f, "LOADED"),
-            Loaded::Sized(length) => write!(f, "LOADED2 {length}"),
+            // The blank is a piece of its own.
+            Loaded::Sized(length) => write!(f, "LOADED2{}{length}", " "),
         }
     }
 }
 
 // By a reader of the bytes after the number of lent entries.
+// Never inlined: what it is lent is on the stack during its own calls alone.
+#[inline(never)]
 pub fn read<F: FnOnce(&[u8], &mut [u64]) -> Result<Loaded, Refusal>>(
     rt: &impl Print,
     mut body: Body,
@@ -41,11 +44,13 @@ pub fn read<F: FnOnce(&[u8], &mut [u64]) -> Result<Loaded, Refusal>>(
     let mut space = space::entries::<ENTRIES>(ENTRY);
     let ledger = front(&mut space, u64::from(body.u16()?))?;
     let answer = read(body.rest(), ledger);
-    say!(rt; "{} {}", Said(answer), used(ledger));
+    say!(rt; "{}{}", Said(answer), used(ledger));
     Ok(())
 }
 
 // By a writer of the entries after the number of lent bytes.
+// Never inlined: what it is lent is on the stack during its own calls alone.
+#[inline(never)]
 pub fn write<F: FnOnce(&[u64], &mut [u8]) -> Result<usize, Refusal>>(
     rt: &impl Print,
     mut body: Body,
@@ -67,6 +72,6 @@ pub fn write<F: FnOnce(&[u64], &mut [u8]) -> Result<usize, Refusal>>(
     let mut space = space::bytes::<BYTES>(BYTE);
     let out = front(&mut space, u64::from(lent))?;
     let answer = write(ledger, out);
-    say!(rt; "{} {}", Counted(word, answer), Hex(out));
+    say!(rt; "{}{}", Counted(word, answer), Hex(out));
     Ok(())
 }

@@ -20,7 +20,7 @@ impl Receiving<'_> {
         // Stays: fixed memory, no heap.
         let mut out = [BYTE; 128];
         match line::write(
-            self.receiver,
+            *self.receiver,
             self.claimed.lent(),
             self.doubtful.lent(),
             &mut out,
@@ -36,7 +36,7 @@ impl Receiving<'_> {
         let byte = body.u8()?;
         body.end()?;
         self.file.lent_mut().fill(byte);
-        say!(rt; "FILLED");
+        begin!(rt; "FILLED\n");
         Ok(())
     }
 
@@ -84,19 +84,19 @@ impl Receiving<'_> {
             .lent()
             .get(from as usize..end as usize)
             .ok_or(Malformed)?;
-        say!(rt; "FILE {}", Hex(bytes));
+        say!(rt; "FILE{}", Hex(bytes));
         Ok(())
     }
 
     pub fn show_claimed(&self, rt: &impl Print, body: Body) -> Result<(), Malformed> {
         body.end()?;
-        say!(rt; "LEDGER {}", used(self.claimed.lent()));
+        say!(rt; "LEDGER{}", used(self.claimed.lent()));
         Ok(())
     }
 
     pub fn show_doubtful(&self, rt: &impl Print, body: Body) -> Result<(), Malformed> {
         body.end()?;
-        say!(rt; "DOUBTFUL {}", used(self.doubtful.lent()));
+        say!(rt; "DOUBTFUL{}", used(self.doubtful.lent()));
         Ok(())
     }
 }

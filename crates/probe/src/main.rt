@@ -18,17 +18,17 @@ mod session;
 mod space;
 
 use print::say;
-use session::Session;
+use session::Desk;
 use std::io::Read;
 
 // More than any input has; a proved loop has to end.
 const REQUESTS: u64 = 1099511627776;
 
-fn run(rt: &impl Print, input: &mut impl Read, session: &mut Session) {
+fn run(rt: &impl Print, input: &mut impl Read, desk: &mut Desk) {
     let mut space = space::bytes::<{ frame::SPACE }>(0);
     for number in 0..REQUESTS {
         let served = match frame::read(input, &mut space) {
-            Ok(Some(request)) => kinds::serve(rt, session, request),
+            Ok(Some(request)) => kinds::serve(rt, desk, request),
             Ok(None) => return,
             Err(malformed) => Err(malformed),
         };
@@ -48,6 +48,13 @@ fn main(rt: HostRuntime) {
     let mut claimed = space::entries::<8200>(0);
     let mut doubtful = space::entries::<8200>(0);
     let mut source = space::bytes::<SOURCE>(0);
-    let mut session = Session::new(&mut file, &mut claimed, &mut doubtful, &mut source);
-    run(&rt, &mut input, &mut session);
+    let mut session = session::first();
+    let mut desk = Desk::new(
+        &mut session,
+        &mut file,
+        &mut claimed,
+        &mut doubtful,
+        &mut source,
+    );
+    run(&rt, &mut input, &mut desk);
 }

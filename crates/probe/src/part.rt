@@ -49,7 +49,10 @@ impl<'a, T: Copy> Part<'a, T> {
 
     // So many are lent from now on, each of them `value`.
     pub fn start(&mut self, count: u64, value: T) -> Result<(), Malformed> {
-        self.lend(count, value)?;
+        if (self.all.len() as u64) < count {
+            return Err(Malformed);
+        }
+        self.lent = count as usize;
         for item in self.lent_mut() {
             *item = value;
         }

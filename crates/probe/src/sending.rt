@@ -1,7 +1,7 @@
 // Kinds 48 to 51: the sender, and the file that it is lent.
 use crate::body::{Body, Malformed};
 use crate::part::{BYTE, front};
-use crate::print::{Counted, Hex, Said, say};
+use crate::print::{Counted, Hex, begin, say};
 use crate::session::Sending;
 use crate::space;
 use sender::{begin, next};
@@ -15,11 +15,16 @@ impl Sending<'_> {
         let size = body.u64()?;
         self.source.store(body.rest());
         let begun = begin::begin(self.source.lent().len() as u64, count, size);
-        self.sender = begun.sender;
-        say!(rt; "{}", Said(begun.answer.map(|()| "BEGUN")));
+        *self.sender = begun.sender;
+        match begun.answer {
+            Ok(()) => begin!(rt; "BEGUN\n"),
+            Err(refusal) => say!(rt; "REFUSED {refusal}"),
+        }
         Ok(())
     }
 
+    // Never inlined: what it is lent is on the stack during its own calls alone.
+    #[inline(never)]
     pub fn next(&mut self, rt: &impl Print, mut body: Body) -> Result<(), Malformed> {
         let channel = body.u8()?;
         let count = body.u64()?;
@@ -29,15 +34,15 @@ impl Sending<'_> {
         let mut space = space::bytes::<BYTES>(BYTE);
         let out = front(&mut space, u64::from(lent))?;
         let sent = next::next(
-            self.sender,
+            *self.sender,
             u64::from(channel),
             count,
             size,
             self.source.lent(),
             out,
         );
-        self.sender = sent.sender;
-        say!(rt; "{} {}", Counted("BLOCK", sent.answer), Hex(out));
+        *self.sender = sent.sender;
+        say!(rt; "{}{}", Counted("BLOCK ", sent.answer), Hex(out));
         Ok(())
     }
 
@@ -59,7 +64,7 @@ impl Sending<'_> {
             .get_mut(usize::from(channel))
             .ok_or(Malformed)?;
         *given = number;
-        say!(rt; "HARMED");
+        begin!(rt; "HARMED\n");
         Ok(())
     }
 }

@@ -7,10 +7,27 @@ use receiver::start;
 use sender::begin;
 use sender::state::Sender;
 
+// By value: the receiver, the sender and the console.
+#[derive(Clone, Copy)]
+pub struct Session {
+    pub receiver: Receiver,
+    pub sender: Sender,
+    pub console: Console,
+}
+
+// What a start with no bytes and no entries leaves, a beginning that is refused, and a new console.
+pub fn first() -> Session {
+    Session {
+        receiver: start::start(0, &mut [], &mut []).receiver,
+        sender: begin::begin(0, 0, 0).sender,
+        console: state::beginning(),
+    }
+}
+
 // The receiver, and what its calls are lent.
 #[derive(Drop)]
 pub struct Receiving<'a> {
-    pub receiver: Receiver,
+    pub receiver: &'a mut Receiver,
     pub file: Part<'a, u8>,
     pub claimed: Part<'a, u64>,
     pub doubtful: Part<'a, u64>,
@@ -19,37 +36,38 @@ pub struct Receiving<'a> {
 // The sender, and the file that it is lent.
 #[derive(Drop)]
 pub struct Sending<'a> {
-    pub sender: Sender,
+    pub sender: &'a mut Sender,
     pub source: Part<'a, u8>,
 }
 
+// The session, with all that is lent.
 #[derive(Drop)]
-pub struct Session<'a> {
+pub struct Desk<'a> {
     pub receiving: Receiving<'a>,
     pub sending: Sending<'a>,
-    pub console: Console,
+    pub console: &'a mut Console,
 }
 
-impl<'a> Session<'a> {
-    // What a start with no bytes and no entries leaves, a beginning that is refused, and a new console.
+impl<'a> Desk<'a> {
     pub fn new(
+        session: &'a mut Session,
         file: &'a mut [u8],
         claimed: &'a mut [u64],
         doubtful: &'a mut [u64],
         source: &'a mut [u8],
-    ) -> Session<'a> {
-        Session {
+    ) -> Desk<'a> {
+        Desk {
             receiving: Receiving {
-                receiver: start::start(0, &mut [], &mut []).receiver,
+                receiver: &mut session.receiver,
                 file: Part::new(file),
                 claimed: Part::new(claimed),
                 doubtful: Part::new(doubtful),
             },
             sending: Sending {
-                sender: begin::begin(0, 0, 0).sender,
+                sender: &mut session.sender,
                 source: Part::new(source),
             },
-            console: state::beginning(),
+            console: &mut session.console,
         }
     }
 }
